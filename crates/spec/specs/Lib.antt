@@ -1,0 +1,7 @@
+-- Document 01 as definitions, in reading order.
+pub mod Words
+pub mod Bytes
+pub mod Value
+pub mod Model
+pub mod Text
+pub mod Path
