@@ -5,3 +5,8 @@ pub mod Value
 pub mod Model
 pub mod Text
 pub mod Path
+pub mod Observations
+pub mod Assets
+pub mod Reply
+pub mod Answers
+pub mod Calls
