@@ -1,13 +1,13 @@
 -- Bytes: the classes as runs over all 256 bytes, the comparison of byte strings, and strings joined and split again.
 use Prim.Native.Nat.{ℕ, zero, suc, _+_, _≤_, _<_}
 use mathlib.Core.Path.{_≡_, refl, sym, ap, ap₂, _∙_}
-use mathlib.Core.Bool.{Bool, true, false, cond, _&&_, not, and-eq-true-iff, true≢false}
+use mathlib.Core.Bool.{Bool, true, false, cond, _&&_, not, and-assoc, and-eq-true-iff, true≢false}
 use mathlib.Core.List.{List, [], _∷_, _++_}
-use native.Mathlib.Nat.{add-zero, add-suc, suc-add, le-of-suc-le-suc}
+use native.Mathlib.Nat.{add-zero, le-of-suc-le-suc}
 use native.Mathlib.Omega.{arith}
-use lib.Dec.{leb, eqb}
+use lib.Dec.{eqb}
 use lib.ListN.{length, getD, replicate}
-use borrow.Author.Tests.{eq-eqb, ne-eqb, eqb-true, eqb-false, not-true}
+use borrow.Author.Tests.{eq-eqb, eqb-true, not-true}
 use Rattle.spec.specs.Bytes.{textByte, nameByte, idByte, all, same, before, joinFirst, split}
 
 -- ---- classes
@@ -104,6 +104,11 @@ same-decides xs ys = go (same xs ys) refl
 
 -- ---- parts
 
+pub all-append : (p : ℕ → Bool) (s t : List ℕ) → all p (s ++ t) ≡ (all p s && all p t)
+unfolding all
+all-append p [] t = refl
+all-append p (x ∷ s) t = rw (all-append p s t, and-assoc (p x) (all p s) (all p t))
+
 -- p has no byte b
 abbrev pub Lacks : ℕ → List ℕ → Type 0
 Lacks b p = all (λ x. not (eqb x b)) p ≡ true
@@ -188,3 +193,12 @@ module _ (b : ℕ) where
       go : (t : Bool) → eqb x b ≡ t → Apart (split b s) → Apart (cond t ([] ∷ split b s) (joinFirst x (split b s)))
       go true e ih = (refl, ih)
       go false e ih = apart-first x (split b s) e ih
+
+-- nothing is found in the front, and at once in the rest
+pub before-append : (a b : ℕ) (p s : List ℕ) → Lacks a p → Lacks b p → before a b s ≡ 0 → before a b (p ++ s) ≡ length p
+unfolding all before
+before-append a b [] s ha hb h = h
+before-append a b (x ∷ p) s ha hb h =
+    let ta = and-eq-true-iff (not (eqb x a)) (all (λ x. not (eqb x a)) p) .0 ha in
+    let tb = and-eq-true-iff (not (eqb x b)) (all (λ x. not (eqb x b)) p) .0 hb in
+    rw (not-true (eqb x a) (ta .0), not-true (eqb x b) (tb .0), before-append a b p s (ta .1) (tb .1) h)

@@ -1,3 +1,4 @@
 -- Laws about the definitions.
 pub mod Packing
 pub mod Bytes
+pub mod Text
