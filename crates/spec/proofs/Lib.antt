@@ -1,2 +1,6 @@
 -- What is proved of the definitions.
 pub mod Bench
+-- Laws about the definitions.
+pub mod Packing
+pub mod Bytes
+pub mod Text
