@@ -1,0 +1,2 @@
+-- Laws about the definitions.
+pub mod Tables
