@@ -1,2 +1,3 @@
 -- Laws about the definitions.
 pub mod Tables
+pub mod Observations
