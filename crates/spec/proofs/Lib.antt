@@ -4,3 +4,6 @@ pub mod Bench
 pub mod Packing
 pub mod Bytes
 pub mod Text
+-- Laws about the definitions.
+pub mod Tables
+pub mod Observations
