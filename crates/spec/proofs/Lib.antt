@@ -7,3 +7,6 @@ pub mod Text
 -- Laws about the definitions.
 pub mod Tables
 pub mod Observations
+-- Laws about the definitions.
+pub mod Words
+pub mod Model
