@@ -1,0 +1,3 @@
+-- The laws about the definitions.
+pub mod Bits
+pub mod Path
