@@ -10,3 +10,6 @@ pub mod Observations
 -- Laws about the definitions.
 pub mod Words
 pub mod Model
+-- The laws about the definitions.
+pub mod Bits
+pub mod Path
