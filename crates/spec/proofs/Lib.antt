@@ -1,15 +1,11 @@
 -- What is proved of the definitions.
-pub mod Bench
--- Laws about the definitions.
-pub mod Packing
-pub mod Bytes
-pub mod Text
--- Laws about the definitions.
-pub mod Tables
-pub mod Observations
--- Laws about the definitions.
 pub mod Words
-pub mod Model
--- The laws about the definitions.
+pub mod Tables
 pub mod Bits
+pub mod Bytes
+pub mod Packing
+pub mod Model
+pub mod Text
 pub mod Path
+pub mod Observations
+pub mod Bench
