@@ -8,4 +8,6 @@ pub mod Model
 pub mod Text
 pub mod Path
 pub mod Observations
+pub mod Recorded
+pub mod Kept
 pub mod Bench
