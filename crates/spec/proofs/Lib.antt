@@ -10,4 +10,7 @@ pub mod Path
 pub mod Observations
 pub mod Recorded
 pub mod Kept
+pub mod Rows
+pub mod Start
+pub mod Encoding
 pub mod Bench
