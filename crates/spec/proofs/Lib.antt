@@ -13,4 +13,5 @@ pub mod Kept
 pub mod Rows
 pub mod Start
 pub mod Encoding
+pub mod Agree
 pub mod Bench
