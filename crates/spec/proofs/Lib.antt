@@ -2,3 +2,4 @@
 pub mod Packing
 pub mod Bytes
 pub mod Text
+pub mod Print

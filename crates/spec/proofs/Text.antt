@@ -15,7 +15,7 @@ use Rattle.spec.specs.Bytes.{textByte, all, before}
 use Rattle.spec.specs.Text.{Word, Reading, unread, uriOk, wordOf, slotOf, takesSlot, isGiven, slot, noneGiven, addPart, addParts, parameters, byParameters, sampleRequest, currentRequest, assetRequest, readWord, readText}
 use Rattle.spec.specs.Text.Word.{sampleWord, currentWord, assetWord, assetsWord, probeWord, otherWord}
 use Rattle.spec.specs.declared.Refusal.the-variants.{InvalidUri}
-use Rattle.spec.proofs.Bytes.{Lacks, Apart, join, split-join, all-append, before-append}
+use Rattle.spec.proofs.Bytes.{Lacks, AllOf, Apart, join, split-join, all-append, before-append}
 
 -- the texts given so far, by slot
 abbrev pub Given : Type 0
@@ -170,13 +170,13 @@ join-alike p q ps qs d =
     }
 
 apart-order : {ps qs : List (List ℕ)} → List·Permᴰ ps qs → Apart 38 ps → Apart 38 qs
-unfolding Apart
+unfolding AllOf
 apart-order List·Permᴰ·nil h = h
 apart-order (List·Permᴰ·cons e d) h = (rw e at (h .0), apart-order d (h .1))
 apart-order (List·Permᴰ·swap e f) h = (rw f at (h .1 .0), (rw e at (h .0), h .1 .1))
 apart-order (List·Permᴰ·trans d e) h = apart-order e (apart-order d h)
 
-parameters-joined : (w : Word) (p : List ℕ) (ps : List (List ℕ)) → Apart 38 (p ∷ ps)
+pub parameters-joined : (w : Word) (p : List ℕ) (ps : List (List ℕ)) → Apart 38 (p ∷ ps)
     → parameters w (63 ∷ join 38 (p ∷ ps)) ≡ addParts w (p ∷ ps) (some noneGiven)
 unfolding parameters
 parameters-joined w p ps h = rw (split-join 38 p ps h)
