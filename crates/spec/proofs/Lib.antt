@@ -16,4 +16,6 @@ pub mod Start
 pub mod Encoding
 pub mod Agree
 pub mod Begin
+pub mod Windows
+pub mod History
 pub mod Bench
