@@ -1,3 +1,5 @@
--- The laws about the definitions.
+-- Laws about the definitions.
+pub mod Words
 pub mod Bits
+pub mod Model
 pub mod Path
