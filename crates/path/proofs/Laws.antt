@@ -9,6 +9,7 @@ use lib.Dec.{leb, eqb}
 use lib.ListN.{length, take, drop, length-take, length-drop}
 use lib.Seq.{take-all, drop-drop}
 use Rattle.spec.specs.Bytes.{bytes, same, before}
+use Rattle.spec.proofs.Words.{and-left}
 use Rattle.spec.specs.Path.{subtree, typed, otherForm, opening, closing, typedForm, formBehind, formOf}
 use Rattle.path.specs.Forms.{isTyped}
 
@@ -41,10 +42,6 @@ module _ (q : List ℕ) where
     opened t b eb = rw (le-leb 20 (length q) h, ← ea, t) (eb ∙ ap (λ (l : List ℕ). same l closing) (from-here q (length q - 2)))
 
 -- ---- the form of a path
-first : (a b : Bool) → a && b ≡ true → a ≡ true
-first true b e = refl
-first false b e = e
-
 pub short : (path : List ℕ) → length path < 2 → otherForm ≡ formOf path
 unfolding formOf
 short path h = rw (same-length (take 2 path) (bytes "//") (λ e. omega (arith, length-take 2 path)))
@@ -80,4 +77,4 @@ module _ (path : List ℕ) (h : 2 ≤ length path) (a : Bool) (ea : a ≡ same (
       typed-form t = rw (behind, longer, ← tests, t, length-drop (2 + n) path, drop-drop)
 
       pub typed-long : b ≡ true → 20 ≤ length path - (2 + n)
-      typed-long t = leb-true 20 (length path - (2 + n)) (first (leb 20 (length path - (2 + n))) _ (rw length-drop at (sym tests ∙ t)))
+      typed-long t = leb-true 20 (length path - (2 + n)) (and-left (leb 20 (length path - (2 + n))) _ (rw length-drop at (sym tests ∙ t)))
