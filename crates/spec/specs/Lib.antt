@@ -5,3 +5,11 @@ pub mod Value
 pub mod Model
 pub mod Text
 pub mod Path
+pub mod Observations
+pub mod Assets
+pub mod Reply
+pub mod Answers
+pub mod Calls
+pub mod Reference
+pub mod History
+pub mod Bench
