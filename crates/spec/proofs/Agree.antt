@@ -1,16 +1,14 @@
 -- One call: where the stores stand for the reference model's state, the call answers as the reference model does, and the stores
 -- it leaves stand for the state that the reference model is then in.
-use mathlib.Core.Path.{_≡_, refl, sym, ap, ap₂, _∙_, subst}
+use mathlib.Core.Path.{_≡_, refl, sym, ap, _∙_}
 use mathlib.Core.Logic.{_≢_}
 use mathlib.Core.Bool.{Bool, true, false, cond, _&&_, _||_, not, true≢false, false≢true}
-use Prim.Native.Nat.{ℕ, zero, suc, _+_, _-_, _*_, _^_, _≤_, _<_, max, min}
+use Prim.Native.Nat.{ℕ, zero, suc, _+_, _-_, _^_, _≤_, _<_}
 use native.Mathlib.Omega.{arith}
 use mathlib.Core.List.{List, [], _∷_, _++_, map}
-use mathlib.Core.Option.{Option}
 use lib.Dec.{leb, ltb, eqb}
-use lib.IntN.{ℤ, pos, negsuc}
 use lib.ListN.{length, getD, length-append, List·getD-eq-default}
-use borrow.Author.Tests.{ltb-true, ltb-false, leb-true, leb-false, eqb-true, eqb-false, lt-ltb, le-ltb, le-leb, lt-leb, eq-eqb, ne-eqb}
+use borrow.Author.Tests.{ltb-true, ltb-false, leb-true, eqb-true, eqb-false, lt-ltb, le-leb, lt-leb}
 use Rattle.spec.specs.Words.{pickRows, bit, row}
 use Rattle.spec.specs.Value.{takes, pack, Fits}
 use Rattle.spec.specs.Model.{items, category, changeItem, hasChange, modelOk}
@@ -18,32 +16,29 @@ use Rattle.spec.specs.Text.{Request, Reading, readText}
 use Rattle.spec.specs.Text.Request.{sample, current, currentAt, assets, allAssets}
 use Rattle.spec.specs.Text.Reading.{unread, asked}
 use Rattle.spec.specs.Path.{select}
-use Rattle.spec.specs.Observations.{maxNumber, ringSize, base, last, storeWords, latestAt, checkpointRow, headOk, Head, add, evictOk, ringOk, sampleRows, newestIn, heldRow, currentRows, atRows}
-use Rattle.spec.specs.Assets.{capacity, used, assetHeadOk, assetOk, idOk, bodyOk, cellFor, storeCells, find, lengthAt, lengthOk, bodyStart, bodyPlace, part}
-use Rattle.spec.specs.Reply.{Replied, refuse, observationReply, assetReply}
-use Rattle.spec.specs.Calls.{Observed, Kept, roomFor, observeBy, timeOr, observeItem, keepBy, keepAsset, unless, inRange, sampleBetween, sampleReply, currentReply, currentUpTo, atReply, cellRows, allCells, cellsReply, findAll, namedReply, downFrom, answerRequest, answerReading, added}
+use Rattle.spec.specs.Observations.{ringSize, base, last, storeWords, latestAt, headOk, add, evictOk, ringOk, sampleRows, heldRow, currentRows, atRows}
+use Rattle.spec.specs.Assets.{used, assetHeadOk, assetOk, idOk, bodyOk, cellFor, storeCells, lengthAt, lengthOk, bodyStart, bodyPlace, part}
+use Rattle.spec.specs.Reply.{Replied, refuse, assetReply}
+use Rattle.spec.specs.Calls.{Observed, Kept, roomFor, observeBy, timeOr, observeItem, keepBy, keepAsset, unless, inRange, sampleBetween, sampleReply, currentReply, currentUpTo, atReply, cellRows, allCells, cellsReply, namedReply, downFrom, answerRequest, answerReading, added}
 use Rattle.spec.specs.Calls
-use Rattle.spec.specs.Reference.{State, Observation, Held, nothing, newestOr, newest, lastOr, lastOf, firstOf, within, keep, triple, outside, eqSample, eqLevel, eqValue, spent, observeAnswer, observeNext, withOne, place, holds, makeRoom, assetsAfter, storeAnswer, storeNext, sampleStart, sampleEnd, sampleFor, currentFor, foundRows, atFor, selected, contentAt, heldRows, allHeld, placesOf, newestFirst, replyTo, replyReading, bodyOf}
+use Rattle.spec.specs.Reference.{State, Observation, Held, nothing, newestOr, newest, lastOf, firstOf, within, keep, triple, outside, eqValue, spent, observeAnswer, observeNext, withOne, place, holds, assetsAfter, storeAnswer, storeNext, sampleStart, sampleEnd, sampleFor, currentFor, foundRows, atFor, selected, contentAt, heldRows, allHeld, placesOf, newestFirst, replyTo, replyReading, bodyOf}
 use Rattle.spec.specs.Reference
-use Rattle.spec.specs.declared.Level.{Level}
-use Rattle.spec.specs.declared.Level.the-variants.{Normal, Warning, Fault}
 use Rattle.spec.specs.declared.Value.{Value}
-use Rattle.spec.specs.declared.Value.the-variants.{Unavailable, Sample, Event, Condition}
+use Rattle.spec.specs.declared.Value.the-variants.{Event}
 use Rattle.spec.specs.declared.Refusal.the-variants.{Spent, TooMany, InvalidXpath, OutOfRange}
 use Rattle.spec.specs.declared.Place.the-variants.{At, Nothing}
 use Rattle.spec.specs.declared.ObserveAnswer.{ObserveAnswer}
-use Rattle.spec.specs.declared.ObserveAnswer.the-variants.{Recorded, Same, Refused as Unrecorded}
+use Rattle.spec.specs.declared.ObserveAnswer.the-variants.{Recorded, Refused as Unrecorded}
 use Rattle.spec.specs.declared.StoreAnswer.{StoreAnswer}
 use Rattle.spec.specs.declared.StoreAnswer.the-variants.{Stored, Refused as Unstored}
-use Rattle.spec.specs.declared.Verdict.{Verdict}
 use Rattle.spec.specs.declared.Verdict.the-variants.{Fine, Refused as Against}
 use Rattle.spec.specs.declared.Selection.{Selection}
 use Rattle.spec.specs.declared.Selection.the-variants.{Items, NotFound}
 use Rattle.spec.proofs.Words.{and-left, and-right, and-both}
-use Rattle.spec.proofs.Packing.{Coded, taken-coded, pack-compares}
+use Rattle.spec.proofs.Packing.{Coded, taken-coded, compare-coded}
 use Rattle.spec.proofs.Model.{checked}
 use Rattle.spec.proofs.Observations.{head-ok}
-use Rattle.spec.proofs.Recorded.{Numbered, lastOr-some, newestOr-append, newestOr-item, within-slice}
+use Rattle.spec.proofs.Recorded.{lastOr-some, newestOr-append, newestOr-item, within-slice}
 use Rattle.spec.proofs.Kept.{Rep, next, add-rep}
 use Rattle.spec.proofs.Rows.{ring-rows, held-at, ring-ok, evict-ok}
 use Rattle.spec.proofs.Encoding.{Ok, AllOk, Stands, encode, find-is, find-all, store-cells, cell-is, length-at, length-ok, part-is, asset-heads}
@@ -88,62 +83,6 @@ leb-not a b = go (ltb a b) refl
     go : (t : Bool) → ltb a b ≡ t → leb b a ≡ not t
     go true e = lt-leb b a (ltb-true a b e)
     go false e = le-leb b a (ltb-false a b e)
-
--- ---- values: equal packed words are equal values
-
-eqb-refl : (n : ℕ) → eqb n n ≡ true
-eqb-refl n = eq-eqb n n refl
-
-eqSample-true : (x y : ℤ) → eqSample x y ≡ true → x ≡ y
-eqSample-true (pos a) (pos b) e = ap pos (eqb-true a b e)
-eqSample-true (pos a) (negsuc b) e = absurd (false≢true e)
-eqSample-true (negsuc a) (pos b) e = absurd (false≢true e)
-eqSample-true (negsuc a) (negsuc b) e = ap negsuc (eqb-true a b e)
-
-eqLevel-true : (l k : Level) → eqLevel l k ≡ true → l ≡ k
-eqLevel-true Normal Normal e = refl
-eqLevel-true Normal Warning e = absurd (false≢true e)
-eqLevel-true Normal Fault e = absurd (false≢true e)
-eqLevel-true Warning Normal e = absurd (false≢true e)
-eqLevel-true Warning Warning e = refl
-eqLevel-true Warning Fault e = absurd (false≢true e)
-eqLevel-true Fault Normal e = absurd (false≢true e)
-eqLevel-true Fault Warning e = absurd (false≢true e)
-eqLevel-true Fault Fault e = refl
-
-pub eqValue-true : (v w : Value) → eqValue v w ≡ true → v ≡ w
-eqValue-true Unavailable Unavailable e = refl
-eqValue-true Unavailable (Sample y) e = absurd (false≢true e)
-eqValue-true Unavailable (Event d) e = absurd (false≢true e)
-eqValue-true Unavailable (Condition k d) e = absurd (false≢true e)
-eqValue-true (Sample x) Unavailable e = absurd (false≢true e)
-eqValue-true (Sample x) (Sample y) e = ap Sample (eqSample-true x y e)
-eqValue-true (Sample x) (Event d) e = absurd (false≢true e)
-eqValue-true (Sample x) (Condition k d) e = absurd (false≢true e)
-eqValue-true (Event c) Unavailable e = absurd (false≢true e)
-eqValue-true (Event c) (Sample y) e = absurd (false≢true e)
-eqValue-true (Event c) (Event d) e = ap Event (eqb-true c d e)
-eqValue-true (Event c) (Condition k d) e = absurd (false≢true e)
-eqValue-true (Condition l c) Unavailable e = absurd (false≢true e)
-eqValue-true (Condition l c) (Sample y) e = absurd (false≢true e)
-eqValue-true (Condition l c) (Event d) e = absurd (false≢true e)
-eqValue-true (Condition l c) (Condition k d) e =
-    ap₂ Condition (eqLevel-true l k (and-left (eqLevel l k) (eqb c d) e)) (eqb-true c d (and-right (eqLevel l k) (eqb c d) e))
-
-eqSample-refl : (x : ℤ) → eqSample x x ≡ true
-eqSample-refl (pos a) = eqb-refl a
-eqSample-refl (negsuc a) = eqb-refl a
-
-eqValue-refl : (v : Value) → eqValue v v ≡ true
-eqValue-refl Unavailable = refl
-eqValue-refl (Sample x) = eqSample-refl x
-eqValue-refl (Event c) = eqb-refl c
-eqValue-refl (Condition Normal c) = eqb-refl c
-eqValue-refl (Condition Warning c) = eqb-refl c
-eqValue-refl (Condition Fault c) = eqb-refl c
-
-pub eqb-pack : (i : ℕ) (v w : Value) → Coded v → Coded w → eqb (pack i v) (pack i w) ≡ eqValue v w
-eqb-pack i v w hv hw = pack-compares i hv hw (eqValue v w) (eqValue-true v w) (λ e. subst (λ (x : Value). eqValue v x ≡ true) e (eqValue-refl v))
 
 -- what holds of each observation, and of d, holds of the newest
 newest-of : (P : Observation → Type 0) (H : List Observation) (d : Observation) (i : ℕ) → P d
@@ -294,7 +233,7 @@ module _ (model names : List ℕ) (p : State) (st : List ℕ) (G : Good model na
 
   same-is : (item : ℕ) (v : Value) → item < items model → Coded v
       → eqb (getD (row st (latestAt (p .N)) (items model) item 3) 2 0) (pack item v) ≡ eqValue (newest item (p .H) .value) v
-  same-is item v h hv = rw (G .rep .latest item h, G .each item h) (eqb-pack item (newest item (p .H) .value) v (newest-coded item) hv)
+  same-is item v h hv = rw (G .rep .latest item h, G .each item h) (compare-coded item (newest item (p .H) .value) v (newest-coded item) hv)
 
   record-agree : (item time host : ℕ) (v : Value) → item < items model → Coded v → (t : Bool) → spent p ≡ t
       → ObserveAgree item time host v (observeBy (cond t (Against Spent) Fine) (items model) st item (timeOr time host) (pack item v))

@@ -15,4 +15,5 @@ pub mod Rows
 pub mod Start
 pub mod Encoding
 pub mod Agree
+pub mod Begin
 pub mod Bench

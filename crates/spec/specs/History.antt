@@ -168,15 +168,15 @@ abbrev pub windowOfReading : Reading → List ℕ → List Window
 windowOfReading (unread r) reply = []
 windowOfReading (asked q) reply = windowOfRequest q reply
 
-abbrev pub windowOfAnswer : Answer → List ℕ → List ℕ → List Window
-windowOfAnswer (Done k) text reply = windowOfReading (readText text) reply
-windowOfAnswer (Refused r) text reply = []
+abbrev pub windowOfAnswer : Answer → Reading → List ℕ → List Window
+windowOfAnswer (Done k) q reply = windowOfReading q reply
+windowOfAnswer (Refused r) q reply = []
 
 abbrev pub windowOfOutput : List ℕ → Output → List Window
 windowOfOutput text (started a) = []
 windowOfOutput text (observed a) = []
 windowOfOutput text (stored a) = []
-windowOfOutput text (replied a reply) = windowOfAnswer a text reply
+windowOfOutput text (replied a reply) = windowOfAnswer a (readText text) reply
 windowOfOutput text (returned bs) = []
 
 unfoldable pub windowsOfOutputs : List ℕ → List Output → List Window
