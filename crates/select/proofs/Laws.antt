@@ -1,7 +1,7 @@
 -- Laws of what a path selects, as the code goes: names, the components under a type, the items, the forms.
 use Prim.Native.Nat.{ℕ, _+_, _-_, _*_, _/_, _%_, _^_, _<_, _≤_}
 use mathlib.Core.Path.{_≡_, refl, sym, ap, _∙_}
-use mathlib.Core.Bool.{Bool, true, false, cond, not, _&&_, _||_}
+use mathlib.Core.Bool.{Bool, true, false, not, _&&_, _||_}
 use mathlib.Core.List.{List}
 use mathlib.Core.Option.{some}
 use native.Mathlib.Nat.{one-mul}
@@ -24,7 +24,7 @@ use Rattle.spec.proofs.Path.{under-zero}
 use Rattle.path.specs.declared.PathForm.{PathForm}
 use Rattle.path.specs.declared.PathForm.the-variants.{Subtree, Typed}
 use Rattle.path.specs.Forms.{meaning, NamesFit}
-use Rattle.select.specs.Choice.{taken, chosen, SelectionFits}
+use Rattle.select.specs.Choice.{taken, chosen, byNames, SelectionFits}
 
 -- ---- sets
 
@@ -119,13 +119,13 @@ module _ (model names t y : List ℕ) (set : ℕ) (e : set ≡ under model names
   some-one : (set ≡ 0 → ⊥) → anyBelow (hasType model names t) (components model) ≡ true
   some-one z = not-false _ (any-from ∙ ne-eqb set 0 z)
 
-  pub type-unknown : (u : Bool) → set ≡ 0 → NotFound ≡ cond u (selectTyped model names t y) (selectSubtree model names t)
+  pub type-unknown : (u : Bool) → set ≡ 0 → NotFound ≡ byNames model names t u y
   unfolding selectTyped selectSubtree
   type-unknown true z = rw (none z)
   type-unknown false z = rw (none z)
 
   module _ (z : set ≡ 0 → ⊥) (u : Bool) (q : ℕ) (eq : q ≡ setOf (chosen model names set u y) (items model)) where
-    pub subtree-items : u ≡ false → Items q ≡ cond u (selectTyped model names t y) (selectSubtree model names t)
+    pub subtree-items : u ≡ false → Items q ≡ byNames model names t u y
     unfolding selectSubtree
     subtree-items f =
         let g : q ≡ setOf (inSubtree model names t) (items model) = rw (f, chosen-subtree) at eq in
@@ -135,11 +135,11 @@ module _ (model names t y : List ℕ) (set : ℕ) (e : set ≡ under model names
       items-are : q ≡ setOf (inTyped model names t y) (items model)
       items-are = rw (f, chosen-typed) at eq
 
-      pub typed-none : q ≡ 0 → NotFound ≡ cond u (selectTyped model names t y) (selectSubtree model names t)
+      pub typed-none : q ≡ 0 → NotFound ≡ byNames model names t u y
       unfolding selectTyped
       typed-none n = rw (f, some-one z, ← items-are, eq-eqb q 0 n)
 
-      pub typed-items : (q ≡ 0 → ⊥) → Items q ≡ cond u (selectTyped model names t y) (selectSubtree model names t)
+      pub typed-items : (q ≡ 0 → ⊥) → Items q ≡ byNames model names t u y
       unfolding selectTyped
       typed-items n = rw (f, some-one z, ← items-are, ne-eqb q 0 n)
 

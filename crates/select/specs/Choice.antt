@@ -1,10 +1,10 @@
 -- The two forms of a path as one test of an item, and the bound of what a path selects.
 use Prim.Native.Nat.{ℕ, _^_, _<_}
-use mathlib.Core.Bool.{Bool, not, _&&_, _||_}
+use mathlib.Core.Bool.{Bool, cond, not, _&&_, _||_}
 use mathlib.Core.List.{List}
 use Rattle.spec.specs.Words.{bit}
 use Rattle.spec.specs.Model.{componentOf, nameOf, itemWord}
-use Rattle.spec.specs.Path.{isNamed}
+use Rattle.spec.specs.Path.{isNamed, selectSubtree, selectTyped}
 use Rattle.spec.specs.declared.Selection.{Selection}
 use Rattle.spec.specs.declared.Selection.the-variants.{Items, NotFound}
 
@@ -15,6 +15,10 @@ taken names set typed y word = bit set (componentOf word) && (not typed || isNam
 -- item j is
 unfoldable pub chosen : List ℕ → List ℕ → ℕ → Bool → List ℕ → ℕ → Bool
 chosen model names set typed y j = taken names set typed y (itemWord model j)
+
+-- what //T selects; where `typed` asks for it, what //T//DataItem[@type="Y"] does
+abbrev pub byNames : List ℕ → List ℕ → List ℕ → Bool → List ℕ → Selection
+byNames model names t typed y = cond typed (selectTyped model names t y) (selectSubtree model names t)
 
 -- a selection of m items has no bit from m on
 abbrev pub SelectionFits : Selection → ℕ → Type 0

@@ -7,8 +7,8 @@ ghost use lib.Count.{ones};
 ghost use lib.ListN.{length};
 ghost use Rattle.spec.specs.Words.{bit, setOf};
 ghost use Rattle.spec.specs.Model.{Checked, parentOf, nameOf, componentOf, components, items};
-ghost use Rattle.spec.specs.Path.{isNamed, under, selectSubtree, selectTyped, anyItem, select};
-ghost use Rattle.select.specs.Choice.{taken, chosen, SelectionFits};
+ghost use Rattle.spec.specs.Path.{isNamed, under, anyItem, select};
+ghost use Rattle.select.specs.Choice.{taken, chosen, byNames, SelectionFits};
 use path::PathForm;
 use spec::Selection;
 
@@ -117,7 +117,7 @@ fn items_of(model: &[u32], names: &[u8], set: u64, typed: bool, y: &[u8]) -> u64
 // What //T selects; where `typed` asks for it, what //T//DataItem[@type="Y"] does.
 fn select_names(model: &[u32], names: &[u8], t: &[u8], typed: bool, y: &[u8]) -> Selection
     requires { ⌜ Checked (now model) (now names) ⌝ }
-    ensures { λ r. ⌜ r ≡ cond typed (selectTyped (now (model .entry)) (now (names .entry)) (now (t .entry)) (now (y .entry))) (selectSubtree (now (model .entry)) (now (names .entry)) (now (t .entry))) ⌝ }
+    ensures { λ r. ⌜ r ≡ byNames (now (model .entry)) (now (names .entry)) (now (t .entry)) typed (now (y .entry)) ⌝ }
 {
     let set = under_type(model, names, t);
     if set == 0 {

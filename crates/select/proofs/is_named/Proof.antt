@@ -39,7 +39,10 @@ equal-requires : tie.Need-equal-requires
 equal-requires c κs = search needs
 
 returns : tie.Need-returns
-returns c = named-is (c .before .before .before .before .before .before .args .names .now) (c .before .before .before .before .before .before .args .k) _ _ _ (c .before .before .name-length .ensures .0) (c .before .before .name-length .ensures .1) (c .equal .ensures)
+returns c =
+    let a = c .before .before .before .before .before .before .args in
+    let n = c .before .before .name-length .ensures in
+    named-is (a .names .now) (a .k) _ _ _ (n .0) (n .1) (c .equal .ensures)
 
 pub is-named-spec : {M : Type 1} → statement M
 is-named-spec =

@@ -7,6 +7,7 @@ use borrow.Author.Needs.{needs}
 use Rattle.select.proofs.select_path.Statement.{statement}
 use Rattle.select.proofs.select_path.Tie as tie
 
+-- the names of the form are in the path
 subtree-in : (c : tie.After-known-told) → 2 + c .before .form .given .0 .0 ≤ length (c .before .before .before .before .before .before .before .args .path .now)
 subtree-in c = subtree-fits _ _ _ (c .before .form .given .1) (c .before .before .before .path-form .ensures .1)
 
@@ -80,13 +81,24 @@ enum-told : tie.Need-enum-told
 enum-told c = search needs
 
 returns : tie.Need-returns
-returns c = let a = c .before .before .before .before .before .before .before .before .before .before .args in let e = path-subtree (a .model .now) (a .names .now) (a .path .now) (c .before .before .before .before .form .given .0 .0) _ (form-is (a .path .now) _ _ (c .before .before .before .before .form .given .1) (c .before .before .before .before .before .before .path-form .ensures .0)) (c .select-names .ensures) in (e, path-fits (a .model .now) (a .names .now) (a .path .now) _ e)
+returns c =
+    let a = c .before .before .before .before .before .before .before .before .before .before .args in
+    let f = form-is (a .path .now) _ _ (c .before .before .before .before .form .given .1) (c .before .before .before .before .before .before .path-form .ensures .0) in
+    let e = path-subtree (a .model .now) (a .names .now) (a .path .now) (c .before .before .before .before .form .given .0 .0) _ f (c .select-names .ensures) in
+    (e, path-fits (a .model .now) (a .names .now) (a .path .now) _ e)
 
 returns-2 : tie.Need-returns-2
-returns-2 c = let a = c .before .before .before .before .before .before .before .before .before .before .args in let e = path-typed (a .model .now) (a .names .now) (a .path .now) (c .before .before .before .before .form2 .given .0 .0) (c .before .before .before .before .form2 .given .0 .1 .0) _ (form-is (a .path .now) _ _ (c .before .before .before .before .form2 .given .1) (c .before .before .before .before .before .before .path-form .ensures .0)) (c .select-names2 .ensures) in (e, path-fits (a .model .now) (a .names .now) (a .path .now) _ e)
+returns-2 c =
+    let a = c .before .before .before .before .before .before .before .before .before .before .args in
+    let f = form-is (a .path .now) _ _ (c .before .before .before .before .form2 .given .1) (c .before .before .before .before .before .before .path-form .ensures .0) in
+    let e = path-typed (a .model .now) (a .names .now) (a .path .now) (c .before .before .before .before .form2 .given .0 .0) (c .before .before .before .before .form2 .given .0 .1 .0) _ f (c .select-names2 .ensures) in
+    (e, path-fits (a .model .now) (a .names .now) (a .path .now) _ e)
 
 returns-3 : tie.Need-returns-3
-returns-3 c = let a = c .before .before .before .before .before .before .args in (path-other (a .model .now) (a .names .now) (a .path .now) (form-is (a .path .now) _ _ (c .enum-told .given .1) (c .before .before .path-form .ensures .0)), tt)
+returns-3 c =
+    let a = c .before .before .before .before .before .before .args in
+    let f = form-is (a .path .now) _ _ (c .enum-told .given .1) (c .before .before .path-form .ensures .0) in
+    (path-other (a .model .now) (a .names .now) (a .path .now) f, tt)
 
 pub select-path-spec : {M : Type 1} → statement M
 select-path-spec =

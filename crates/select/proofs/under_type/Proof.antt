@@ -1,10 +1,11 @@
 -- The invariant: the set is that of the components below i. The measure is the components left.
+use Rattle.spec.specs.Model.{components}
 use Rattle.spec.specs.Path.{under}
 use Rattle.spec.proofs.Path.{under-lt, under-more}
 use Rattle.select.proofs.Laws.{component-fits}
 use borrow.Author.Needs.{needs}
 use native.Mathlib.Omega.{arith}
-use Prim.Native.Nat.{_-_, _≤_}
+use Prim.Native.Nat.{_-_, _≤_, _<_}
 use mathlib.Core.Path.{_≡_, refl, ap, _∙_}
 use Rattle.select.proofs.under_type.Statement.{statement}
 use Rattle.select.proofs.under_type.Tie as tie
@@ -26,10 +27,15 @@ component-word-requires : tie.Need-component-word-requires Inv-loop μ-loop
 component-word-requires c κs = (c .before .before .before .before .before .before .pre .sizes, omega (arith, c .before .before .components .ensures .0))
 
 joins-requires : tie.Need-joins-requires Inv-loop μ-loop
-joins-requires c κs = let a = c .before .before .before .before .before .before .before .args in component-fits (a .model .now) (a .names .now) (c .before .before .before .before .before .before .before .pre) (c .before .before .loop .i) _ (omega (arith, c .before .before .before .components .ensures .0)) (c .component-word .ensures)
+joins-requires c κs =
+    let s = c .before .before .before .before .before .before .before in
+    let l : c .before .before .loop .i < components (s .args .model .now) = omega (arith, c .before .before .before .components .ensures .0) in
+    component-fits (s .args .model .now) (s .args .names .now) (s .pre) _ _ l (c .component-word .ensures)
 
 with-if-requires : tie.Need-with-if-requires Inv-loop μ-loop
-with-if-requires c κs = let a = c .before .before .before .before .before .before .before .before .args in (omega arith, rw (c .before .before .before .loop .inv .1) (under-lt (a .model .now) (a .names .now) (a .t .now) _))
+with-if-requires c κs =
+    let a = c .before .before .before .before .before .before .before .before .args in
+    (omega arith, rw (c .before .before .before .loop .inv .1) (under-lt (a .model .now) (a .names .now) (a .t .now) _))
 
 add-i : tie.Need-add-i Inv-loop μ-loop
 add-i c = search needs
@@ -38,10 +44,17 @@ loop-less : tie.Need-loop-less Inv-loop μ-loop
 loop-less c = search needs
 
 loop-again : tie.Need-loop-again Inv-loop μ-loop
-loop-again c = let a = c .before .before .before .before .before .before .before .before .before .args in (omega arith, under-more (a .model .now) (a .names .now) (a .t .now) _ _ _ _ _ (c .before .before .before .before .loop .inv .1) (c .before .before .component-word .ensures) (c .before .joins .ensures) (c .with-if .ensures))
+loop-again c =
+    let a = c .before .before .before .before .before .before .before .before .before .args in
+    let so-far = c .before .before .before .before .loop .inv .1 in
+    let joined = under-more (a .model .now) (a .names .now) (a .t .now) _ _ _ _ _ so-far (c .before .before .component-word .ensures) (c .before .joins .ensures) (c .with-if .ensures) in
+    (omega arith, joined)
 
 returns : tie.Need-returns Inv-loop μ-loop
-returns c = let e : c .before .loop .i ≡ c .before .before .components .result = omega arith in c .before .loop .inv .1 ∙ ap (under _ _ _) (e ∙ c .before .before .components .ensures .0)
+returns c =
+    let all = c .before .before .components in
+    let e : c .before .loop .i ≡ all .result = omega arith in
+    c .before .loop .inv .1 ∙ ap (under _ _ _) (e ∙ all .ensures .0)
 
 pub under-type-spec : {M : Type 1} → statement M
 under-type-spec =
