@@ -1,31 +1,26 @@
 -- Laws of the model check over plain variables: each branch of a function is one of them.
-use Prim.Native.Nat.{ℕ, suc, _+_, _-_, _*_, _/_, _%_, max, _≤_, _<_}
-use mathlib.Core.Path.{_≡_, refl, sym, ap, _∙_}
-use mathlib.Core.Bool.{Bool, true, false, cond, _&&_, and-true}
-use mathlib.Core.List.{List, [], _∷_}
-use native.Mathlib.Nat.{div-add-mod}
+use Prim.Native.Nat.{ℕ, suc, _+_, _-_, _/_, _%_, max, _≤_, _<_}
+use mathlib.Core.Path.{_≡_, sym, _∙_}
+use mathlib.Core.Bool.{Bool, true, false, cond, _&&_}
+use mathlib.Core.List.{List}
 use native.Mathlib.Numerals.{add-one}
 use native.Mathlib.Omega.{arith}
 use lib.Dec.{leb, ltb, eqb}
-use lib.ListN.{length, getD, take, drop, drop-of-length-le, length-drop}
-use lib.Seq.{drop-cons, take-all}
-use borrow.Author.Tests.{lt-ltb, le-ltb, le-leb, lt-leb, eq-eqb, ne-eqb}
+use lib.ListN.{length, getD, drop, drop-of-length-le}
+use lib.Seq.{drop-cons}
+use borrow.Author.Tests.{lt-ltb, le-ltb, le-leb, lt-leb, eq-eqb}
 use Rattle.spec.specs.Words.{every, firstWhere, countBelow}
 use Rattle.spec.specs.Bytes.{nameByte}
-use Rattle.spec.specs.Model.{letters, zeros, cellOk, nameCell, nameCount, namesOk, categoryOf, components, items, componentWord, itemWord, isChange, changeItem, sizesOk, componentOk, itemOk, componentsOk, itemsOk, changesOk, modelOk, Sizes}
+use Rattle.spec.specs.Model.{letters, cellOk, nameCell, nameCount, namesOk, categoryOf, components, items, componentWord, itemWord, isChange, changeItem, sizesOk, componentOk, itemOk, componentsOk, itemsOk, changesOk, modelOk, Sizes}
 use Rattle.spec.proofs.Words.{not-so, count-step}
 use Rattle.spec.proofs.Model.{sizes-of, Names, names-of}
 
--- ---- cells: the rest from byte i on
+-- ---- a name's length: the rest from byte i on
 
 module _ (s : List ℕ) (i : ℕ) (h : i < length s) where
   letters-step : letters (drop i s) ≡ cond (nameByte (getD s i 0)) (suc (letters (drop (i + 1) s))) 0
   unfolding letters
   letters-step = rw (add-one, drop-cons s i 0)
-
-  zeros-step : zeros (drop i s) ≡ eqb (getD s i 0) 0 && zeros (drop (i + 1) s)
-  unfolding zeros
-  zeros-step = rw (add-one, drop-cons s i 0)
 
 module _ (s : List ℕ) (i : ℕ) (rest : letters s ≡ i + letters (drop i s)) where
   pub letters-stop : (t : Bool) → i < length s → t ≡ nameByte (getD s i 0) → t ≡ false → i ≡ letters s
@@ -38,28 +33,6 @@ module _ (s : List ℕ) (i : ℕ) (rest : letters s ≡ i + letters (drop i s)) 
   unfolding letters
   letters-end h = let k : letters (drop i s) ≡ 0 = rw (drop-of-length-le s h) in omega arith
 
-module _ (s : List ℕ) (i : ℕ) (rest : zeros s ≡ zeros (drop i s)) where
-  pub zeros-no : i < length s → (getD s i 0 ≡ 0 → ⊥) → false ≡ zeros s
-  zeros-no h n = sym (rest ∙ (zeros-step s i h ∙ rw (ne-eqb _ _ n)))
-
-  pub zeros-on : i < length s → getD s i 0 ≡ 0 → zeros s ≡ zeros (drop (i + 1) s)
-  zeros-on h n = rest ∙ (zeros-step s i h ∙ rw (eq-eqb _ _ n))
-
-  pub zeros-end : length s ≤ i → true ≡ zeros s
-  unfolding zeros
-  zeros-end h = sym (rest ∙ rw (drop-of-length-le s h))
-
-pub cell-none : (s : List ℕ) (e : ℕ) → e ≡ letters s → e < 1 → false ≡ cellOk s
-unfolding cellOk
-cell-none s e q z = let k : letters s < 1 = omega arith in rw (lt-leb _ _ k)
-
--- the rest, as it is lent: up to the end
-pub cell-rest : (s : List ℕ) (e : ℕ) (t : Bool) → e ≡ letters s → 1 ≤ e → t ≡ zeros (take (length s - e) (drop e s)) → t ≡ cellOk s
-unfolding cellOk
-cell-rest s e t q n r =
-    let k : 1 ≤ letters s = omega arith in
-    r ∙ (rw (take-all (length s - e) (drop e s) (omega (arith, length-drop e s)), le-leb _ _ k, q))
-
 -- ---- names
 
 pub no-names : (names : List ℕ) → (Names names → ⊥) → false ≡ namesOk names
@@ -71,13 +44,6 @@ unfolding namesOk
 names-start names a b e =
     let q : nameCount names - 0 ≡ nameCount names = omega arith in
     rw (le-leb _ _ a, le-leb _ _ b, eq-eqb _ _ e, q)
-
-pub cells-fit : (l k : ℕ) → k < l / 24 → 24 * k + 24 ≤ l
-cells-fit l k h = omega (arith, div-add-mod l 24)
-
--- a cell, as it is lent
-pub cell-at : (names : List ℕ) (k : ℕ) (t u : Bool) → t ≡ cellOk (take (24 * k + 24 - 24 * k) (drop (24 * k) names)) → t ≡ u → cellOk (nameCell names k) ≡ u
-cell-at names k t u e z = let q : 24 * k + 24 - 24 * k ≡ 24 = omega arith in rw q at (sym e) ∙ z
 
 -- ---- words
 

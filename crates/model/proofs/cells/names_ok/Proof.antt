@@ -1,6 +1,9 @@
--- The invariant: the cells from k on decide the whole. The measure is what is left of them.
+-- The invariant: the cells from k on decide the whole, where every byte may stand in a cell. The measure is what is left of the cells.
 use borrow.Author.Tests.{not-true, not-false}
-use Rattle.model.proofs.Laws.{no-names, names-start, cells-fit, cell-at}
+use mathlib.Core.Bool.{true, false≢true}
+use Rattle.model.proofs.CellLaws.{cells-fit, cell-at, names-bytes}
+use Rattle.model.proofs.Laws.{no-names, names-start}
+use Rattle.model.specs.Cells.{cellBytes}
 use Rattle.spec.specs.Model.{cellOk, nameCell, namesOk}
 use Rattle.spec.specs.Words.{every}
 use Rattle.spec.proofs.Words.{every-no, every-yes, every-end}
@@ -8,12 +11,12 @@ use borrow.Author.Needs.{needs}
 use native.Mathlib.Omega.{arith}
 use lib.ListN.{length}
 use Prim.Native.Nat.{_-_, _≤_}
-use mathlib.Core.Path.{_≡_}
+use mathlib.Core.Path.{_≡_, sym, _∙_}
 use Rattle.model.proofs.cells.names_ok.Statement.{statement}
 use Rattle.model.proofs.cells.names_ok.Tie as tie
 
 abbrev Inv-loop : tie.InvT-loop
-Inv-loop names l n k₀ k = (k ≤ n) × (namesOk names ≡ every (λ x. cellOk (nameCell names x)) (n - k) k)
+Inv-loop names l n k₀ k = (k ≤ n) × ((cellBytes names ≡ true) × (namesOk names ≡ every (λ x. cellOk (nameCell names x)) (n - k) k))
 
 abbrev μ-loop : tie.MeasureT-loop
 μ-loop names l n k₀ k = n - k
@@ -27,29 +30,35 @@ returns-2 c = no-names _ (λ h. omega arith)
 returns-3 : tie.Need-returns-3 Inv-loop μ-loop
 returns-3 c = no-names _ (λ h. omega arith)
 
-loop-holds : tie.Need-loop-holds Inv-loop μ-loop
-loop-holds c = (omega arith, names-start (c .before .before .before .before .args .names .now) (c .before .before .if1 .left) (c .before .if2 .left) (c .if3 .left))
-
-mul-at : tie.Need-mul-at Inv-loop μ-loop
-mul-at c = omega (arith, cells-fit (length (c .before .before .before .before .before .before .args .names .now)) (c .before .loop .k) (c .loop-test .taken))
-
-add-cell-ok : tie.Need-add-cell-ok Inv-loop μ-loop
-add-cell-ok c = omega (arith, cells-fit (length (c .before .before .before .before .before .before .args .names .now)) (c .before .loop .k) (c .loop-test .taken))
-
-sub-cell-ok : tie.Need-sub-cell-ok Inv-loop μ-loop
-sub-cell-ok c = search needs
-
-part-cell-ok-start : tie.Need-part-cell-ok-start Inv-loop μ-loop
-part-cell-ok-start c = search needs
-
-part-cell-ok-end : tie.Need-part-cell-ok-end Inv-loop μ-loop
-part-cell-ok-end c = omega (arith, cells-fit (length (c .before .before .before .before .before .before .args .names .now)) (c .before .loop .k) (c .loop-test .taken))
-
-cell-ok-requires : tie.Need-cell-ok-requires Inv-loop μ-loop
-cell-ok-requires c κs = search needs
+cell-bytes-requires : tie.Need-cell-bytes-requires Inv-loop μ-loop
+cell-bytes-requires c κs = search needs
 
 returns-4 : tie.Need-returns-4 Inv-loop μ-loop
-returns-4 c = every-no _ _ _ _ (c .before .before .before .before .loop .inv .1) (c .before .before .before .loop-test .taken) (cell-at (c .before .before .before .before .before .before .before .before .before .args .names .now) (c .before .before .before .before .loop .k) _ _ (c .before .cell-ok .ensures) (not-true _ (c .if4 .taken)))
+returns-4 c = no-names _ (λ h. false≢true (sym (not-true _ (c .if4 .taken)) ∙ (c .before .cell-bytes .ensures ∙ names-bytes _ h)))
+
+loop-holds : tie.Need-loop-holds Inv-loop μ-loop
+loop-holds c = (omega arith, (sym (c .before .cell-bytes .ensures) ∙ not-false _ (c .if4 .left), names-start (c .before .before .before .before .before .before .args .names .now) (c .before .before .before .before .if1 .left) (c .before .before .before .if2 .left) (c .before .before .if3 .left)))
+
+mul-at : tie.Need-mul-at Inv-loop μ-loop
+mul-at c = omega (arith, cells-fit (length (c .before .before .before .before .before .before .before .before .args .names .now)) (c .before .loop .k) (c .loop-test .taken))
+
+add-zeros-last : tie.Need-add-zeros-last Inv-loop μ-loop
+add-zeros-last c = omega (arith, cells-fit (length (c .before .before .before .before .before .before .before .before .args .names .now)) (c .before .loop .k) (c .loop-test .taken))
+
+sub-zeros-last : tie.Need-sub-zeros-last Inv-loop μ-loop
+sub-zeros-last c = search needs
+
+part-zeros-last-start : tie.Need-part-zeros-last-start Inv-loop μ-loop
+part-zeros-last-start c = search needs
+
+part-zeros-last-end : tie.Need-part-zeros-last-end Inv-loop μ-loop
+part-zeros-last-end c = omega (arith, cells-fit (length (c .before .before .before .before .before .before .before .before .args .names .now)) (c .before .loop .k) (c .loop-test .taken))
+
+zeros-last-requires : tie.Need-zeros-last-requires Inv-loop μ-loop
+zeros-last-requires c κs = search needs
+
+returns-5 : tie.Need-returns-5 Inv-loop μ-loop
+returns-5 c = every-no _ _ _ _ (c .before .before .before .before .loop .inv .1 .1) (c .before .before .before .loop-test .taken) (cell-at (c .before .before .before .before .before .before .before .before .before .before .before .args .names .now) _ (c .before .before .before .loop-test .taken) _ _ (c .before .before .before .before .loop .inv .1 .0) (c .before .zeros-last .ensures) (not-true _ (c .if5 .taken)))
 
 add-k : tie.Need-add-k Inv-loop μ-loop
 add-k c = search needs
@@ -58,10 +67,10 @@ loop-less : tie.Need-loop-less Inv-loop μ-loop
 loop-less c = search needs
 
 loop-again : tie.Need-loop-again Inv-loop μ-loop
-loop-again c = (omega arith, every-yes _ _ _ _ (c .before .before .before .before .loop .inv .1) (c .before .before .before .loop-test .taken) (cell-at (c .before .before .before .before .before .before .before .before .before .args .names .now) (c .before .before .before .before .loop .k) _ _ (c .before .cell-ok .ensures) (not-false _ (c .if4 .left))))
+loop-again c = (omega arith, (c .before .before .before .before .loop .inv .1 .0, every-yes _ _ _ _ (c .before .before .before .before .loop .inv .1 .1) (c .before .before .before .loop-test .taken) (cell-at (c .before .before .before .before .before .before .before .before .before .before .before .args .names .now) _ (c .before .before .before .loop-test .taken) _ _ (c .before .before .before .before .loop .inv .1 .0) (c .before .zeros-last .ensures) (not-false _ (c .if5 .left)))))
 
-returns-5 : tie.Need-returns-5 Inv-loop μ-loop
-returns-5 c = every-end _ _ _ _ (c .before .loop .inv .1) (c .loop-test .left)
+returns-6 : tie.Need-returns-6 Inv-loop μ-loop
+returns-6 c = every-end _ _ _ _ (c .before .loop .inv .1 .1) (c .loop-test .left)
 
 pub names-ok-spec : {M : Type 1} → statement M
 names-ok-spec =
@@ -72,15 +81,17 @@ names-ok-spec =
     returns
     returns-2
     returns-3
+    cell-bytes-requires
+    returns-4
     loop-holds
     mul-at
-    add-cell-ok
-    sub-cell-ok
-    part-cell-ok-start
-    part-cell-ok-end
-    cell-ok-requires
-    returns-4
+    add-zeros-last
+    sub-zeros-last
+    part-zeros-last-start
+    part-zeros-last-end
+    zeros-last-requires
+    returns-5
     add-k
     loop-less
     loop-again
-    returns-5)
+    returns-6)
