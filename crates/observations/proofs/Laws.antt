@@ -1,15 +1,13 @@
--- The branches of the head's test and of the room for a number, what an addition keeps, and start's turns.
-use Prim.Native.Nat.{ℕ, zero, suc, _+_, _-_, _*_, _%_, _≤_, _<_}
-use mathlib.Core.Path.{_≡_, refl, sym, _∙_, ap}
-use mathlib.Core.Logic.{_≢_, _⊎_, inl, inr}
-use mathlib.Core.Bool.{Bool, true, false, cond, _&&_}
+-- One law to each branch of the head's test and of the room for a number; eviction and addition by their writes; start's turns.
+use Prim.Native.Nat.{ℕ, zero, suc, _+_, _-_, _*_, _≤_, _<_}
+use mathlib.Core.Path.{_≡_, refl, sym, _∙_}
+use mathlib.Core.Bool.{Bool, true, false, cond}
 use mathlib.Core.List.{List, [], _∷_}
 use native.Mathlib.Omega.{arith}
 use native.Mathlib.Nat.{mod-lt, sub-zero, add-zero, mul-div-cancel}
 use native.Mathlib.Numerals.{add-one}
 use lib.Dec.{leb, ltb, eqb}
-use lib.ListN.{length, getD, set, replicate, length-set, length-replicate}
-use lib.Seq.{getD-set-same, getD-set-other}
+use lib.ListN.{length, getD, set, replicate, length-replicate}
 use borrow.Author.Tests.{le-leb, lt-leb, leb-false, eq-eqb, eqb-true, eqb-false, ltb-true, lt-ltb, le-ltb}
 use Rattle.spec.specs.Words.{row, put}
 use Rattle.spec.specs.Value.{itemOf, pack}
@@ -19,9 +17,8 @@ use Rattle.spec.specs.declared.Refusal.the-variants.{Spent, Store}
 use Rattle.spec.specs.declared.Value.the-variants.{Unavailable}
 use Rattle.spec.specs.declared.Verdict.{Verdict}
 use Rattle.spec.specs.declared.Verdict.the-variants.{Fine, Refused}
-use Rattle.spec.proofs.Observations.{head}
-use Rattle.spec.proofs.Tables.{length-put, get-put, row-put-same, row-put-other, row-put-apart}
-use Rattle.observations.specs.Adding.{Adding, Overwriting, Sizes, Starting}
+use Rattle.spec.proofs.Observations.{head, length-add, head-add, last-add, ring-add-same, ring-add-other}
+use Rattle.observations.specs.Adding.{Adding, Sizes, Starting}
 
 -- ---- the head
 
@@ -98,7 +95,7 @@ room {m} {st} h e =
     let k : last st < 9223372036854775807 = leb-false _ _ (c .0) in
     record {
       adding = record { n-pos = h .n-pos; n-max = h .n-max; b-last = omega (arith, h .b-last); last-max = k; len = h .len };
-      ok = c .1
+      ok = c .1;
     }
 
 -- ---- adding
@@ -109,77 +106,6 @@ pub added : (n m b l item time word p : ℕ) (st x y z : List ℕ) → x ≡ evi
     → set z 3 (l + 1) ≡ add n m b (suc l) item time word st
 unfolding add
 added n m b l item time word p st x y z ex ep ey ez = rw (ez, ey, ex, ep, add-one l)
-
-evict-case : (t : Bool) (i m : ℕ) (x y : List ℕ) (P : List ℕ → Type 0) → cond t (ltb i m) true ≡ true → (i < m → P x) → P y → P (cond t x y)
-evict-case true i m x y P e f g = f (ltb-true i m e)
-evict-case false i m x y P e f g = g
-
-module _ (n m b s : ℕ) (st : List ℕ) (ok : evictOk n m b s st ≡ true) where
-  -- what holds of the store and of it with any row of the checkpoint overwritten holds after an eviction
-  evict-keeps : (P : List ℕ → Type 0) → ((i x y z : ℕ) → i < m → P (put st (checkpointAt n m) m i (x ∷ y ∷ z ∷ []))) → P st → P (evict n m b s st)
-  unfolding evict evictOk row
-  evict-keeps P f g = evict-case (overwrites n b s) (itemAt n b st s) m _ st P ok (λ h. f _ _ _ _ h) g
-
-  length-evict : length (evict n m b s st) ≡ length st
-  length-evict = evict-keeps (λ l. length l ≡ length st) (λ i x y z h. length-put (x ∷ y ∷ z ∷ []) st _ _ _) refl
-
-  head-evict : (j : ℕ) → j < 4 → getD (evict n m b s st) j 0 ≡ getD st j 0
-  head-evict j k =
-      evict-keeps (λ l. getD l j 0 ≡ getD st j 0) (λ i x y z h. get-put (x ∷ y ∷ z ∷ []) st (checkpointAt n m) m i j (inl (omega arith)) h) refl
-
-  ring-evict : (p : ℕ) → p < n → row (evict n m b s st) ringAt n p 2 ≡ row st ringAt n p 2
-  ring-evict p k =
-      evict-keeps (λ l. row l ringAt n p 2 ≡ row st ringAt n p 2)
-      (λ i x y z h. row-put-apart (x ∷ y ∷ z ∷ []) st (checkpointAt n m) m i ringAt n p 2 h k (inl (omega arith)))
-      refl
-
-module _ (n m b s item time word : ℕ) (st : List ℕ) (ok : evictOk n m b s st ≡ true) (hn : 1 ≤ n) (hi : item < m) where
-  abbrev ring : List ℕ
-  ring = put (evict n m b s st) ringAt n (place n b s) (time ∷ word ∷ [])
-
-  abbrev newest : List ℕ
-  newest = put ring (latestAt n) m item (s ∷ time ∷ word ∷ [])
-
-  -- the place is in the ring
-  place-low : place n b s < n
-  place-low = mod-lt (s - b) hn
-
-  length-newest : length newest ≡ length st
-  length-newest =
-      length-put (s ∷ time ∷ word ∷ []) ring _ _ _ ∙ (length-put (time ∷ word ∷ []) (evict n m b s st) _ _ _ ∙ length-evict n m b s st ok)
-
-  pub length-add : length (add n m b s item time word st) ≡ length st
-  unfolding add
-  length-add = length-set newest 3 s ∙ length-newest
-
-  -- the head stays but for last
-  pub head-add : (j : ℕ) → j < 3 → getD (add n m b s item time word st) j 0 ≡ getD st j 0
-  unfolding add
-  head-add j k =
-      getD-set-other newest 3 j s 0 (λ e. omega arith)
-      ∙ (get-put (s ∷ time ∷ word ∷ []) ring (latestAt n) m item j (inl (omega arith)) hi
-      ∙ (get-put (time ∷ word ∷ []) (evict n m b s st) ringAt n (place n b s) j (inl (omega arith)) place-low ∙ head-evict n m b s st ok j (omega arith)))
-
-  pub last-add : 4 ≤ length st → getD (add n m b s item time word st) 3 0 ≡ s
-  unfolding add
-  last-add k = getD-set-same newest 3 s 0 (rw length-newest k)
-
-  -- the ring has the added entry at its place, and the others
-  ring-of-newest : (p : ℕ) → p < n → row (add n m b s item time word st) ringAt n p 2 ≡ row ring ringAt n p 2
-  unfolding add put
-  ring-of-newest p k =
-      row-put-apart (s ∷ []) newest 3 1 0 ringAt n p 2 (omega arith) k (inr (omega arith))
-      ∙ row-put-apart (s ∷ time ∷ word ∷ []) ring (latestAt n) m item ringAt n p 2 hi k (inl (omega arith))
-
-  pub ring-add-same : ringAt + 2 * n ≤ length st → row (add n m b s item time word st) ringAt n (place n b s) 2 ≡ time ∷ word ∷ []
-  ring-add-same k =
-      ring-of-newest (place n b s) place-low
-      ∙ row-put-same (time ∷ word ∷ []) (evict n m b s st) ringAt n (place n b s) place-low (rw (length-evict n m b s st ok) k)
-
-  pub ring-add-other : (p : ℕ) → p < n → p ≢ place n b s → row (add n m b s item time word st) ringAt n p 2 ≡ row st ringAt n p 2
-  ring-add-other p k d =
-      ring-of-newest p k
-      ∙ (row-put-other (time ∷ word ∷ []) (evict n m b s st) ringAt n (place n b s) p 2 place-low k d ∙ ring-evict n m b s st ok p k)
 
 -- ---- start
 
@@ -210,7 +136,7 @@ blank-starting n m b h =
       b-is = refl;
       last-is = omega (arith, h .b-pos);
       len = omega (arith, length-replicate {A = ℕ} (2 * n + 6 * m) 0);
-      items = λ p k. omega (arith, blank-item n m b p, h .m-pos)
+      items = λ p k. omega (arith, blank-item n m b p, h .m-pos);
     }
 
 cond-true : (t x : Bool) → x ≡ true → cond t x true ≡ true
@@ -227,8 +153,10 @@ module _ (n m b k time word : ℕ) (st : List ℕ) (h : Starting n m b k st) (hk
   item-of-ring : (p : ℕ) (t : Bool) → eqb p (place n b (b + k)) ≡ t → p < n
       → itemOf (getD (row (add n m b (b + k) k time word st) ringAt n p 2) 1 0) < m
   item-of-ring p true e l =
-      rw (eqb-true p _ e,
-      ring-add-same n m b (b + k) k time word st (starting-ok (b + k) h) (h .sizes .n-pos) hk (omega (arith, h .len)))
+      rw (
+        eqb-true p _ e,
+        ring-add-same n m b (b + k) k time word st (starting-ok (b + k) h) (h .sizes .n-pos) hk (omega (arith, h .len)),
+      )
       hw
   item-of-ring p false e l =
       rw (ring-add-other n m b (b + k) k time word st (starting-ok (b + k) h) (h .sizes .n-pos) hk p l (eqb-false p _ e)) (h .items p l)
@@ -244,7 +172,7 @@ module _ (n m b k time word : ℕ) (st : List ℕ) (h : Starting n m b k st) (hk
         b-is = keep 2 (omega arith) ∙ h .b-is;
         last-is = omega (arith, gives);
         len = length-add n m b (b + k) k time word st (starting-ok (b + k) h) (h .sizes .n-pos) hk ∙ h .len;
-        items = λ p l. item-of-ring p (eqb p (place n b (b + k))) refl l
+        items = λ p l. item-of-ring p (eqb p (place n b (b + k))) refl l;
       }
 
 -- start's loop: k items are added, and the rest makes the whole
@@ -279,7 +207,7 @@ filling-more {n} {m} {b} {host} {k} {st₀} {st} {e} f l q =
     record {
       below = omega arith;
       starting = rw e' (starting-more n m b k host (pack k Unavailable) st h l (omega (arith, unavailable-item k)));
-      rest = rw e' (one-more n m b host k st l ∙ f .rest)
+      rest = rw e' (one-more n m b host k st l ∙ f .rest);
     }
 
 pub filling-all : {n m b host k : ℕ} {st₀ st : List ℕ} → Filling n m b host st₀ k st → m ≤ k → st ≡ addAll n m b host m b 0 st₀
@@ -297,7 +225,7 @@ starting-adding h l =
       n-max = omega arith;
       b-last = omega arith;
       last-max = omega arith;
-      len = omega arith
+      len = omega arith;
     }
 
 pub starting-evict : {n m b k : ℕ} {st : List ℕ} → Starting n m b k st → evictOk (ringSize st) m (base st) (suc (last st)) st ≡ true

@@ -1,14 +1,11 @@
-use Rattle.observations.proofs.Laws.{Filling, filling-none, filling-more, filling-all, starting-adding, starting-evict}
-use borrow.Author.Needs.{needs}
+-- Invariant: Filling, the items still to come make the whole, and every ring entry has an item below m. Measure: the items left.
+use Prim.Native.Nat.{_-_}
+use mathlib.Core.Path.{sym, _∙_}
 use native.Mathlib.Omega.{arith}
-use lib.ListN.{length, getD}
-use Prim.Native.Nat.{ℕ, _+_, _-_, _≤_, _<_}
-use mathlib.Core.Path.{_≡_, refl, sym, ap, _∙_}
+use borrow.Author.Needs.{needs}
+use Rattle.observations.proofs.Laws.{Filling, filling-none, filling-more, filling-all, starting-adding, starting-evict}
 use Rattle.observations.proofs.add_all.Statement.{statement}
 use Rattle.observations.proofs.add_all.Tie as tie
-use Rattle.observations.proofs.add_all.Reads as reads
-use Rattle.observations.proofs.add_all.Lts as lts
-use Rattle.observations.proofs.add.Reads as add-reads
 
 abbrev Inv-loop : tie.InvT-loop
 Inv-loop st₀ n m b host item₀ st item = Filling n m b host st₀ item st
@@ -16,35 +13,32 @@ Inv-loop st₀ n m b host item₀ st item = Filling n m b host st₀ item st
 abbrev μ-loop : tie.MeasureT-loop
 μ-loop st₀ n m b host item₀ st item = m - item
 
--- src/lib.rt:201:5
 loop-holds : tie.Need-loop-holds Inv-loop μ-loop
 loop-holds c = filling-none _ _ _ _ _ (c .before .pre)
 
--- src/lib.rt:202:32
 mul-add : tie.Need-mul-add Inv-loop μ-loop
 mul-add c = search needs
 
--- src/lib.rt:202:9
 add-requires : tie.Need-add-requires Inv-loop μ-loop
-add-requires c κs = (starting-adding (c .before .before .loop .inv .starting) (c .before .loop-test .taken), (starting-evict (c .before .before .loop .inv .starting), (omega arith, c .before .loop-test .taken)))
+add-requires c κs =
+    let l = c .before .before .loop .inv .starting in
+    let t = c .before .loop-test .taken in
+    (starting-adding l t, (starting-evict l, (omega arith, t)))
 
--- src/lib.rt:203:9
 add-item : tie.Need-add-item Inv-loop μ-loop
 add-item c = search needs
 
--- src/lib.rt:201:5
 loop-less : tie.Need-loop-less Inv-loop μ-loop
 loop-less c = omega arith
 
--- src/lib.rt:201:5
 loop-again : tie.Need-loop-again Inv-loop μ-loop
-loop-again c = filling-more (c .before .before .before .before .before .loop .inv) (c .before .before .before .before .loop-test .taken) (c .before .before .add .ensures)
+loop-again c =
+    let t = c .before .before .before .before in
+    filling-more (t .before .loop .inv) (t .loop-test .taken) (c .before .before .add .ensures)
 
--- src/lib.rt:196:1
 same-length : tie.Need-same-length Inv-loop μ-loop
 same-length c = c .before .loop .inv .starting .len ∙ sym (c .before .before .before .pre .len)
 
--- src/lib.rt:196:1
 returns : tie.Need-returns Inv-loop μ-loop
 returns c = filling-all (c .before .loop .inv) (c .loop-test .left)
 

@@ -1,18 +1,14 @@
-use Prim.Native.Nat.{ℕ}
-use mathlib.Core.List.{List, append-nil}
-use lib.ListN.{set}
-use lib.Seq.{drop-length}
-use Prim.Native.Nat.{_≤_, _-_}
+-- Invariant: i zeros, then what stood there. Measure: the words left.
+use Prim.Native.Nat.{ℕ, _≤_, _-_}
+use mathlib.Core.List.{List, append-nil, _++_}
 use mathlib.Core.Path.{_≡_, refl, _∙_, ap}
-use mathlib.Core.List.{_++_}
 use native.Mathlib.Omega.{arith}
+use lib.ListN.{set, length, length-set, replicate, drop}
+use lib.Seq.{drop-length}
 use borrow.Author.Needs.{needs}
 use borrow.Author.Fill.{fill-none, fill-more}
-use lib.ListN.{length, length-set, replicate, drop}
 use Rattle.observations.proofs.clear.Statement.{statement}
 use Rattle.observations.proofs.clear.Tie as tie
-use Rattle.observations.proofs.clear.Reads as reads
-use Rattle.observations.proofs.clear.Lts as lts
 
 abbrev Inv-loop : tie.InvT-loop
 Inv-loop st₀ i₀ st i = (i ≤ length st₀) × (length st ≡ length st₀) × (st ≡ replicate i 0 ++ drop i st₀)
@@ -20,39 +16,32 @@ Inv-loop st₀ i₀ st i = (i ≤ length st₀) × (length st ≡ length st₀) 
 abbrev μ-loop : tie.MeasureT-loop
 μ-loop st₀ i₀ st i = length st₀ - i
 
--- src/lib.rt:13:5
 loop-holds : tie.Need-loop-holds Inv-loop μ-loop
 loop-holds c = (omega arith, refl, fill-none _ 0)
 
--- src/lib.rt:14:9
 mul-st : tie.Need-mul-st Inv-loop μ-loop
 mul-st c = search needs
 
--- src/lib.rt:14:9
 slice-write-st : tie.Need-slice-write-st Inv-loop μ-loop
 slice-write-st c = search needs
 
--- src/lib.rt:15:9
 add-i : tie.Need-add-i Inv-loop μ-loop
 add-i c = search needs
 
--- src/lib.rt:13:5
 loop-less : tie.Need-loop-less Inv-loop μ-loop
 loop-less c = omega arith
 
--- src/lib.rt:13:5
 loop-again : tie.Need-loop-again Inv-loop μ-loop
 loop-again c =
-    let l = c .before .loop in
-    (omega arith,
-    length-set (l .st) (l .i) 0 ∙ l .inv .1,
-    ap (λ (x : List ℕ). set x (l .i) 0) (l .inv .2) ∙ fill-more (l .i) 0 _ (omega arith))
+    let l = c .before .loop in (
+      omega arith,
+      length-set (l .st) (l .i) 0 ∙ l .inv .1,
+      ap (λ (x : List ℕ). set x (l .i) 0) (l .inv .2) ∙ fill-more (l .i) 0 _ (omega arith),
+    )
 
--- src/lib.rt:9:1
 same-length : tie.Need-same-length Inv-loop μ-loop
 same-length c = search needs
 
--- src/lib.rt:9:1
 returns : tie.Need-returns Inv-loop μ-loop
 returns c =
     let l = c .before .loop in

@@ -1,87 +1,64 @@
-use Rattle.observations.proofs.Laws.{no-head, head-by-length}
+-- Each refusal rules a right head out; after all other tests the length decides.
 use native.Mathlib.Omega.{arith}
-use lib.ListN.{length, getD}
-use Prim.Native.Nat.{ℕ, _+_, _-_, _≤_, _<_}
-use mathlib.Core.Path.{_≡_, refl, sym, ap, _∙_}
 use borrow.Author.Needs.{needs}
+use Rattle.observations.proofs.Laws.{no-head, head-by-length}
 use Rattle.observations.proofs.head_ok.Statement.{statement}
 use Rattle.observations.proofs.head_ok.Tie as tie
-use Rattle.observations.proofs.head_ok.Reads as reads
-use Rattle.observations.proofs.head_ok.Lts as lts
 
--- src/lib.rt:21:9
 returns : tie.Need-returns
 returns c = no-head _ _ (λ h. omega arith)
 
--- src/lib.rt:23:13
 shared-slice-read-n : tie.Need-shared-slice-read-n
 shared-slice-read-n c = search needs
 
--- src/lib.rt:25:9
 returns-2 : tie.Need-returns-2
 returns-2 c = no-head _ _ (λ h. omega arith)
 
--- src/lib.rt:28:9
 returns-3 : tie.Need-returns-3
 returns-3 c = no-head _ _ (λ h. omega arith)
 
--- src/lib.rt:30:8
 shared-slice-read-if4 : tie.Need-shared-slice-read-if4
 shared-slice-read-if4 c = search needs
 
--- src/lib.rt:31:9
 returns-4 : tie.Need-returns-4
 returns-4 c = no-head _ _ (λ h. omega arith)
 
--- src/lib.rt:33:13
 shared-slice-read-b : tie.Need-shared-slice-read-b
 shared-slice-read-b c = search needs
 
--- src/lib.rt:35:9
 returns-5 : tie.Need-returns-5
 returns-5 c = no-head _ _ (λ h. omega arith)
 
--- src/lib.rt:39:9
 returns-6 : tie.Need-returns-6
 returns-6 c = no-head _ _ (λ h. omega arith)
 
--- src/lib.rt:41:16
 shared-slice-read-last : tie.Need-shared-slice-read-last
 shared-slice-read-last c = search needs
 
--- src/lib.rt:43:9
 returns-7 : tie.Need-returns-7
 returns-7 c = no-head _ _ (λ h. omega arith)
 
--- src/lib.rt:45:8
 add-if8 : tie.Need-add-if8
 add-if8 c = search needs
 
--- src/lib.rt:45:19
 add-if8-2 : tie.Need-add-if8-2
 add-if8-2 c = search needs
 
--- src/lib.rt:46:9
 returns-8 : tie.Need-returns-8
 returns-8 c = no-head _ _ (λ h. omega arith)
 
--- src/lib.rt:48:30
 mul-result : tie.Need-mul-result
 mul-result c = search needs
 
--- src/lib.rt:48:26
 add-result : tie.Need-add-result
 add-result c = search needs
 
--- src/lib.rt:48:38
 mul-result-2 : tie.Need-mul-result-2
 mul-result-2 c = search needs
 
--- src/lib.rt:48:26
 add-result-2 : tie.Need-add-result-2
 add-result-2 c = search needs
 
--- src/lib.rt:16:1
 returns-9 : tie.Need-returns-9
 returns-9 c = head-by-length _ _ (omega arith) (omega arith) (omega arith) (omega arith) (omega arith) (omega arith)
 
