@@ -140,15 +140,9 @@ fn evict(st: &mut [u64], n: u64, m: u64, b: u64, s: u64)
         let p = place(n, b, s);
         let time = st[(4 + p) as usize];
         let word = st[(4 + n + p) as usize];
-        put_three(
-            st,
-            (4 + 2 * n + 3 * m) as usize,
-            m as usize,
-            item_of(word) as usize,
-            s - n,
-            time,
-            word,
-        );
+        let item = item_of(word) as usize;
+        let checkpoint = (4 + 2 * n + 3 * m) as usize;
+        put_three(st, checkpoint, m as usize, item, s - n, time, word);
     }
 }
 
@@ -167,15 +161,8 @@ pub fn add(st: &mut [u64], m: u64, item: u64, time: u64, word: u64)
     evict(st, n, m, b, s);
     let p = place(n, b, s);
     put_two(st, 4, n as usize, p as usize, time, word);
-    put_three(
-        st,
-        (4 + 2 * n) as usize,
-        m as usize,
-        item as usize,
-        s,
-        time,
-        word,
-    );
+    let latest = (4 + 2 * n) as usize;
+    put_three(st, latest, m as usize, item as usize, s, time, word);
     st[3] = s;
 }
 

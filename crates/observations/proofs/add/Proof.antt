@@ -38,11 +38,11 @@ place-requires c κs = search needs
 put-two-requires : tie.Need-put-two-requires
 put-two-requires c κs = search needs
 
-mul-put-three : tie.Need-mul-put-three
-mul-put-three c = search needs
+mul-latest : tie.Need-mul-latest
+mul-latest c = search needs
 
-add-put-three : tie.Need-add-put-three
-add-put-three c = search needs
+add-latest : tie.Need-add-latest
+add-latest c = search needs
 
 put-three-requires : tie.Need-put-three-requires
 put-three-requires c κs = search needs
@@ -71,8 +71,8 @@ add-spec =
     evict-requires
     place-requires
     put-two-requires
-    mul-put-three
-    add-put-three
+    mul-latest
+    add-latest
     put-three-requires
     slice-write-st
     same-length

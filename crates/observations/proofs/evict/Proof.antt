@@ -32,41 +32,42 @@ mul-word c = search needs
 slice-read-word : tie.Need-slice-read-word
 slice-read-word c = search needs
 
-mul-put-three : tie.Need-mul-put-three
-mul-put-three c = search needs
-
-add-put-three : tie.Need-add-put-three
-add-put-three c = search needs
-
-mul-put-three-2 : tie.Need-mul-put-three-2
-mul-put-three-2 c = search needs
-
-add-put-three-2 : tie.Need-add-put-three-2
-add-put-three-2 c = search needs
-
 item-of-requires : tie.Need-item-of-requires
 item-of-requires c κs = search needs
+
+mul-checkpoint : tie.Need-mul-checkpoint
+mul-checkpoint c = search needs
+
+add-checkpoint : tie.Need-add-checkpoint
+add-checkpoint c = search needs
+
+mul-checkpoint-2 : tie.Need-mul-checkpoint-2
+mul-checkpoint-2 c = search needs
+
+add-checkpoint-2 : tie.Need-add-checkpoint-2
+add-checkpoint-2 c = search needs
 
 sub-put-three : tie.Need-sub-put-three
 sub-put-three c = search needs
 
 put-three-requires : tie.Need-put-three-requires
 put-three-requires c κs =
-    let p = c .before .before .before .before in
-    let z = p .before .before .before in
-    (item-below _ _ _ _ _ _ _ (p .place .ensures .0) (c .item-of .ensures) (z .pre .ok) (p .before .if1 .taken), omega arith)
+    let i = c .before in
+    let p = i .before .before .before in
+    let ok = p .before .before .before .pre .ok in
+    (item-below _ _ _ _ _ _ _ (p .place .ensures .0) (i .item-of .ensures) ok (omega arith), omega arith)
 
 same-length : tie.Need-same-length
 same-length c = search needs
 
 returns : tie.Need-returns
 returns c =
-    let i = c .before .before .before in
-    let p = i .before .before .before .before in
-    evicted _ _ _ _ _ _ _ (p .place .ensures .0) (i .item-of .ensures) _ (p .before .if1 .taken) (c .before .before .put-three .ensures)
+    let i = c .before .before .before .before in
+    let p = i .before .before .before in
+    evicted _ _ _ _ _ _ _ (p .place .ensures .0) (i .item-of .ensures) _ (omega arith) (c .before .before .put-three .ensures)
 
 returns-2 : tie.Need-returns-2
-returns-2 c = not-evicted _ _ _ _ _ (c .if1 .left)
+returns-2 c = not-evicted _ _ _ _ _ (omega arith)
 
 pub evict-spec : {M : Type 1} → statement M
 evict-spec =
@@ -81,11 +82,11 @@ evict-spec =
     add-word-2
     mul-word
     slice-read-word
-    mul-put-three
-    add-put-three
-    mul-put-three-2
-    add-put-three-2
     item-of-requires
+    mul-checkpoint
+    add-checkpoint
+    mul-checkpoint-2
+    add-checkpoint-2
     sub-put-three
     put-three-requires
     same-length

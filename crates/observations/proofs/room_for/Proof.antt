@@ -1,4 +1,5 @@
 -- One law to each branch.
+use native.Mathlib.Omega.{arith}
 use borrow.Author.Needs.{needs}
 use Rattle.observations.proofs.Laws.{room-spent, room-unused, room-used, room-broken}
 use Rattle.observations.proofs.room_for.Statement.{statement}
@@ -16,7 +17,7 @@ shared-slice-read-last c = search needs
 returns : tie.Need-returns
 returns c =
     let a = c .before .before .before .before .before .args in
-    room-spent (a .st .now) (a .m) (c .if1 .taken)
+    room-spent (a .st .now) (a .m) (omega arith)
 
 add-if2 : tie.Need-add-if2
 add-if2 c = search needs
@@ -27,7 +28,7 @@ sub-if2 c = search needs
 returns-2 : tie.Need-returns-2
 returns-2 c =
     let a = c .before .before .before .before .before .before .args in
-    room-unused (a .st .now) (a .m) (c .before .if1 .left) (c .if2 .taken)
+    room-unused (a .st .now) (a .m) (omega arith) (omega arith)
 
 add-place : tie.Need-add-place
 add-place c = search needs
@@ -55,14 +56,14 @@ returns-3 c =
     let p = c .before .before .before in
     let z = p .before .before in
     let a = z .before .before .before .before .before .args in
-    room-used (a .st .now) (a .m) _ _ (z .if1 .left) (p .before .if2 .left) (p .place .ensures .0) (c .before .item-of .ensures) (c .if3 .taken)
+    room-used (a .st .now) (a .m) _ _ (omega arith) (omega arith) (p .place .ensures .0) (c .before .item-of .ensures) (omega arith)
 
 returns-4 : tie.Need-returns-4
 returns-4 c =
     let p = c .before .before .before in
     let z = p .before .before in
     let a = z .before .before .before .before .before .args in
-    room-broken (a .st .now) (a .m) _ _ (z .if1 .left) (p .before .if2 .left) (p .place .ensures .0) (c .before .item-of .ensures) (c .if3 .left)
+    room-broken (a .st .now) (a .m) _ _ (omega arith) (omega arith) (p .place .ensures .0) (c .before .item-of .ensures) (omega arith)
 
 pub room-for-spec : {M : Type 1} → statement M
 room-for-spec =
