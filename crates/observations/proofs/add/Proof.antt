@@ -1,0 +1,79 @@
+-- Eviction, ring, latest and last are written in the definition's order.
+use native.Mathlib.Numerals.{add-one}
+use native.Mathlib.Omega.{arith}
+use lib.ListN.{length-set}
+use borrow.Author.Needs.{needs}
+use Rattle.spec.specs.Observations.{last}
+use Rattle.observations.proofs.Laws.{added}
+use Rattle.observations.proofs.add.Statement.{statement}
+use Rattle.observations.proofs.add.Tie as tie
+
+slice-read-n : tie.Need-slice-read-n
+slice-read-n c = search needs
+
+slice-read-b : tie.Need-slice-read-b
+slice-read-b c = search needs
+
+slice-read-last : tie.Need-slice-read-last
+slice-read-last c = search needs
+
+add-s : tie.Need-add-s
+add-s c = search needs
+
+evict-requires : tie.Need-evict-requires
+evict-requires c κs =
+    let z = c .before .before .before .before .before in
+    record {
+      n-pos = omega arith;
+      n-max = omega arith;
+      m-max = omega arith;
+      b-s = omega arith;
+      len = z .pre .0 .len;
+      ok = rw (add-one (last (z .args .st .now))) (z .pre .1 .0);
+    }
+
+place-requires : tie.Need-place-requires
+place-requires c κs = search needs
+
+put-two-requires : tie.Need-put-two-requires
+put-two-requires c κs = search needs
+
+mul-latest : tie.Need-mul-latest
+mul-latest c = search needs
+
+add-latest : tie.Need-add-latest
+add-latest c = search needs
+
+put-three-requires : tie.Need-put-three-requires
+put-three-requires c κs = search needs
+
+slice-write-st : tie.Need-slice-write-st
+slice-write-st c = search needs
+
+same-length : tie.Need-same-length
+same-length c = simp length-set (omega arith)
+
+returns : tie.Need-returns
+returns c =
+    let l = c .before .before in
+    let r = l .before .before .before .before in
+    let p = r .before .before in
+    added _ _ _ _ _ _ _ _ _ _ _ _ (p .before .before .before .evict .ensures) (p .place .ensures .0) (r .put-two .ensures) (l .put-three .ensures)
+
+pub add-spec : {M : Type 1} → statement M
+add-spec =
+    tie.close
+    (tie.spec
+    slice-read-n
+    slice-read-b
+    slice-read-last
+    add-s
+    evict-requires
+    place-requires
+    put-two-requires
+    mul-latest
+    add-latest
+    put-three-requires
+    slice-write-st
+    same-length
+    returns)

@@ -1,0 +1,44 @@
+-- What an addition, an eviction and a start need of the store.
+use Prim.Native.Nat.{ℕ, suc, _+_, _≤_, _<_}
+use mathlib.Core.Path.{_≡_}
+use mathlib.Core.Bool.{true}
+use mathlib.Core.List.{List}
+use lib.ListN.{length, getD}
+use Rattle.spec.specs.Words.{row}
+use Rattle.spec.specs.Value.{itemOf}
+use Rattle.spec.specs.Observations.{ringSize, base, last, ringAt, storeWords, evictOk}
+
+-- a head whose first numbers may still be missing (start adds to such a one), with a number left to give
+pub record Adding (m : ℕ) (st : List ℕ) : Type 0 where
+  pub n-pos : 1 ≤ ringSize st
+  pub n-max : ringSize st ≤ 131072
+  pub b-last : base st ≤ suc (last st)
+  pub last-max : last st < 9223372036854775807
+  pub len : length st ≡ storeWords (ringSize st) m
+
+-- number s may be added: what it overwrites, if anything, has an item below m
+pub record Overwriting (n m b s : ℕ) (st : List ℕ) : Type 0 where
+  pub n-pos : 1 ≤ n
+  pub n-max : n ≤ 131072
+  pub m-max : m ≤ 64
+  pub b-s : b ≤ s
+  pub len : length st ≡ storeWords n m
+  pub ok : evictOk n m b s st ≡ true
+
+-- the sizes and the first number that start accepts
+pub record Sizes (n m b : ℕ) : Type 0 where
+  pub n-pos : 1 ≤ n
+  pub n-max : n ≤ 131072
+  pub m-pos : 1 ≤ m
+  pub m-max : m ≤ 64
+  pub b-pos : 1 ≤ b
+  pub b-max : b + m ≤ 9223372036854775808
+
+-- start has added the first k items: the head is right so far, and every ring entry has an item below m
+pub record Starting (n m b k : ℕ) (st : List ℕ) : Type 0 where
+  pub sizes : Sizes n m b
+  pub n-is : ringSize st ≡ n
+  pub b-is : base st ≡ b
+  pub last-is : suc (last st) ≡ b + k
+  pub len : length st ≡ storeWords n m
+  pub items : (p : ℕ) → p < n → itemOf (getD (row st ringAt n p 2) 1 0) < m
