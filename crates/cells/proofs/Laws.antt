@@ -28,7 +28,7 @@ writing-more {v} {o} {at} {l} {j} r h x e =
       below = omega arith;
       len = length-set l (at + j) x ∙ r .len;
       rest = r .rest ∙ rw (drop-cons v j 0 h, q, e, add-one j);
-      ahead = rw q (drop-set-lt (suc (at + j)) l (at + j) x (omega arith) ∙ one (r .ahead))
+      ahead = rw q (drop-set-lt (suc (at + j)) l (at + j) x (omega arith) ∙ one (r .ahead));
     }
   where
     one : drop (at + j) l ≡ drop (at + j) o → drop (suc (at + j)) l ≡ drop (suc (at + j)) o
@@ -64,7 +64,7 @@ places w out n h =
     let e : n - 1 ≡ out + (n - 1 - out) = omega arith in
     record {
       whole = ap (λ (x : ℕ). x * w) q ∙ omega (arith, suc-mul (n - 1) w);
-      split = ap (λ (x : ℕ). x * w) e ∙ add-mul out (n - 1 - out) w
+      split = ap (λ (x : ℕ). x * w) e ∙ add-mul out (n - 1 - out) w;
     }
 
 -- two runs, one behind the other, are one
@@ -91,7 +91,7 @@ renew-runs w b out n head s o l₁ l₂ l₃ l₄ h hb hs e₁ e₂ e₃ e₄ =
     let lc : length c ≡ w = omega (arith, length-append (head ++ s) (replicate (w - length (head ++ s)) 0), length-append head s, length-replicate {A = ℕ} (w - length (head ++ s)) 0) in
     let z : w - length head - length s ≡ w - length (head ++ s) = omega (arith, length-append head s) in
     let f : l₄ ≡ sets l₁ (b + (n - 1) * w) c =
-        e₄ ∙ rw (e₃, e₂, z, sets-append l₁ head s (b + (n - 1) * w)) (go (b + (n - 1) * w) l₁ (w - length (head ++ s))) in
+    e₄ ∙ rw (e₃, e₂, z, sets-append l₁ head s (b + (n - 1) * w)) (go (b + (n - 1) * w) l₁ (w - length (head ++ s))) in
     let k : b + (n - 1) * w ≡ at + length moved = omega arith in
     let g : l₄ ≡ sets o at (moved ++ c) = f ∙ rw (e₁, k) (sets-append o moved c at) in
     let t : at + length (moved ++ c) ≡ b + n * w = omega (arith, length-append moved c) in

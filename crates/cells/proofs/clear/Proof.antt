@@ -32,7 +32,7 @@ loop-less : tie.Need-loop-less Inv-loop μ-loop
 loop-less c = omega arith
 
 loop-again : tie.Need-loop-again Inv-loop μ-loop
-loop-again c = 
+loop-again c =
     let l = c .before .loop in
     let n = c .before .before .args .n in
     writing-more (l .inv) (omega (arith, length-replicate {A = ℕ} n 0)) 0 (sym (getD-replicate {A = ℕ} n (l .j) 0 0 (omega arith)))

@@ -42,7 +42,7 @@ loop-less : tie.Need-loop-less Inv-loop μ-loop
 loop-less c = omega arith
 
 loop-again : tie.Need-loop-again Inv-loop μ-loop
-loop-again c = 
+loop-again c =
     let l = c .before .before .loop in
     let z = c .before .before .before .args in
     let e = part-length (z .at + z .gap) (z .n) (z .bs .now) (omega arith) in
@@ -52,7 +52,7 @@ same-length : tie.Need-same-length Inv-loop μ-loop
 same-length c = search needs
 
 returns : tie.Need-returns Inv-loop μ-loop
-returns c = 
+returns c =
     let z = c .before .before .args in
     let e = part-length (z .at + z .gap) (z .n) (z .bs .now) (omega arith) in
     writing-all (c .before .loop .inv) (omega arith)
