@@ -10,3 +10,6 @@ pub mod Assets
 pub mod Reply
 pub mod Answers
 pub mod Calls
+pub mod Reference
+pub mod History
+pub mod Bench
