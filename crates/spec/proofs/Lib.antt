@@ -8,4 +8,5 @@ pub mod Model
 pub mod Text
 pub mod Path
 pub mod Observations
+pub mod Assets
 pub mod Bench
