@@ -1,2 +1,2 @@
 -- What callers of the asset store's functions are told beside the definitions of spec.
-pub mod Bounds
+pub mod Cells

@@ -1,4 +1,4 @@
--- The asset head's test and the facts that it stands for are the same thing; the cell that is found is at most u.
+-- The asset head's test and the facts that it stands for are the same thing; bounds of ids, bodies and cells.
 use Prim.Native.Nat.{ℕ, zero, suc, _+_, _-_, _*_, _≤_, _<_}
 use mathlib.Core.Path.{_≡_, refl, sym, ap, _∙_}
 use mathlib.Core.Bool.{Bool, true, false, cond, _&&_}
@@ -9,7 +9,7 @@ use lib.ListN.{length, getD}
 use borrow.Author.Tests.{leb-true, eqb-true, le-leb, eq-eqb, ltb-true, ltb-false, eqb-false}
 use Rattle.spec.specs.Words.{firstWhere}
 use Rattle.spec.specs.Bytes.{same}
-use Rattle.spec.specs.Assets.{capacity, used, maxAssets, storeBytes, idsAt, cell, idCell, assetHeadOk, AssetHead, idOk, find, givenUp, usedAfter}
+use Rattle.spec.specs.Assets.{capacity, used, maxAssets, storeBytes, idsAt, cell, idCell, assetHeadOk, AssetHead, idOk, bodyOk, assetOk, find, givenUp, usedAfter}
 use Rattle.spec.proofs.Words.{and-left, and-right, not-so, by-cond, first-max}
 
 pub asset-head : (bs : List ℕ) → assetHeadOk bs ≡ true → AssetHead bs
@@ -30,6 +30,19 @@ asset-head-ok bs h = simp (le-leb _ _ (h .a-pos), le-leb _ _ (h .a-max), le-leb 
 
 pub no-asset-head : (bs : List ℕ) → (AssetHead bs → ⊥) → false ≡ assetHeadOk bs
 no-asset-head bs h = not-so (assetHeadOk bs) (λ e. h (asset-head bs e))
+
+-- what refusal 14 lets through
+pub id-max : (id : List ℕ) → idOk id ≡ true → length id ≤ 32
+unfolding idOk
+id-max id e = leb-true _ _ (and-left _ _ (and-right (leb 1 (length id)) _ e))
+
+pub asset-id : (id body : List ℕ) → assetOk id body ≡ true → idOk id ≡ true
+unfolding assetOk
+asset-id id body e = and-left _ _ e
+
+pub body-max : (id body : List ℕ) → assetOk id body ≡ true → length body ≤ 510
+unfolding assetOk bodyOk
+body-max id body e = leb-true _ _ (and-right (leb 1 (length body)) _ (and-right (idOk id) _ e))
 
 pub find-max : (bs id : List ℕ) → find bs id ≤ used bs
 unfolding find

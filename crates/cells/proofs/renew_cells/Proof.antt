@@ -21,6 +21,12 @@ mul-last c = let z = c .before .before .before .args in let p = places (z .w) (z
 add-last : tie.Need-add-last
 add-last c = let z = c .before .before .before .args in let p = places (z .w) (z .out) (z .n) (omega arith) in omega arith
 
+sub-left : tie.Need-sub-left
+sub-left c = search needs
+
+sub-left-2 : tie.Need-sub-left-2
+sub-left-2 c = search needs
+
 mul-move-down : tie.Need-mul-move-down
 mul-move-down c = let z = c .before .before .before .before .args in let p = places (z .w) (z .out) (z .n) (omega arith) in omega arith
 
@@ -54,12 +60,6 @@ add-clear c = let z = c .before .before .before .before .before .before .before 
 add-clear-2 : tie.Need-add-clear-2
 add-clear-2 c = let z = c .before .before .before .before .before .before .before .before .before .before .before .before .before .before .before .before .args in let p = places (z .w) (z .out) (z .n) (omega arith) in omega arith
 
-sub-clear : tie.Need-sub-clear
-sub-clear c = search needs
-
-sub-clear-2 : tie.Need-sub-clear-2
-sub-clear-2 c = search needs
-
 clear-requires : tie.Need-clear-requires
 clear-requires c κs = let z = c .before .before .before .before .before .before .before .before .before .before .before .before .before .before .before .before .args in let p = places (z .w) (z .out) (z .n) (omega arith) in omega arith
 
@@ -76,6 +76,8 @@ renew-cells-spec =
     sub-last
     mul-last
     add-last
+    sub-left
+    sub-left-2
     mul-move-down
     add-move-down
     sub-move-down
@@ -87,8 +89,6 @@ renew-cells-spec =
     write-requires-2
     add-clear
     add-clear-2
-    sub-clear
-    sub-clear-2
     clear-requires
     same-length
     returns)

@@ -1,0 +1,22 @@
+use lib.ListN.{List·getD-eq-default}
+use native.Mathlib.Omega.{arith}
+use lib.ListN.{length, getD}
+use Prim.Native.Nat.{ℕ, _+_, _-_, _≤_, _<_}
+use mathlib.Core.Path.{_≡_, refl, sym, ap, _∙_}
+use borrow.Author.Needs.{needs}
+use Rattle.assets.proofs.byte_or_zero.Statement.{statement}
+use Rattle.assets.proofs.byte_or_zero.Tie as tie
+use Rattle.assets.proofs.byte_or_zero.Reads as reads
+use Rattle.assets.proofs.byte_or_zero.Lts as lts
+
+shared-slice-read-result : tie.Need-shared-slice-read-result
+shared-slice-read-result c = search needs
+
+returns : tie.Need-returns
+returns c = search needs
+
+returns-2 : tie.Need-returns-2
+returns-2 c = sym (List·getD-eq-default (c .before .args .s .now) 0 (c .if1 .left))
+
+pub byte-or-zero-spec : {M : Type 1} → statement M
+byte-or-zero-spec = tie.close (tie.spec shared-slice-read-result returns returns-2)
