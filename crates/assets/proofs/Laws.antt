@@ -1,18 +1,17 @@
 -- The asset store's definitions, as the code reads and writes them.
 use Prim.Native.Nat.{ℕ, zero, suc, _+_, _-_, _*_, _≤_, _<_}
 use mathlib.Core.Path.{_≡_, refl, sym, ap, _∙_}
-use mathlib.Core.Bool.{Bool, true, false, cond, _&&_, false≢true}
+use mathlib.Core.Bool.{Bool, true, false, _&&_, false≢true}
 use mathlib.Core.List.{List, [], _∷_, _++_, append-nil}
 use native.Mathlib.Omega.{arith}
+use borrow.Author.Tests.{le-leb, leb-true, ltb-true, lt-ltb, le-ltb}
 use lib.Dec.{leb, ltb, eqb}
 use lib.ListN.{length, getD, set, take, drop, replicate, length-append, length-replicate, length-drop, drop-of-length-le}
 use lib.Seq.{sets, sets-eq, length-take-le}
-use borrow.Author.Tests.{le-leb, leb-true, ltb-true, lt-ltb}
 use Rattle.spec.specs.Bytes.{same, pad}
-use Rattle.spec.specs.Assets.{capacity, used, assetHeadOk, storeBytes, startAssets, lengthAt, idsAt, cell, idCell, idOk, find, lengthOk, bodyPlace, AssetHead, bodyCell, renew, givenUp, usedAfter, outFor, cellFor, storeCells}
+use Rattle.spec.specs.Assets.{capacity, used, assetHeadOk, storeBytes, startAssets, lengthAt, idsAt, cell, idCell, idOk, find, lengthOk, bodyPlace, AssetHead, bodyCell, renew, usedAfter, outFor, cellFor, storeCells}
 use Rattle.spec.proofs.Assets.{given-up-room, given-up-max, used-after-more, used-after-max}
 use Rattle.assets.specs.Cells.{withAsset}
-use Rattle.spec.specs.declared.Place.{Place}
 use Rattle.spec.specs.declared.Place.the-variants.{At, Nothing}
 use Rattle.spec.specs.Words.{firstWhere}
 use Rattle.spec.proofs.Words.{and-left, and-right, not-so, first-here, first-on, first-end}
@@ -49,7 +48,7 @@ start-is bs l a h e =
     let n = length-replicate {A = ℕ} (length bs) 0 in
     let k : length bs ≤ 0 + length (replicate {A = ℕ} (length bs) 0) = omega arith in
     let z : l ≡ replicate (length bs) 0 =
-        e ∙ sets-eq (replicate (length bs) 0) bs 0 (omega arith) ∙ rw (drop-of-length-le bs k) (append-nil (replicate (length bs) 0)) in
+    e ∙ sets-eq (replicate (length bs) 0) bs 0 (omega arith) ∙ rw (drop-of-length-le bs k) (append-nil (replicate (length bs) 0)) in
     let q : length bs ≡ suc (suc (a * 544)) = omega arith in
     rw (z, q)
 
@@ -122,9 +121,9 @@ unfolding bodyPlace
 no-place bs id h =
     let i = find bs id in
     let z = not-so
-        (assetHeadOk bs && (ltb i (used bs) && lengthOk (lengthAt bs i)))
-        (λ e. let e1 = and-right (assetHeadOk bs) _ e in
-            h (and-left _ _ e) (ltb-true _ _ (and-left _ _ e1)) (and-right (ltb i (used bs)) _ e1)) in
+    (assetHeadOk bs && (ltb i (used bs) && lengthOk (lengthAt bs i)))
+    (λ e. let e1 = and-right (assetHeadOk bs) _ e in
+    h (and-left _ _ e) (ltb-true _ _ (and-left _ _ e1)) (and-right (ltb i (used bs)) _ e1)) in
     rw (sym z)
 
 pub place-is : (bs id : List ℕ) (i a n : ℕ) → assetHeadOk bs ≡ true → i ≡ find bs id → i < used bs → a ≡ capacity bs → n ≡ lengthAt bs i → lengthOk n ≡ true
@@ -144,25 +143,34 @@ pub with-asset-is : (out n a : ℕ) (id body o l₁ l₂ : List ℕ) → a ≡ c
 unfolding withAsset
 with-asset-is out n a id body o l₁ l₂ ea e₁ e₂ = rw (e₂, e₁, ea)
 
--- the numbers that store reads and works out
+-- the cell that is given up, by what the code reads
+module _ (bs id : List ℕ) (u i : ℕ) (eu : u ≡ used bs) (ei : i ≡ find bs id) where
+  pub out-found : i < u → i ≡ outFor id bs
+  out-found h = rw (← eu, ← ei, lt-ltb i u h)
+
+  pub out-free : (a : ℕ) → a ≡ capacity bs → u ≤ i → u < a → u ≡ outFor id bs
+  out-free a ea h g = rw (← eu, ← ei, ← ea, le-ltb i u h, lt-ltb u a g)
+
+  pub out-oldest : (a : ℕ) → a ≡ capacity bs → u ≤ i → a ≤ u → 0 ≡ outFor id bs
+  out-oldest a ea h g = rw (← eu, ← ei, ← ea, le-ltb i u h, le-ltb u a g)
+
+-- the numbers that store works out
 pub record Renewal (bs id : List ℕ) (out n : ℕ) : Type 0 where
   pub out-is : out ≡ outFor id bs
   pub n-is : n ≡ usedAfter (used bs) (outFor id bs)
   pub more : out < n
   pub most : n ≤ capacity bs
 
-pub renewal : (bs id : List ℕ) (a u i out n : ℕ) → AssetHead bs → a ≡ capacity bs → u ≡ used bs → i ≡ find bs id → out ≡ givenUp a u i → n ≡ usedAfter u out
-    → Renewal bs id out n
-renewal bs id a u i out n h ea eu ei eo en =
-    let o : out ≡ outFor id bs = rw (eo, ea, eu, ei) in
+pub renewal : (bs id : List ℕ) (u out n : ℕ) → AssetHead bs → u ≡ used bs → out ≡ outFor id bs → n ≡ usedAfter u out → Renewal bs id out n
+renewal bs id u out n h eu eo en =
     let r = given-up-room (capacity bs) (used bs) (find bs id) (h .a-pos) (h .u-max) in
     let m = given-up-max (capacity bs) (used bs) (find bs id) (h .a-pos) (h .u-max) in
-    let k : n ≡ usedAfter (used bs) (outFor id bs) = rw (en, o, eu) in
+    let k : n ≡ usedAfter (used bs) (outFor id bs) = rw (en, eo, eu) in
     record {
-      out-is = o;
+      out-is = eo;
       n-is = k;
-      more = rw (k, o) (used-after-more (capacity bs) (used bs) (outFor id bs) r m (h .u-max));
-      most = rw k (used-after-max (capacity bs) (used bs) (outFor id bs) r m (h .u-max))
+      more = rw (k, eo) (used-after-more (capacity bs) (used bs) (outFor id bs) r m (h .u-max));
+      most = rw k (used-after-max (capacity bs) (used bs) (outFor id bs) r m (h .u-max));
     }
 
 pub store-is : (bs id body l : List ℕ) (out n : ℕ) → Renewal bs id out n → l ≡ withAsset out n id body bs → l ≡ storeCells id body bs

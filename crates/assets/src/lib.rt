@@ -71,11 +71,7 @@ pub fn asset_ok(id: &[u8], body: &[u8]) -> bool
 fn byte_or_zero(s: &[u8], j: usize) -> u8
     ensures { λ r. ⌜ r ≡ getD (now (s .entry)) j 0 ⌝ }
 {
-    if j < s.len() {
-        s[j]
-    } else {
-        0
-    }
+    if j < s.len() { s[j] } else { 0 }
 }
 
 // Whether a cell is the bytes of s, zero padded.
@@ -167,14 +163,17 @@ pub fn start(bs: &mut [u8], a: u64)
     bs[0] = a as u8;
 }
 
-// The cell that is given up: the one found, none (u) while there is room, or the oldest.
-fn given_up(a: u64, u: u64, i: u64) -> u64
-    ensures { λ r. ⌜ r ≡ spec.givenUp a u i ⌝ }
+// The cell that is given up: the one that holds the id, none (u) while there is room, or the oldest.
+fn out_for(bs: &[u8], id: &[u8]) -> u64
+    requires { ⌜ AssetHead (now bs) ⌝ }
+    ensures { λ r. ⌜ r ≡ spec.outFor (now (id .entry)) (now (bs .entry)) ⌝ }
 {
+    let u = wide(bs[1]);
+    let i = find(bs, id);
     if i < u {
         return i;
     }
-    if u < a {
+    if u < wide(bs[0]) {
         return u;
     }
     0
@@ -185,11 +184,7 @@ fn used_after(u: u64, out: u64) -> u64
     requires { ⌜ u < 256 ⌝ }
     ensures { λ r. ⌜ r ≡ spec.usedAfter u out ⌝ }
 {
-    if out == u {
-        u + 1
-    } else {
-        u
-    }
+    if out == u { u + 1 } else { u }
 }
 
 // Of n used cells, cell `out` is given up, and the asset goes into the last one.
@@ -213,9 +208,8 @@ pub fn store(bs: &mut [u8], id: &[u8], body: &[u8]) -> u64
     ensures { λ r. ⌜ now (bs .exit) ≡ spec.storeCells (now (id .entry)) (now (body .entry)) (now (bs .entry)) ⌝ }
     ensures { λ r. ⌜ r ≡ spec.cellFor (now (id .entry)) (now (bs .entry)) ⌝ }
 {
-    let u = wide(bs[1]);
-    let out = given_up(wide(bs[0]), u, find(bs, id));
-    let n = used_after(u, out);
+    let out = out_for(bs, id);
+    let n = used_after(wide(bs[1]), out);
     put_asset(bs, out, n, id, body);
     n - 1
 }

@@ -1,16 +1,11 @@
+-- Behind the id the length of the body decides, as a stored length is tested.
+use Prim.Native.Nat.{_-_}
+use mathlib.Core.Path.{sym, _∙_}
 use borrow.Author.Tests.{not-true, not-false}
-use Rattle.spec.specs.Assets.{assetOk, bodyOk, lengthOk}
-use native.Mathlib.Omega.{arith}
-use lib.ListN.{length, getD}
-use Prim.Native.Nat.{ℕ, _+_, _-_, _≤_, _<_}
-use mathlib.Core.Path.{_≡_, refl, sym, ap, _∙_}
 use borrow.Author.Needs.{needs}
+use Rattle.spec.specs.Assets.{assetOk, bodyOk, lengthOk}
 use Rattle.assets.proofs.asset_ok.Statement.{statement}
 use Rattle.assets.proofs.asset_ok.Tie as tie
-use Rattle.assets.proofs.asset_ok.Reads as reads
-use Rattle.assets.proofs.asset_ok.Lts as lts
-use Rattle.assets.proofs.id_ok.Reads as id-ok-reads
-use Rattle.assets.proofs.length_ok.Reads as length-ok-reads
 
 id-ok-requires : tie.Need-id-ok-requires
 id-ok-requires c κs = search needs

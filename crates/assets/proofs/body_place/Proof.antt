@@ -1,18 +1,13 @@
+-- A wrong head gives nothing; behind the test the head is right.
+use Prim.Native.Nat.{_-_}
 use mathlib.Core.Bool.{false≢true}
+use mathlib.Core.Path.{sym, _∙_}
 use borrow.Author.Tests.{not-true, not-false}
+use borrow.Author.Needs.{needs}
 use Rattle.spec.proofs.Assets.{asset-head}
 use Rattle.assets.proofs.Laws.{no-place}
-use native.Mathlib.Omega.{arith}
-use lib.ListN.{length, getD}
-use Prim.Native.Nat.{ℕ, _+_, _-_, _≤_, _<_}
-use mathlib.Core.Path.{_≡_, refl, sym, ap, _∙_}
-use borrow.Author.Needs.{needs}
 use Rattle.assets.proofs.body_place.Statement.{statement}
 use Rattle.assets.proofs.body_place.Tie as tie
-use Rattle.assets.proofs.body_place.Reads as reads
-use Rattle.assets.proofs.body_place.Lts as lts
-use Rattle.assets.proofs.head_ok.Reads as head-ok-reads
-use Rattle.assets.proofs.place_in.Reads as place-in-reads
 
 head-ok-requires : tie.Need-head-ok-requires
 head-ok-requires c κs = search needs

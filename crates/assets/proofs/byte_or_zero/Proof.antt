@@ -1,13 +1,10 @@
-use lib.ListN.{List·getD-eq-default}
-use native.Mathlib.Omega.{arith}
-use lib.ListN.{length, getD}
-use Prim.Native.Nat.{ℕ, _+_, _-_, _≤_, _<_}
-use mathlib.Core.Path.{_≡_, refl, sym, ap, _∙_}
+-- Behind the end a read gives the default.
+use Prim.Native.Nat.{_-_}
+use mathlib.Core.Path.{sym}
 use borrow.Author.Needs.{needs}
+use lib.ListN.{List·getD-eq-default}
 use Rattle.assets.proofs.byte_or_zero.Statement.{statement}
 use Rattle.assets.proofs.byte_or_zero.Tie as tie
-use Rattle.assets.proofs.byte_or_zero.Reads as reads
-use Rattle.assets.proofs.byte_or_zero.Lts as lts
 
 shared-slice-read-result : tie.Need-shared-slice-read-result
 shared-slice-read-result c = search needs

@@ -1,18 +1,13 @@
-use Rattle.spec.proofs.Assets.{id-max, find-max}
-use borrow.Author.Tests.{not-true, not-false}
-use Rattle.assets.proofs.Laws.{Searching, searching-none, searching-here, searching-on, searching-end, no-id, cell-length, holds-is}
-use borrow.Author.Needs.{needs}
+-- The used cells from i on decide, since none before holds the id. The measure is how many are left.
+use Prim.Native.Nat.{_-_}
+use mathlib.Core.Path.{refl, sym, _∙_}
 use native.Mathlib.Omega.{arith}
-use lib.ListN.{length, getD}
-use Prim.Native.Nat.{ℕ, _+_, _-_, _≤_, _<_}
-use mathlib.Core.Path.{_≡_, refl, sym, ap, _∙_}
+use borrow.Author.Tests.{not-true, not-false}
+use borrow.Author.Needs.{needs}
+use Rattle.spec.proofs.Assets.{id-max}
+use Rattle.assets.proofs.Laws.{Searching, searching-none, searching-here, searching-on, searching-end, no-id, cell-length, holds-is}
 use Rattle.assets.proofs.find.Statement.{statement}
 use Rattle.assets.proofs.find.Tie as tie
-use Rattle.assets.proofs.find.Reads as reads
-use Rattle.assets.proofs.find.Lts as lts
-use Rattle.assets.proofs.holds.Reads as holds-reads
-use Rattle.assets.proofs.id_ok.Reads as id-ok-reads
-use Rattle.assets.proofs.wide.Reads as wide-reads
 
 abbrev Inv-loop : tie.InvT-loop
 Inv-loop bs id u i₀ i = Searching bs id u i
@@ -54,10 +49,16 @@ part-holds-end : tie.Need-part-holds-end Inv-loop μ-loop
 part-holds-end c = search needs
 
 holds-requires : tie.Need-holds-requires Inv-loop μ-loop
-holds-requires c κs = let z = c .before .before .before .before .before .before .before .before .before .args in let l = c .before .before .loop in omega (arith, cell-length (z .bs .now) (l .i) (omega arith), id-max (z .id .now) (sym (c .before .before .before .before .id-ok .ensures) ∙ not-false _ (c .before .before .before .if1 .left)))
+holds-requires c κs =
+    let z = c .before .before .before .before .before .before .before .before .before .args in
+    let l = c .before .before .loop in
+    omega (arith, cell-length (z .bs .now) (l .i) (omega arith), id-max (z .id .now) (sym (c .before .before .before .before .id-ok .ensures) ∙ not-false _ (c .before .before .before .if1 .left)))
 
 returns-2 : tie.Need-returns-2 Inv-loop μ-loop
-returns-2 c = let z = c .before .before .before .before .before .before .before .before .before .before .before .args in let l = c .before .before .before .before .loop in (searching-here (l .inv) (omega arith) (sym (holds-is (z .bs .now) (z .id .now) _ (l .i) _ refl (omega arith) (c .before .holds .ensures)) ∙ c .if2 .taken), omega arith)
+returns-2 c =
+    let z = c .before .before .before .before .before .before .before .before .before .before .before .args in
+    let l = c .before .before .before .before .loop in
+    (searching-here (l .inv) (omega arith) (sym (holds-is (z .bs .now) (z .id .now) _ (l .i) _ refl (omega arith) (c .before .holds .ensures)) ∙ c .if2 .taken), omega arith)
 
 add-i : tie.Need-add-i Inv-loop μ-loop
 add-i c = search needs
@@ -66,7 +67,10 @@ loop-less : tie.Need-loop-less Inv-loop μ-loop
 loop-less c = search needs
 
 loop-again : tie.Need-loop-again Inv-loop μ-loop
-loop-again c = let z = c .before .before .before .before .before .before .before .before .before .before .before .args in let l = c .before .before .before .before .loop in searching-on (l .inv) (omega arith) (sym (holds-is (z .bs .now) (z .id .now) _ (l .i) _ refl (omega arith) (c .before .holds .ensures)) ∙ c .if2 .left)
+loop-again c =
+    let z = c .before .before .before .before .before .before .before .before .before .before .before .args in
+    let l = c .before .before .before .before .loop in
+    searching-on (l .inv) (omega arith) (sym (holds-is (z .bs .now) (z .id .now) _ (l .i) _ refl (omega arith) (c .before .holds .ensures)) ∙ c .if2 .left)
 
 returns-3 : tie.Need-returns-3 Inv-loop μ-loop
 returns-3 c = (searching-end (c .before .loop .inv) (omega arith), omega arith)

@@ -1,15 +1,11 @@
+-- A refused byte or length leaves no head; behind the tests of A and u the length decides.
+use Prim.Native.Nat.{_-_}
+use native.Mathlib.Omega.{arith}
+use borrow.Author.Needs.{needs}
 use Rattle.spec.proofs.Assets.{no-asset-head}
 use Rattle.assets.proofs.Laws.{head-last}
-use native.Mathlib.Omega.{arith}
-use lib.ListN.{length, getD}
-use Prim.Native.Nat.{ℕ, _+_, _-_, _≤_, _<_}
-use mathlib.Core.Path.{_≡_, refl, sym, ap, _∙_}
-use borrow.Author.Needs.{needs}
 use Rattle.assets.proofs.head_ok.Statement.{statement}
 use Rattle.assets.proofs.head_ok.Tie as tie
-use Rattle.assets.proofs.head_ok.Reads as reads
-use Rattle.assets.proofs.head_ok.Lts as lts
-use Rattle.assets.proofs.wide.Reads as wide-reads
 
 returns : tie.Need-returns
 returns c = no-asset-head _ (λ h. omega arith)

@@ -1,15 +1,10 @@
+-- Behind both bounds of the length the bytes decide.
+use Prim.Native.Nat.{_-_}
 use borrow.Author.Tests.{le-leb, lt-leb}
-use Rattle.spec.specs.Assets.{idOk}
-use native.Mathlib.Omega.{arith}
-use lib.ListN.{length, getD}
-use Prim.Native.Nat.{ℕ, _+_, _-_, _≤_, _<_}
-use mathlib.Core.Path.{_≡_, refl, sym, ap, _∙_}
 use borrow.Author.Needs.{needs}
+use Rattle.spec.specs.Assets.{idOk}
 use Rattle.assets.proofs.id_ok.Statement.{statement}
 use Rattle.assets.proofs.id_ok.Tie as tie
-use Rattle.assets.proofs.id_ok.Reads as reads
-use Rattle.assets.proofs.id_ok.Lts as lts
-use Rattle.scan.proofs.all_id.Reads as all-id-reads
 
 returns : tie.Need-returns
 unfolding idOk

@@ -1,14 +1,10 @@
-use Rattle.assets.proofs.Laws.{length-is}
+-- Two bytes, high first, of body cell i, which the head leaves room for.
+use Prim.Native.Nat.{_-_}
 use native.Mathlib.Omega.{arith}
-use lib.ListN.{length, getD}
-use Prim.Native.Nat.{ℕ, _+_, _-_, _≤_, _<_}
-use mathlib.Core.Path.{_≡_, refl, sym, ap, _∙_}
 use borrow.Author.Needs.{needs}
+use Rattle.assets.proofs.Laws.{length-is}
 use Rattle.assets.proofs.length_at.Statement.{statement}
 use Rattle.assets.proofs.length_at.Tie as tie
-use Rattle.assets.proofs.length_at.Reads as reads
-use Rattle.assets.proofs.length_at.Lts as lts
-use Rattle.assets.proofs.wide.Reads as wide-reads
 
 shared-slice-read-wide : tie.Need-shared-slice-read-wide
 shared-slice-read-wide c = search needs

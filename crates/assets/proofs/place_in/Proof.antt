@@ -1,19 +1,13 @@
+-- Each fault gives nothing; a cell below u lies inside the store, and so does a body of at most 510 bytes.
+use Prim.Native.Nat.{_-_}
+use mathlib.Core.Path.{sym, _∙_}
+use native.Mathlib.Omega.{arith}
 use borrow.Author.Tests.{not-true, not-false}
+use borrow.Author.Needs.{needs}
 use Rattle.spec.proofs.Assets.{asset-head-ok}
 use Rattle.assets.proofs.Laws.{no-place, wrong-length, place-is, length-pos, length-max}
-use native.Mathlib.Omega.{arith}
-use lib.ListN.{length, getD}
-use Prim.Native.Nat.{ℕ, _+_, _-_, _≤_, _<_}
-use mathlib.Core.Path.{_≡_, refl, sym, ap, _∙_}
-use borrow.Author.Needs.{needs}
 use Rattle.assets.proofs.place_in.Statement.{statement}
 use Rattle.assets.proofs.place_in.Tie as tie
-use Rattle.assets.proofs.place_in.Reads as reads
-use Rattle.assets.proofs.place_in.Lts as lts
-use Rattle.assets.proofs.find.Reads as find-reads
-use Rattle.assets.proofs.length_at.Reads as length-at-reads
-use Rattle.assets.proofs.length_ok.Reads as length-ok-reads
-use Rattle.assets.proofs.wide.Reads as wide-reads
 
 find-requires : tie.Need-find-requires
 find-requires c κs = search needs
@@ -58,7 +52,11 @@ add-start-3 : tie.Need-add-start-3
 add-start-3 c = search needs
 
 returns-3 : tie.Need-returns-3
-returns-3 c = let z = c .before .before .before .before .before .before .before .before .before .before .before .args in let n = c .before .before .before .before .length-at .result in let g = sym (c .before .before .before .length-ok .ensures) ∙ not-false _ (c .before .before .if2 .left) in (place-is (z .bs .now) (z .id .now) _ _ _ (asset-head-ok (z .bs .now) (c .before .before .before .before .before .before .before .before .before .before .before .pre)) (c .before .before .before .before .before .before .before .before .find .ensures .0) (omega arith) (c .wide2 .ensures .0) (c .before .before .before .before .length-at .ensures .0) g, (omega (arith, length-max n g), length-pos n g))
+returns-3 c =
+    let z = c .before .before .before .before .before .before .before .before .before .before .before .args in
+    let n = c .before .before .before .before .length-at .result in
+    let g = sym (c .before .before .before .length-ok .ensures) ∙ not-false _ (c .before .before .if2 .left) in
+    (place-is (z .bs .now) (z .id .now) _ _ _ (asset-head-ok (z .bs .now) (c .before .before .before .before .before .before .before .before .before .before .before .pre)) (c .before .before .before .before .before .before .before .before .find .ensures .0) (omega arith) (c .wide2 .ensures .0) (c .before .before .before .before .length-at .ensures .0) g, (omega (arith, length-max n g), length-pos n g))
 
 pub place-in-spec : {M : Type 1} → statement M
 place-in-spec =

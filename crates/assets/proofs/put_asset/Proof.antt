@@ -1,16 +1,11 @@
+-- Both runs of cells renewed, one behind the other, and then u.
+use Prim.Native.Nat.{_-_}
+use native.Mathlib.Omega.{arith}
+use borrow.Author.Needs.{needs}
 use lib.ListN.{length-set}
 use Rattle.assets.proofs.Laws.{with-asset-is}
-use native.Mathlib.Omega.{arith}
-use lib.ListN.{length, getD}
-use Prim.Native.Nat.{ℕ, _+_, _-_, _≤_, _<_}
-use mathlib.Core.Path.{_≡_, refl, sym, ap, _∙_}
-use borrow.Author.Needs.{needs}
 use Rattle.assets.proofs.put_asset.Statement.{statement}
 use Rattle.assets.proofs.put_asset.Tie as tie
-use Rattle.assets.proofs.put_asset.Reads as reads
-use Rattle.assets.proofs.put_asset.Lts as lts
-use Rattle.assets.proofs.wide.Reads as wide-reads
-use Rattle.cells.proofs.renew_cells.Reads as renew-cells-reads
 
 slice-read-wide : tie.Need-slice-read-wide
 slice-read-wide c = search needs
@@ -58,7 +53,9 @@ same-length : tie.Need-same-length
 same-length c = omega (arith, length-set (c .before .before .renew-cells2 .last .0) 1 (c .before .before .before .before .before .before .before .before .before .before .before .before .before .before .before .args .n))
 
 returns : tie.Need-returns
-returns c = let z = c .before .before .before .before .before .before .before .before .before .before .before .before .before .before .before .args in with-asset-is (z .out) (z .n) _ (z .id .now) (z .body .now) (z .bs .now) _ _ (c .before .before .before .before .before .before .before .before .before .before .wide .ensures .0) (c .before .before .before .before .before .before .before .renew-cells .ensures) (c .before .before .renew-cells2 .ensures)
+returns c =
+    let z = c .before .before .before .before .before .before .before .before .before .before .before .before .before .before .before .args in
+    with-asset-is (z .out) (z .n) _ (z .id .now) (z .body .now) (z .bs .now) _ _ (c .before .before .before .before .before .before .before .before .before .before .wide .ensures .0) (c .before .before .before .before .before .before .before .renew-cells .ensures) (c .before .before .renew-cells2 .ensures)
 
 pub put-asset-spec : {M : Type 1} → statement M
 put-asset-spec =

@@ -1,14 +1,10 @@
-use Rattle.assets.proofs.Laws.{start-is}
+-- Zeros everywhere, then A.
+use Prim.Native.Nat.{_-_}
 use native.Mathlib.Omega.{arith}
-use lib.ListN.{length, getD}
-use Prim.Native.Nat.{ℕ, _+_, _-_, _≤_, _<_}
-use mathlib.Core.Path.{_≡_, refl, sym, ap, _∙_}
 use borrow.Author.Needs.{needs}
+use Rattle.assets.proofs.Laws.{start-is}
 use Rattle.assets.proofs.start.Statement.{statement}
 use Rattle.assets.proofs.start.Tie as tie
-use Rattle.assets.proofs.start.Reads as reads
-use Rattle.assets.proofs.start.Lts as lts
-use Rattle.cells.proofs.clear.Reads as clear-reads
 
 clear-requires : tie.Need-clear-requires
 clear-requires c κs = search needs

@@ -1,19 +1,14 @@
+-- The cell given up is below the cells used then, and these are at most A.
+use Prim.Native.Nat.{_-_}
+use native.Mathlib.Omega.{arith}
+use borrow.Author.Needs.{needs}
 use Rattle.spec.proofs.Assets.{id-max, asset-id, body-max}
 use Rattle.assets.proofs.Laws.{renewal, store-is, cell-for-is}
-use native.Mathlib.Omega.{arith}
-use lib.ListN.{length, getD}
-use Prim.Native.Nat.{ℕ, _+_, _-_, _≤_, _<_}
-use mathlib.Core.Path.{_≡_, refl, sym, ap, _∙_}
-use borrow.Author.Needs.{needs}
 use Rattle.assets.proofs.store.Statement.{statement}
 use Rattle.assets.proofs.store.Tie as tie
-use Rattle.assets.proofs.store.Reads as reads
-use Rattle.assets.proofs.store.Lts as lts
-use Rattle.assets.proofs.find.Reads as find-reads
-use Rattle.assets.proofs.given_up.Reads as given-up-reads
-use Rattle.assets.proofs.put_asset.Reads as put-asset-reads
-use Rattle.assets.proofs.used_after.Reads as used-after-reads
-use Rattle.assets.proofs.wide.Reads as wide-reads
+
+out-for-requires : tie.Need-out-for-requires
+out-for-requires c κs = search needs
 
 slice-read-wide : tie.Need-slice-read-wide
 slice-read-wide c = search needs
@@ -21,43 +16,39 @@ slice-read-wide c = search needs
 wide-requires : tie.Need-wide-requires
 wide-requires c κs = search needs
 
-slice-read-wide-2 : tie.Need-slice-read-wide-2
-slice-read-wide-2 c = search needs
-
-wide-requires-2 : tie.Need-wide-requires-2
-wide-requires-2 c κs = search needs
-
-find-requires : tie.Need-find-requires
-find-requires c κs = search needs
-
-given-up-requires : tie.Need-given-up-requires
-given-up-requires c κs = search needs
-
 used-after-requires : tie.Need-used-after-requires
 used-after-requires c κs = search needs
 
 put-asset-requires : tie.Need-put-asset-requires
-put-asset-requires c κs = let z = c .before .before .before .before .before .before .before .before .before .before .before .before .args in let ok = c .before .before .before .before .before .before .before .before .before .before .before .before .pre .1 in let r = renewal (c .before .before .before .before .before .before .before .before .before .before .before .before .args .bs .now) (c .before .before .before .before .before .before .before .before .before .before .before .before .args .id .now) _ _ _ _ _ (c .before .before .before .before .before .before .before .before .before .before .before .before .pre .0) (c .before .before .before .before .before .wide2 .ensures .0) (c .before .before .before .before .before .before .before .wide .ensures .0) (c .before .before .before .find .ensures .0) (c .before .before .given-up .ensures) (c .before .used-after .ensures) in (c .before .before .before .before .before .before .before .before .before .before .before .before .pre .0, ((r .more, r .most), (id-max (z .id .now) (asset-id (z .id .now) (z .body .now) ok), body-max (z .id .now) (z .body .now) ok)))
+put-asset-requires c κs =
+    let s = c .before .before .before .before .before .before .before .before .before in
+    let z = s .args in
+    let r = renewal (s .args .bs .now) (s .args .id .now) _ _ _ (s .pre .0) (c .before .before .wide .ensures .0) (c .before .before .before .before .out-for .ensures) (c .before .used-after .ensures) in
+    let i = asset-id (z .id .now) (z .body .now) (s .pre .1) in
+    (s .pre .0, ((r .more, r .most), (id-max (z .id .now) i, body-max (z .id .now) (z .body .now) (s .pre .1))))
 
 sub-result : tie.Need-sub-result
-sub-result c = let r = renewal (c .before .before .before .before .before .before .before .before .before .before .before .before .before .before .before .args .bs .now) (c .before .before .before .before .before .before .before .before .before .before .before .before .before .before .before .args .id .now) _ _ _ _ _ (c .before .before .before .before .before .before .before .before .before .before .before .before .before .before .before .pre .0) (c .before .before .before .before .before .before .before .before .wide2 .ensures .0) (c .before .before .before .before .before .before .before .before .before .before .wide .ensures .0) (c .before .before .before .before .before .before .find .ensures .0) (c .before .before .before .before .before .given-up .ensures) (c .before .before .before .before .used-after .ensures) in omega arith
+sub-result c =
+    let s = c .before .before .before .before .before .before .before .before .before .before .before .before in
+    let r = renewal (s .args .bs .now) (s .args .id .now) _ _ _ (s .pre .0) (c .before .before .before .before .before .wide .ensures .0) (c .before .before .before .before .before .before .before .out-for .ensures) (c .before .before .before .before .used-after .ensures) in
+    omega arith
 
 same-length : tie.Need-same-length
 same-length c = search needs
 
 returns : tie.Need-returns
-returns c = let r = renewal (c .before .before .before .before .before .before .before .before .before .before .before .before .before .before .before .args .bs .now) (c .before .before .before .before .before .before .before .before .before .before .before .before .before .before .before .args .id .now) _ _ _ _ _ (c .before .before .before .before .before .before .before .before .before .before .before .before .before .before .before .pre .0) (c .before .before .before .before .before .before .before .before .wide2 .ensures .0) (c .before .before .before .before .before .before .before .before .before .before .wide .ensures .0) (c .before .before .before .before .before .before .find .ensures .0) (c .before .before .before .before .before .given-up .ensures) (c .before .before .before .before .used-after .ensures) in (store-is _ _ _ _ _ _ r (c .before .before .put-asset .ensures), cell-for-is _ _ _ _ r)
+returns c =
+    let s = c .before .before .before .before .before .before .before .before .before .before .before .before in
+    let r = renewal (s .args .bs .now) (s .args .id .now) _ _ _ (s .pre .0) (c .before .before .before .before .before .wide .ensures .0) (c .before .before .before .before .before .before .before .out-for .ensures) (c .before .before .before .before .used-after .ensures) in
+    (store-is _ _ _ _ _ _ r (c .before .before .put-asset .ensures), cell-for-is _ _ _ _ r)
 
 pub store-spec : {M : Type 1} → statement M
 store-spec =
     tie.close
     (tie.spec
+    out-for-requires
     slice-read-wide
     wide-requires
-    slice-read-wide-2
-    wide-requires-2
-    find-requires
-    given-up-requires
     used-after-requires
     put-asset-requires
     sub-result

@@ -1,14 +1,10 @@
+-- One more cell where none is given up.
+use Prim.Native.Nat.{_-_}
 use native.Mathlib.Numerals.{add-one}
 use borrow.Author.Tests.{eq-eqb, ne-eqb}
-use native.Mathlib.Omega.{arith}
-use lib.ListN.{length, getD}
-use Prim.Native.Nat.{ℕ, _+_, _-_, _≤_, _<_}
-use mathlib.Core.Path.{_≡_, refl, sym, ap, _∙_}
 use borrow.Author.Needs.{needs}
 use Rattle.assets.proofs.used_after.Statement.{statement}
 use Rattle.assets.proofs.used_after.Tie as tie
-use Rattle.assets.proofs.used_after.Reads as reads
-use Rattle.assets.proofs.used_after.Lts as lts
 
 add-result : tie.Need-add-result
 add-result c = search needs
