@@ -19,5 +19,6 @@ pub mod Begin
 pub mod Windows
 pub mod History
 pub mod Never
+pub mod Assets
 pub mod Bench
 pub mod Refusals
