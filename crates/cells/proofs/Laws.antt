@@ -1,12 +1,12 @@
 -- A run of bytes written front to back, and cells put together from such runs, at any place and width.
-use Prim.Native.Nat.{ℕ, zero, suc, _+_, _-_, _*_, _≤_, _<_}
+use Prim.Native.Nat.{ℕ, suc, _+_, _-_, _*_, _≤_, _<_}
 use mathlib.Core.Path.{_≡_, refl, sym, ap, _∙_}
 use mathlib.Core.List.{List, [], _∷_, _++_, append-assoc}
 use native.Mathlib.Nat.{add-zero, suc-mul, add-mul}
 use native.Mathlib.Numerals.{add-one}
 use native.Mathlib.Omega.{arith}
 use lib.ListN.{length, getD, set, take, drop, replicate, length-set, length-append, length-drop, length-replicate, drop-of-length-le}
-use lib.Seq.{sets, sets-eq, length-sets, drop-cons, drop-set-lt, getD-drop, getD-take, take-at, drop-at, drop-append-add, drop-drop, length-take-le}
+use lib.Seq.{sets, sets-eq, drop-cons, drop-set-lt, getD-drop, getD-take, drop-drop, length-take-le}
 use Rattle.spec.specs.Bytes.{pad}
 use Rattle.spec.specs.Assets.{renew}
 

@@ -52,8 +52,9 @@ pub fn renew_cells(bs: &mut [u8], w: usize, b: usize, out: usize, n: usize, head
     ensures { λ r. ⌜ now (bs .exit) ≡ renew w b out n (pad w (now (head .entry) ++ now (s .entry))) (now (bs .entry)) ⌝ }
 {
     let last = b + (n - 1) * w;
+    let left = w - head.len() - s.len();
     move_down(bs, b + out * w, w, (n - 1 - out) * w);
     write(bs, last, head);
     write(bs, last + head.len(), s);
-    clear(bs, last + head.len() + s.len(), w - head.len() - s.len());
+    clear(bs, last + head.len() + s.len(), left);
 }

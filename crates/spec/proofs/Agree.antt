@@ -148,7 +148,7 @@ module _ (model names : List ℕ) (p : State) (st : List ℕ) (G : Good model na
   store-last : last st ≡ lastOf p
   store-last = omega (arith, last-is, G .rep .last)
 
-  right-head : headOk (items model) st ≡ true
+  pub right-head : headOk (items model) st ≡ true
   right-head =
       head-ok
       (record {
@@ -161,7 +161,7 @@ module _ (model names : List ℕ) (p : State) (st : List ℕ) (G : Good model na
         len = G .rep .words ∙ ap (λ (n : ℕ). storeWords n (items model)) (sym (G .rep .cap));
       })
 
-  right-assets : assetHeadOk (bytes p) ≡ true
+  pub right-assets : assetHeadOk (bytes p) ≡ true
   right-assets = asset-heads (p .A) (p .T) (G .A-low) (G .A-high) (G .room) (G .held)
 
   -- the entry about to be overwritten is one of H

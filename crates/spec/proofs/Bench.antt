@@ -1,24 +1,23 @@
 -- The bench cases C1 to C10, twelve requests, by computation: the stores' calls and the reference model give what document 01 says.
 use mathlib.Core.Path.{_≡_, refl}
-use Prim.Native.Nat.{ℕ}
 use mathlib.Core.List.{List, [], _∷_, map}
-use lib.ListN.{replicate, length}
+use lib.ListN.{replicate}
 use Rattle.spec.specs.Words.{every, firstWhere, anyBelow, countBelow, pickRows, setOf, row, put}
 use Rattle.spec.specs.Bytes.{textByte, nameByte, idByte, all, same, before, joinFirst, split, digit, valueFrom, isNumber}
-use Rattle.spec.specs.Value.{decode}
 use Rattle.spec.specs.Model.{letters, zeros, cellOk, namesOk, changeItem, sizesOk, componentOk, itemOk, componentsOk, itemsOk, changesOk, modelOk}
 use Rattle.spec.specs.Text.{uriOk, wordOf, slotOf, takesSlot, addPart, addParts, parameters, sampleRequest, currentRequest, idText, idTexts, assetRequest, readWord, readText}
 use Rattle.spec.specs.Path.{typedForm, formBehind, formOf, isNamed, under, inSubtree, inTyped, selectSubtree, selectTyped, selectForm, select}
 use Rattle.spec.specs.Observations.{headOk, evict, add, evictOk, blank, addAll, startStore, ringOk, sampleRows, currentRows, newestIn, atRows}
 use Rattle.spec.specs.Assets.{assetHeadOk, idOk, bodyOk, assetOk, find, renew, cellFor, storeCells, startAssets, lengthOk, bodyPlace}
-use Rattle.spec.specs.Reply.{Replied, numbers, pairs, lengths, observationWords, assetWords, written, observationReply, assetReply}
+use Rattle.spec.specs.Reply.{numbers, pairs, lengths, observationWords, assetWords, written, observationReply, assetReply}
 use Rattle.spec.specs.Calls.{startOk, start, roomFor, observeItem, observe, keepAsset, storeAsset, inRange, sampleBetween, sampleReply, currentReply, currentUpTo, atReply, cellRows, allCells, cellsReply, findAll, namedReply, downFrom, answerRequest, answerReading, request, body}
-use Rattle.spec.specs.Reference.{State, Begun, keep, newestOr, lastOr, sizeWrong, unavailable, begin, observeAnswer, place, storeAnswer, sampleFor, currentFor, foundRows, atFor, heldRows, allHeld, placesOf, newestFirst, replyTo, replyReading, reply, bodyOf}
+use Rattle.spec.specs.Reference.{State, keep, newestOr, lastOr, sizeWrong, unavailable, begin, observeAnswer, place, storeAnswer, sampleFor, currentFor, foundRows, atFor, heldRows, allHeld, placesOf, newestFirst, replyTo, replyReading, reply, bodyOf}
 use Rattle.spec.specs.Reference.Begun.{begun}
-use Rattle.spec.specs.History.{Output, Start, begins, storesRun, callOutputs, storesOutputs, referenceRun, referenceOutputs, referenceAfter}
+use Rattle.spec.specs.History.{Call, AllTyped, History, Output, Start, begins, storesRun, callOutputs, storesOutputs, referenceRun, referenceOutputs, referenceAfter}
 use Rattle.spec.specs.History.Output.{started, observed}
-use Rattle.spec.specs.Bench.{Case, benchModel, benchNames, benchStart, benchObserves, storesAfter, benchStores, benchRequest, cases, filled, expected}
+use Rattle.spec.specs.Bench.{benchModel, benchNames, benchStart, benchObserves, storesAfter, benchStores, benchRequest, cases, filled, expected}
 use Rattle.spec.specs.declared.Answer.the-variants.{Done}
+use Rattle.spec.proofs.History.{history}
 use Rattle.spec.specs.declared.ObserveAnswer.the-variants.{Recorded, Same}
 
 -- the start's answer, then 3, Same and 4
@@ -47,3 +46,7 @@ pub record Bench : Type 0 where
 pub bench : Bench
 unfolding benchState every firstWhere anyBelow countBelow pickRows setOf row put textByte nameByte idByte all same before joinFirst split digit valueFrom isNumber letters zeros cellOk namesOk changeItem sizesOk componentOk itemOk componentsOk itemsOk changesOk modelOk uriOk wordOf slotOf takesSlot addPart addParts parameters sampleRequest currentRequest idText idTexts assetRequest readWord readText typedForm formBehind formOf isNamed under inSubtree inTyped selectSubtree selectTyped selectForm select headOk evict add evictOk blank addAll startStore ringOk sampleRows currentRows newestIn atRows assetHeadOk idOk bodyOk assetOk find renew cellFor storeCells startAssets lengthOk bodyPlace numbers pairs lengths observationWords assetWords written observationReply assetReply startOk start roomFor observeItem observe keepAsset storeAsset inRange sampleBetween sampleReply currentReply currentUpTo atReply cellRows allCells cellsReply findAll namedReply downFrom answerRequest answerReading request body storesRun callOutputs storesOutputs storesAfter benchStores benchRequest keep newestOr lastOr sizeWrong unavailable begin observeAnswer place storeAnswer sampleFor currentFor foundRows atFor heldRows allHeld placesOf newestFirst replyTo replyReading reply bodyOf referenceRun referenceOutputs referenceAfter
 bench = record { outputs = refl; stores = refl; outputs-reference = refl; reference = refl }
+
+-- the history theorem's hypothesis is met: here it is for every list behind the bench case's start
+pub bench-history : (cs : List Call) → AllTyped cs → History start22 benchState cs
+bench-history cs t = history start22 benchState bench-begins cs t

@@ -108,6 +108,12 @@ pub set-more : (p : ℕ → Bool) (n r q : ℕ) (t : Bool) → r ≡ setOf p n �
 unfolding setOf
 set-more p n r q t e g h = rw (h, add-one, g, e)
 
+-- it goes by what p says below n
+pub set-ext : (p q : ℕ → Bool) (n : ℕ) → ((i : ℕ) → i < n → p i ≡ q i) → setOf p n ≡ setOf q n
+unfolding setOf
+set-ext p q zero h = refl
+set-ext p q (suc n) h = rw (h n (omega arith), set-ext p q n (λ i l. h i (omega arith)))
+
 -- the set of all numbers below n
 pub set-all : (n : ℕ) → setOf (λ i. true) n ≡ 2 ^ n - 1
 unfolding setOf

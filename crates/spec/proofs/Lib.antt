@@ -18,4 +18,7 @@ pub mod Agree
 pub mod Begin
 pub mod Windows
 pub mod History
+pub mod Never
+pub mod Assets
 pub mod Bench
+pub mod Refusals

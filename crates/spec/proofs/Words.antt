@@ -1,7 +1,7 @@
 -- Laws about runs of numbers: a Bool over all of them gives, and is given by, the fact at each; and one turn of a loop along a run.
 use Prim.Native.Nat.{ℕ, zero, suc, _+_, _-_, _≤_, _<_}
 use mathlib.Core.Path.{_≡_, refl, sym, ap, _∙_}
-use mathlib.Core.Bool.{Bool, true, false, cond, _&&_, false≢true}
+use mathlib.Core.Bool.{Bool, true, false, cond, _&&_, false≢true, and-assoc, and-true}
 use native.Mathlib.Numerals.{add-one}
 use native.Mathlib.Omega.{arith}
 use lib.Dec.{ltb}
@@ -25,6 +25,12 @@ and-both a b e f = rw (e, f)
 pub not-so : (b : Bool) → (b ≡ true → ⊥) → false ≡ b
 not-so true h = absurd (h refl)
 not-so false h = refl
+
+-- each gives the other
+pub same-truth : (a b : Bool) → (a ≡ true → b ≡ true) → (b ≡ true → a ≡ true) → a ≡ b
+same-truth true b f g = sym (f refl)
+same-truth false true f g = g refl
+same-truth false false f g = refl
 
 -- what holds of both branches holds of the choice
 pub by-cond : {A : Type 0} (P : A → Type 0) (t : Bool) (a b : A) → (t ≡ true → P a) → (t ≡ false → P b) → P (cond t a b)
@@ -71,6 +77,15 @@ module _ (p : ℕ → Bool) (whole : Bool) (i n : ℕ) (rest : whole ≡ every p
   pub every-end : n ≤ i → true ≡ whole
   unfolding every
   every-end h = sym (rest ∙ (let q : n - i ≡ 0 = omega arith in rw q))
+
+-- a turn of a loop that keeps its answer so far and takes no branch
+module _ (p : ℕ → Bool) (whole kept : Bool) (i n : ℕ) (rest : whole ≡ kept && every p (n - i) i) where
+  pub every-keep : (t : Bool) → i < n → t ≡ p i → whole ≡ (kept && t) && every p (n - (i + 1)) (i + 1)
+  every-keep t h e = rest ∙ (rw (every-step p i n h, e) (sym (and-assoc kept (p i) _)))
+
+  pub every-kept : n ≤ i → kept ≡ whole
+  unfolding every
+  every-kept h = sym (rest ∙ (let q : n - i ≡ 0 = omega arith in rw q (and-true kept)))
 
 -- ---- firstWhere
 

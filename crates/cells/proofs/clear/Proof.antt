@@ -1,14 +1,12 @@
 -- The rest of the zeros, written from here, gives what all of them give from the start. The measure is how many are left.
-use Rattle.cells.proofs.Laws.{Writing, writing-none, writing-more, writing-all}
-use borrow.Author.Needs.{needs}
+use Prim.Native.Nat.{ℕ, _-_}
+use mathlib.Core.Path.{sym}
 use native.Mathlib.Omega.{arith}
-use lib.ListN.{length, getD, take, drop, replicate, length-replicate, getD-replicate}
-use Prim.Native.Nat.{ℕ, _+_, _-_, _≤_, _<_}
-use mathlib.Core.Path.{_≡_, refl, sym, ap, _∙_}
+use borrow.Author.Needs.{needs}
+use lib.ListN.{replicate, length-replicate, getD-replicate}
+use Rattle.cells.proofs.Laws.{Writing, writing-none, writing-more, writing-all}
 use Rattle.cells.proofs.clear.Statement.{statement}
 use Rattle.cells.proofs.clear.Tie as tie
-use Rattle.cells.proofs.clear.Reads as reads
-use Rattle.cells.proofs.clear.Lts as lts
 
 abbrev Inv-loop : tie.InvT-loop
 Inv-loop bs₀ at n j₀ bs j = Writing (replicate n 0) bs₀ at bs j

@@ -1,15 +1,12 @@
 -- The rest of the bytes that move, written from here, gives what all of them give from the start, and those still to
 -- be read stand as they stood. The measure is how many are left.
-use Rattle.cells.proofs.Laws.{Writing, writing-none, writing-more, writing-all, part-length, moved-byte}
-use borrow.Author.Needs.{needs}
+use Prim.Native.Nat.{_+_, _-_}
 use native.Mathlib.Omega.{arith}
-use lib.ListN.{length, getD, take, drop, replicate, length-replicate}
-use Prim.Native.Nat.{ℕ, _+_, _-_, _≤_, _<_}
-use mathlib.Core.Path.{_≡_, refl, sym, ap, _∙_}
+use borrow.Author.Needs.{needs}
+use lib.ListN.{take, drop}
+use Rattle.cells.proofs.Laws.{Writing, writing-none, writing-more, writing-all, part-length, moved-byte}
 use Rattle.cells.proofs.move_down.Statement.{statement}
 use Rattle.cells.proofs.move_down.Tie as tie
-use Rattle.cells.proofs.move_down.Reads as reads
-use Rattle.cells.proofs.move_down.Lts as lts
 
 abbrev Inv-loop : tie.InvT-loop
 Inv-loop bs₀ at gap n j₀ bs j = Writing (take n (drop (at + gap) bs₀)) bs₀ at bs j

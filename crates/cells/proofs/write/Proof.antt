@@ -1,14 +1,12 @@
 -- The rest of s, written from here, gives what all of s gives from the start. The measure is what is left of s.
-use Rattle.cells.proofs.Laws.{Writing, writing-none, writing-more, writing-all}
-use borrow.Author.Needs.{needs}
+use Prim.Native.Nat.{_-_}
+use mathlib.Core.Path.{refl}
 use native.Mathlib.Omega.{arith}
-use lib.ListN.{length, getD}
-use Prim.Native.Nat.{ℕ, _+_, _-_, _≤_, _<_}
-use mathlib.Core.Path.{_≡_, refl, sym, ap, _∙_}
+use borrow.Author.Needs.{needs}
+use lib.ListN.{length}
+use Rattle.cells.proofs.Laws.{Writing, writing-none, writing-more, writing-all}
 use Rattle.cells.proofs.write.Statement.{statement}
 use Rattle.cells.proofs.write.Tie as tie
-use Rattle.cells.proofs.write.Reads as reads
-use Rattle.cells.proofs.write.Lts as lts
 
 abbrev Inv-loop : tie.InvT-loop
 Inv-loop bs₀ at s j₀ bs j = Writing s bs₀ at bs j

@@ -4,7 +4,7 @@ use lib.Seq.{length-take-le}
 use borrow.Author.Tests.{not-true, not-false}
 use native.Mathlib.Omega.{arith}
 use Prim.Native.Nat.{_-_}
-use mathlib.Core.Path.{sym}
+use mathlib.Core.Path.{sym, _∙_}
 use borrow.Author.Needs.{needs}
 use Rattle.path.proofs.is_typed.Statement.{statement}
 use Rattle.path.proofs.is_typed.Tie as tie
@@ -22,7 +22,9 @@ equal-requires : tie.Need-equal-requires
 equal-requires c κs = search needs
 
 returns-2 : tie.Need-returns-2
-returns-2 c = unopened (c .before .before .before .before .before .before .args .rest .now) (c .before .before .before .before .if1 .left) _ (c .before .equal .ensures) (not-true _ (c .if2 .taken))
+returns-2 c =
+    let q = c .before .before .before .before .before .before .args .rest .now in
+    unopened q (c .before .before .before .before .if1 .left) (sym (c .before .equal .ensures) ∙ not-true _ (c .if2 .taken))
 
 sub-end : tie.Need-sub-end
 sub-end c = search needs
@@ -43,7 +45,10 @@ equal-requires-2 : tie.Need-equal-requires-2
 equal-requires-2 c κs = search needs
 
 returns-3 : tie.Need-returns-3
-returns-3 c = opened (c .before .before .before .before .before .before .before .before .before .args .rest .now) (c .before .before .before .before .before .before .before .if1 .left) _ (c .before .before .before .before .equal .ensures) (not-false _ (c .before .before .before .if2 .left)) _ (c .equal2 .ensures)
+returns-3 c =
+    let q = c .before .before .before .before .before .before .before .before .before .args .rest .now in
+    let t = sym (c .before .before .before .before .equal .ensures) ∙ not-false _ (c .before .before .before .if2 .left) in
+    opened q (c .before .before .before .before .before .before .before .if1 .left) t _ (c .equal2 .ensures)
 
 pub is-typed-spec : {M : Type 1} → statement M
 is-typed-spec =

@@ -1,13 +1,28 @@
 -- One law for each way out; the names lie within the path.
-use Rattle.path.proofs.Laws.{short, unrooted, subtree-form, other-form, typed-form, typed-long}
+use Rattle.spec.specs.Bytes.{bytes, same}
+use Rattle.path.specs.Forms.{isTyped}
+use Rattle.path.proofs.Laws.{short, unrooted, subtree-form, other-form, typed-form, typed-is, typed-long}
 use lib.Seq.{length-take-le}
 use borrow.Author.Tests.{not-true, not-false}
 use native.Mathlib.Omega.{arith}
-use Prim.Native.Nat.{_-_}
-use mathlib.Core.Path.{sym}
+use lib.ListN.{length, take, drop}
+use Prim.Native.Nat.{_+_, _-_, _≤_}
+use mathlib.Core.Path.{_≡_, sym, _∙_}
+use mathlib.Core.Bool.{true}
 use borrow.Author.Needs.{needs}
 use Rattle.path.proofs.path_form.Statement.{statement}
 use Rattle.path.proofs.path_form.Tie as tie
+
+-- the two slashes were found
+root : (c : tie.Else2) → same (take 2 (c .before .before .before .before .before .before .args .path .now)) (bytes "//") ≡ true
+root c = sym (c .before .equal .ensures) ∙ not-false _ (c .if2 .left)
+
+-- what follows T is that of the second form
+behind : (c : tie.Else4) → isTyped (drop (2 + c .before .before .before .before .find .result) (c .before .before .before .before .before .before .before .before .before .before .before .before .args .path .now)) ≡ true
+behind c = typed-is (c .before .before .before .before .before .before .before .before .before .before .before .before .args .path .now) _ _ _ (c .before .is-typed .ensures) (not-false _ (c .if4 .left))
+
+long : (c : tie.Else4) → 20 ≤ length (c .before .before .before .before .before .before .before .before .before .before .before .before .args .path .now) - (2 + c .before .before .before .before .find .result)
+long c = typed-long (c .before .before .before .before .before .before .before .before .before .before .before .before .args .path .now) _ (behind c)
 
 returns : tie.Need-returns
 returns c = (short _ (c .if1 .taken), tt)
@@ -22,7 +37,7 @@ equal-requires : tie.Need-equal-requires
 equal-requires c κs = search needs
 
 returns-2 : tie.Need-returns-2
-returns-2 c = (unrooted _ (c .before .before .before .before .if1 .left) _ (c .before .equal .ensures) (not-true _ (c .if2 .taken)), tt)
+returns-2 c = (unrooted _ (sym (c .before .equal .ensures) ∙ not-true _ (c .if2 .taken)), tt)
 
 sub-find : tie.Need-sub-find
 sub-find c = search needs
@@ -40,7 +55,7 @@ add-at : tie.Need-add-at
 add-at c = search needs
 
 returns-3 : tie.Need-returns-3
-returns-3 c = (subtree-form _ (c .before .before .before .before .before .before .before .if1 .left) _ (c .before .before .before .before .equal .ensures) (not-false _ (c .before .before .before .if2 .left)) _ (c .before .find .ensures .0) (c .if3 .taken), omega arith)
+returns-3 c = (subtree-form _ (root (c .before .before .before)) _ (c .before .find .ensures .0) (c .if3 .taken), omega arith)
 
 sub-is-typed : tie.Need-sub-is-typed
 sub-is-typed c = search needs
@@ -55,16 +70,21 @@ is-typed-requires : tie.Need-is-typed-requires
 is-typed-requires c κs = search needs
 
 returns-4 : tie.Need-returns-4
-returns-4 c = (other-form _ (c .before .before .before .before .before .before .before .before .before .before .if1 .left) _ (c .before .before .before .before .before .before .before .equal .ensures) (not-false _ (c .before .before .before .before .before .before .if2 .left)) _ (c .before .before .before .before .find .ensures .0) (c .before .before .before .if3 .left) _ (c .before .is-typed .ensures) (not-true _ (c .if4 .taken)), tt)
+returns-4 c =
+    let f = c .before .before .before .before .find .ensures .0 in
+    let t = typed-is (c .before .before .before .before .before .before .before .before .before .before .before .before .args .path .now) _ _ _ (c .before .is-typed .ensures) (not-true _ (c .if4 .taken)) in
+    (other-form _ (root (c .before .before .before .before .before .before)) _ f (c .before .before .before .if3 .left) t, tt)
 
 sub-t13 : tie.Need-sub-t13
 sub-t13 c = search needs
 
 sub-t20 : tie.Need-sub-t20
-sub-t20 c = omega (arith, typed-long (c .before .before .before .before .before .before .before .before .before .before .before .before .args .path .now) (c .before .before .before .before .before .before .before .before .before .before .if1 .left) _ (c .before .before .before .before .before .before .before .equal .ensures) (not-false _ (c .before .before .before .before .before .before .if2 .left)) _ (c .before .before .before .before .find .ensures .0) (c .before .before .before .if3 .left) _ (c .before .is-typed .ensures) (not-false _ (c .if4 .left)))
+sub-t20 c = omega (arith, long c)
 
 returns-5 : tie.Need-returns-5
-returns-5 c = (typed-form _ (c .before .before .before .before .before .before .before .before .before .before .if1 .left) _ (c .before .before .before .before .before .before .before .equal .ensures) (not-false _ (c .before .before .before .before .before .before .if2 .left)) _ (c .before .before .before .before .find .ensures .0) (c .before .before .before .if3 .left) _ (c .before .is-typed .ensures) (not-false _ (c .if4 .left)), omega (arith, typed-long (c .before .before .before .before .before .before .before .before .before .before .before .before .args .path .now) (c .before .before .before .before .before .before .before .before .before .before .if1 .left) _ (c .before .before .before .before .before .before .before .equal .ensures) (not-false _ (c .before .before .before .before .before .before .if2 .left)) _ (c .before .before .before .before .find .ensures .0) (c .before .before .before .if3 .left) _ (c .before .is-typed .ensures) (not-false _ (c .if4 .left))))
+returns-5 c =
+    let f = c .before .before .before .before .find .ensures .0 in
+    (typed-form _ (root (c .before .before .before .before .before .before)) _ f (c .before .before .before .if3 .left) (behind c), omega (arith, long c))
 
 pub path-form-spec : {M : Type 1} → statement M
 path-form-spec =

@@ -1,0 +1,182 @@
+-- The asset store's definitions, as the code reads and writes them.
+use Prim.Native.Nat.{ℕ, zero, suc, _+_, _-_, _*_, _≤_, _<_}
+use mathlib.Core.Path.{_≡_, refl, sym, ap, _∙_}
+use mathlib.Core.Bool.{Bool, true, false, _&&_, false≢true}
+use mathlib.Core.List.{List, [], _∷_, _++_, append-nil}
+use native.Mathlib.Omega.{arith}
+use borrow.Author.Tests.{le-leb, leb-true, ltb-true, lt-ltb, le-ltb}
+use lib.Dec.{leb, ltb, eqb}
+use lib.ListN.{length, getD, set, take, drop, replicate, length-append, length-replicate, length-drop, drop-of-length-le}
+use lib.Seq.{sets, sets-eq, length-take-le}
+use Rattle.spec.specs.Bytes.{same, pad}
+use Rattle.spec.specs.Assets.{capacity, used, assetHeadOk, storeBytes, startAssets, lengthAt, idsAt, cell, idCell, idOk, find, lengthOk, bodyPlace, AssetHead, bodyCell, renew, usedAfter, outFor, cellFor, storeCells}
+use Rattle.spec.proofs.Assets.{given-up-room, given-up-max, used-after-more, used-after-max}
+use Rattle.assets.specs.Cells.{withAsset}
+use Rattle.spec.specs.declared.Place.the-variants.{At, Nothing}
+use Rattle.spec.specs.Words.{firstWhere}
+use Rattle.spec.proofs.Words.{and-left, and-right, not-so, first-here, first-on, first-end}
+
+-- the last test decides
+pub head-last : (bs : List ℕ) (a : ℕ) → a ≡ capacity bs → 1 ≤ a → a ≤ 128 → used bs ≤ a → eqb (length bs) (2 + a * 544) ≡ assetHeadOk bs
+unfolding assetHeadOk
+head-last bs a e b c d = rw (← e, le-leb _ _ b, le-leb _ _ c, le-leb _ _ d)
+
+-- ---- padded cells
+
+zero-at : (k j : ℕ) → _≡_ {A = ℕ} (getD (replicate k 0) j 0) 0
+zero-at zero j = refl
+zero-at (suc k) zero = refl
+zero-at (suc k) (suc j) = zero-at k j
+
+zeros-behind : (k : ℕ) (s : List ℕ) (j : ℕ) → getD (s ++ replicate k 0) j 0 ≡ getD s j 0
+zeros-behind k [] j = zero-at k j
+zeros-behind k (x ∷ s) zero = refl
+zeros-behind k (x ∷ s) (suc j) = zeros-behind k s j
+
+-- padding shows as the zeros that are read behind the end
+pub padded-at : (w : ℕ) (s : List ℕ) (j : ℕ) → getD (pad w s) j 0 ≡ getD s j 0
+padded-at w s j = zeros-behind (w - length s) s j
+
+pub padded-length : (w : ℕ) (s : List ℕ) → length s ≤ w → length (pad w s) ≡ w
+padded-length w s h = omega (arith, length-append s (replicate (w - length s) 0), length-replicate {A = ℕ} (w - length s) 0)
+
+-- ---- start
+
+pub start-is : (bs l : List ℕ) (a : ℕ) → length bs ≡ storeBytes a → l ≡ sets bs 0 (replicate (length bs) 0) → set l 0 a ≡ startAssets a
+unfolding startAssets
+start-is bs l a h e =
+    let n = length-replicate {A = ℕ} (length bs) 0 in
+    let k : length bs ≤ 0 + length (replicate {A = ℕ} (length bs) 0) = omega arith in
+    let z : l ≡ replicate (length bs) 0 =
+    e ∙ sets-eq (replicate (length bs) 0) bs 0 (omega arith) ∙ rw (drop-of-length-le bs k) (append-nil (replicate (length bs) 0)) in
+    let q : length bs ≡ suc (suc (a * 544)) = omega arith in
+    rw (z, q)
+
+-- ---- bodies
+
+pub length-is : (bs : List ℕ) (i a x y : ℕ) → a ≡ capacity bs → x ≡ getD bs (2 + a * 32 + i * 512) 0 → y ≡ getD bs (2 + a * 32 + i * 512 + 1) 0
+    → x * 256 + y ≡ lengthAt bs i
+length-is bs i a x y ea ex ey = rw (ex, ey, ea)
+
+-- ---- find
+
+-- id cell i holds the id
+abbrev pub holdsAt : List ℕ → List ℕ → ℕ → Bool
+holdsAt bs id i = same (cell 32 idsAt i bs) (idCell id)
+
+-- the cells from i on decide
+pub record Searching (bs id : List ℕ) (u i : ℕ) : Type 0 where
+  pub below : i ≤ u
+  pub end : u ≡ used bs
+  pub rest : find bs id ≡ firstWhere (holdsAt bs id) (u - i) i
+
+pub searching-none : (bs id : List ℕ) (u : ℕ) → u ≡ used bs → idOk id ≡ true → Searching bs id u 0
+unfolding find
+searching-none bs id u e h = let q : u - 0 ≡ used bs = omega arith in record { below = omega arith; end = e; rest = rw (h, q) }
+
+-- what the code's part of the store is, and how long
+cell-is : (bs : List ℕ) (i : ℕ) → take (2 + i * 32 + 32 - (2 + i * 32)) (drop (2 + i * 32) bs) ≡ cell 32 idsAt i bs
+cell-is bs i = let q : 2 + i * 32 + 32 - (2 + i * 32) ≡ 32 = omega arith in rw q
+
+pub cell-length : (bs : List ℕ) (i : ℕ) → 2 + i * 32 + 32 ≤ length bs → length (take (2 + i * 32 + 32 - (2 + i * 32)) (drop (2 + i * 32) bs)) ≡ 32
+cell-length bs i h =
+    let q : 2 + i * 32 + 32 - (2 + i * 32) ≡ 32 = omega arith in
+    rw q (length-take-le 32 (drop (2 + i * 32) bs) (omega (arith, length-drop (2 + i * 32) bs)))
+
+pub holds-is : (bs id s : List ℕ) (i : ℕ) (r : Bool) → s ≡ take (2 + i * 32 + 32 - (2 + i * 32)) (drop (2 + i * 32) bs) → 2 + i * 32 + 32 ≤ length bs
+    → r ≡ same s (pad (length s) id) → r ≡ holdsAt bs id i
+holds-is bs id s i r e h g =
+    g ∙ (let n : length s ≡ 32 = ap length e ∙ cell-length bs i h in rw (n, e, cell-is bs i))
+
+module _ {bs id : List ℕ} {u i : ℕ} (r : Searching bs id u i) where
+  pub searching-here : i < u → holdsAt bs id i ≡ true → i ≡ find bs id
+  searching-here h e = first-here (holdsAt bs id) (find bs id) i u (r .rest) h e
+
+  pub searching-on : i < u → holdsAt bs id i ≡ false → Searching bs id u (i + 1)
+  searching-on h e =
+      record { below = omega arith; end = r .end; rest = first-on (holdsAt bs id) (find bs id) i u (r .rest) h e }
+
+  pub searching-end : u ≤ i → i ≡ find bs id
+  searching-end h = first-end (holdsAt bs id) (find bs id) i u (r .rest) h
+
+-- an id that is no id finds nothing
+pub no-id : (bs id : List ℕ) (u : ℕ) → u ≡ used bs → idOk id ≡ false → u ≡ find bs id
+unfolding find
+no-id bs id u e h = rw h e
+
+-- ---- the place of a body
+
+pub length-pos : (n : ℕ) → lengthOk n ≡ true → 1 ≤ n
+unfolding lengthOk
+length-pos n e = leb-true 1 n (and-left (leb 1 n) _ e)
+
+pub length-max : (n : ℕ) → lengthOk n ≡ true → n ≤ 510
+unfolding lengthOk
+length-max n e = leb-true n 510 (and-right (leb 1 n) _ e)
+
+-- any fault gives nothing
+pub no-place : (bs id : List ℕ) → (assetHeadOk bs ≡ true → find bs id < used bs → lengthOk (lengthAt bs (find bs id)) ≡ true → ⊥)
+    → Nothing ≡ bodyPlace bs id
+unfolding bodyPlace
+no-place bs id h =
+    let i = find bs id in
+    let z = not-so
+    (assetHeadOk bs && (ltb i (used bs) && lengthOk (lengthAt bs i)))
+    (λ e. let e1 = and-right (assetHeadOk bs) _ e in
+    h (and-left _ _ e) (ltb-true _ _ (and-left _ _ e1)) (and-right (ltb i (used bs)) _ e1)) in
+    rw (sym z)
+
+pub place-is : (bs id : List ℕ) (i a n : ℕ) → assetHeadOk bs ≡ true → i ≡ find bs id → i < used bs → a ≡ capacity bs → n ≡ lengthAt bs i → lengthOk n ≡ true
+    → At (2 + a * 32 + i * 512 + 2) n ≡ bodyPlace bs id
+unfolding bodyPlace
+place-is bs id i a n h ei l ea en g =
+    let k : lengthOk (lengthAt bs i) ≡ true = rw (sym en) g in
+    rw (← ei, h, lt-ltb _ _ l, k, ea, en)
+
+pub wrong-length : (bs id : List ℕ) (i n : ℕ) (t : Bool) → i ≡ find bs id → n ≡ lengthAt bs i → t ≡ lengthOk n → t ≡ false → Nothing ≡ bodyPlace bs id
+wrong-length bs id i n t ei en et f = no-place bs id (λ h l g. false≢true (sym f ∙ et ∙ ap lengthOk (en ∙ ap (lengthAt bs) ei) ∙ g))
+
+-- ---- store
+
+pub with-asset-is : (out n a : ℕ) (id body o l₁ l₂ : List ℕ) → a ≡ capacity o → l₁ ≡ renew 32 2 out n (pad 32 id) o
+    → l₂ ≡ renew 512 (2 + a * 32) out n (bodyCell body) l₁ → set l₂ 1 n ≡ withAsset out n id body o
+unfolding withAsset
+with-asset-is out n a id body o l₁ l₂ ea e₁ e₂ = rw (e₂, e₁, ea)
+
+-- the cell that is given up, by what the code reads
+module _ (bs id : List ℕ) (u i : ℕ) (eu : u ≡ used bs) (ei : i ≡ find bs id) where
+  pub out-found : i < u → i ≡ outFor id bs
+  out-found h = rw (← eu, ← ei, lt-ltb i u h)
+
+  pub out-free : (a : ℕ) → a ≡ capacity bs → u ≤ i → u < a → u ≡ outFor id bs
+  out-free a ea h g = rw (← eu, ← ei, ← ea, le-ltb i u h, lt-ltb u a g)
+
+  pub out-oldest : (a : ℕ) → a ≡ capacity bs → u ≤ i → a ≤ u → 0 ≡ outFor id bs
+  out-oldest a ea h g = rw (← eu, ← ei, ← ea, le-ltb i u h, le-ltb u a g)
+
+-- the numbers that store works out
+pub record Renewal (bs id : List ℕ) (out n : ℕ) : Type 0 where
+  pub out-is : out ≡ outFor id bs
+  pub n-is : n ≡ usedAfter (used bs) (outFor id bs)
+  pub more : out < n
+  pub most : n ≤ capacity bs
+
+pub renewal : (bs id : List ℕ) (u out n : ℕ) → AssetHead bs → u ≡ used bs → out ≡ outFor id bs → n ≡ usedAfter u out → Renewal bs id out n
+renewal bs id u out n h eu eo en =
+    let r = given-up-room (capacity bs) (used bs) (find bs id) (h .a-pos) (h .u-max) in
+    let m = given-up-max (capacity bs) (used bs) (find bs id) (h .a-pos) (h .u-max) in
+    let k : n ≡ usedAfter (used bs) (outFor id bs) = rw (en, eo, eu) in
+    record {
+      out-is = eo;
+      n-is = k;
+      more = rw (k, eo) (used-after-more (capacity bs) (used bs) (outFor id bs) r m (h .u-max));
+      most = rw k (used-after-max (capacity bs) (used bs) (outFor id bs) r m (h .u-max));
+    }
+
+pub store-is : (bs id body l : List ℕ) (out n : ℕ) → Renewal bs id out n → l ≡ withAsset out n id body bs → l ≡ storeCells id body bs
+unfolding withAsset storeCells
+store-is bs id body l out n r e = e ∙ rw (r .n-is, r .out-is)
+
+pub cell-for-is : (bs id : List ℕ) (out n : ℕ) → Renewal bs id out n → n - 1 ≡ cellFor id bs
+unfolding cellFor
+cell-for-is bs id out n r = rw (r .n-is)

@@ -1,0 +1,215 @@
+// The asset store: its head, its ids, its bodies, and what store-asset and start write.
+ghost use mathlib.Core.Path.{_≡_};
+ghost use mathlib.Core.Bool.{true};
+ghost use Prim.Native.Nat.{suc, _+_, _-_, _*_, _<_, _≤_};
+ghost use lib.ListN.{length, getD};
+ghost use Rattle.spec.specs.Bytes.{same, pad};
+ghost use Rattle.spec.specs.Assets as spec;
+ghost use Rattle.spec.specs.Assets.{AssetHead, capacity, used};
+ghost use Rattle.assets.specs.Cells.{PlaceFits, withAsset};
+use spec::Place;
+
+// The byte as a number of 64 bits.
+fn wide(x: u8) -> u64
+    ensures { λ r. ⌜ r ≡ x ⌝ }
+    ensures { λ r. ⌜ r < 256 ⌝ }
+{
+    x as u64
+}
+
+// Whether the head and the length of an asset store are right.
+pub fn head_ok(bs: &[u8]) -> bool
+    ensures { λ r. ⌜ r ≡ spec.assetHeadOk (now (bs .entry)) ⌝ }
+{
+    if bs.len() < 2 {
+        return false;
+    }
+    let a = wide(bs[0]);
+    if a < 1 {
+        return false;
+    }
+    if 128 < a {
+        return false;
+    }
+    if a < wide(bs[1]) {
+        return false;
+    }
+    bs.len() as u64 == 2 + a * 544
+}
+
+// Whether a stored length is one that a body may have.
+pub fn length_ok(n: u64) -> bool
+    ensures { λ r. ⌜ r ≡ spec.lengthOk n ⌝ }
+{
+    1 <= n && n <= 510
+}
+
+// Whether the bytes are an asset's id.
+pub fn id_ok(id: &[u8]) -> bool
+    ensures { λ r. ⌜ r ≡ spec.idOk (now (id .entry)) ⌝ }
+{
+    if id.len() < 1 {
+        return false;
+    }
+    if 32 < id.len() {
+        return false;
+    }
+    scan::all_id(id)
+}
+
+// Whether id and body are an asset's.
+pub fn asset_ok(id: &[u8], body: &[u8]) -> bool
+    ensures { λ r. ⌜ r ≡ spec.assetOk (now (id .entry)) (now (body .entry)) ⌝ }
+{
+    if !id_ok(id) {
+        return false;
+    }
+    length_ok(body.len() as u64)
+}
+
+// Byte j, or 0 behind the end.
+fn byte_or_zero(s: &[u8], j: usize) -> u8
+    ensures { λ r. ⌜ r ≡ getD (now (s .entry)) j 0 ⌝ }
+{
+    if j < s.len() { s[j] } else { 0 }
+}
+
+// Whether a cell is the bytes of s, zero padded.
+fn holds(cell: &[u8], s: &[u8]) -> bool
+    requires { ⌜ length (now s) ≤ length (now cell) ⌝ }
+    ensures { λ r. ⌜ r ≡ same (now (cell .entry)) (pad (length (now (cell .entry))) (now (s .entry))) ⌝ }
+{
+    let mut j = 0;
+    while j < cell.len() {
+        if cell[j] != byte_or_zero(s, j) {
+            return false;
+        }
+        j += 1;
+    }
+    true
+}
+
+// The lowest used cell that holds the id; u where there is none, or the id is no id.
+pub fn find(bs: &[u8], id: &[u8]) -> u64
+    requires { ⌜ AssetHead (now bs) ⌝ }
+    ensures { λ r. ⌜ r ≡ spec.find (now (bs .entry)) (now (id .entry)) ⌝ }
+    ensures { λ r. ⌜ r ≤ used (now (bs .entry)) ⌝ }
+{
+    let u = wide(bs[1]);
+    if !id_ok(id) {
+        return u;
+    }
+    let mut i: u64 = 0;
+    while i < u {
+        let start = (2 + i * 32) as usize;
+        let end = start + 32;
+        if holds(&bs[start..end], id) {
+            return i;
+        }
+        i += 1;
+    }
+    i
+}
+
+// The length that stands in body cell i.
+pub fn length_at(bs: &[u8], i: u64) -> u64
+    requires { ⌜ AssetHead (now bs) ⌝ }
+    requires { ⌜ i < capacity (now bs) ⌝ }
+    ensures { λ r. ⌜ r ≡ spec.lengthAt (now (bs .entry)) i ⌝ }
+    ensures { λ r. ⌜ r < 65536 ⌝ }
+{
+    let at = 2 + wide(bs[0]) * 32 + i * 512;
+    wide(bs[at as usize]) * 256 + wide(bs[(at + 1) as usize])
+}
+
+// The part of a store with a right head that is the asset's body; nothing for a missing id or a wrong length.
+fn place_in(bs: &[u8], id: &[u8]) -> Place
+    requires { ⌜ AssetHead (now bs) ⌝ }
+    ensures { λ r. ⌜ r ≡ spec.bodyPlace (now (bs .entry)) (now (id .entry)) ⌝ }
+    ensures { λ r. ⌜ PlaceFits (now (bs .entry)) r ⌝ }
+{
+    let i = find(bs, id);
+    if wide(bs[1]) <= i {
+        return Place::Nothing;
+    }
+    let n = length_at(bs, i);
+    if !length_ok(n) {
+        return Place::Nothing;
+    }
+    let start = 2 + wide(bs[0]) * 32 + i * 512 + 2;
+    Place::At(start as usize, n as usize)
+}
+
+// The part of the store that is the asset's body; nothing on any fault or missing id.
+pub fn body_place(bs: &[u8], id: &[u8]) -> Place
+    ensures { λ r. ⌜ r ≡ spec.bodyPlace (now (bs .entry)) (now (id .entry)) ⌝ }
+    ensures { λ r. ⌜ PlaceFits (now (bs .entry)) r ⌝ }
+{
+    if !head_ok(bs) {
+        return Place::Nothing;
+    }
+    place_in(bs, id)
+}
+
+// An empty store of a cells.
+pub fn start(bs: &mut [u8], a: u64)
+    requires { ⌜ 1 ≤ a ⌝ }
+    requires { ⌜ a ≤ 128 ⌝ }
+    requires { ⌜ length (now bs) ≡ spec.storeBytes a ⌝ }
+    ensures { λ r. ⌜ now (bs .exit) ≡ spec.startAssets a ⌝ }
+{
+    let n = bs.len();
+    cells::clear(bs, 0, n);
+    bs[0] = a as u8;
+}
+
+// The cell that is given up: the one that holds the id, none (u) while there is room, or the oldest.
+fn out_for(bs: &[u8], id: &[u8]) -> u64
+    requires { ⌜ AssetHead (now bs) ⌝ }
+    ensures { λ r. ⌜ r ≡ spec.outFor (now (id .entry)) (now (bs .entry)) ⌝ }
+{
+    let u = wide(bs[1]);
+    let i = find(bs, id);
+    if i < u {
+        return i;
+    }
+    if u < wide(bs[0]) {
+        return u;
+    }
+    0
+}
+
+// How many cells are used once cell `out` is given up and one is written.
+fn used_after(u: u64, out: u64) -> u64
+    requires { ⌜ u < 256 ⌝ }
+    ensures { λ r. ⌜ r ≡ spec.usedAfter u out ⌝ }
+{
+    if out == u { u + 1 } else { u }
+}
+
+// Of n used cells, cell `out` is given up, and the asset goes into the last one.
+fn put_asset(bs: &mut [u8], out: u64, n: u64, id: &[u8], body: &[u8])
+    requires { ⌜ AssetHead (now bs) ⌝ }
+    requires { ⌜ (out < n) × (n ≤ capacity (now bs)) ⌝ }
+    requires { ⌜ (length (now id) ≤ 32) × (length (now body) ≤ 510) ⌝ }
+    ensures { λ r. ⌜ now (bs .exit) ≡ withAsset out n (now (id .entry)) (now (body .entry)) (now (bs .entry)) ⌝ }
+{
+    let bodies = 2 + wide(bs[0]) as usize * 32;
+    let head = [(body.len() / 256) as u8, (body.len() % 256) as u8];
+    cells::renew_cells(bs, 32, 2, out as usize, n as usize, &id[0..0], id);
+    cells::renew_cells(bs, 512, bodies, out as usize, n as usize, &head, body);
+    bs[1] = n as u8;
+}
+
+// The asset replaces the one with its id, goes into a free cell, or takes the oldest one's place. The answer is its cell.
+pub fn store(bs: &mut [u8], id: &[u8], body: &[u8]) -> u64
+    requires { ⌜ AssetHead (now bs) ⌝ }
+    requires { ⌜ spec.assetOk (now id) (now body) ≡ true ⌝ }
+    ensures { λ r. ⌜ now (bs .exit) ≡ spec.storeCells (now (id .entry)) (now (body .entry)) (now (bs .entry)) ⌝ }
+    ensures { λ r. ⌜ r ≡ spec.cellFor (now (id .entry)) (now (bs .entry)) ⌝ }
+{
+    let out = out_for(bs, id);
+    let n = used_after(wide(bs[1]), out);
+    put_asset(bs, out, n, id, body);
+    n - 1
+}

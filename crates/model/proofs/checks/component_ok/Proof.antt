@@ -1,0 +1,17 @@
+-- Each branch decides whether the parent is below max 1 i.
+use Rattle.model.proofs.Laws.{component-fits, component-not}
+use native.Mathlib.Omega.{arith}
+use Rattle.model.proofs.checks.component_ok.Statement.{statement}
+use Rattle.model.proofs.checks.component_ok.Tie as tie
+
+returns : tie.Need-returns
+returns c = component-fits _ _ _ (omega arith)
+
+returns-2 : tie.Need-returns-2
+returns-2 c = component-fits _ _ _ (omega arith)
+
+returns-3 : tie.Need-returns-3
+returns-3 c = component-not _ _ _ (omega arith)
+
+pub component-ok-spec : {M : Type 1} → statement M
+component-ok-spec = tie.close (tie.spec returns returns-2 returns-3)

@@ -1,0 +1,78 @@
+// The names: cells of 24 bytes, a name and then zeros in each. The passes over bytes take no branch by a byte, so that
+// they go over many at once.
+ghost use mathlib.Core.Path.{_≡_};
+ghost use Prim.Native.Nat.{_≤_};
+ghost use lib.ListN.{length};
+ghost use Rattle.spec.specs.Model.{namesOk};
+ghost use Rattle.model.specs.Cells.{cellByte, cellBytes, follows, zerosLast};
+
+// Whether x may stand in a cell: a byte of a name, or 0.
+fn cell_byte(x: u8) -> bool
+    ensures { λ r. ⌜ r ≡ cellByte x ⌝ }
+{
+    scan::name_byte(x) | (x == 0)
+}
+
+// Whether every byte may stand in a cell.
+fn cell_bytes(s: &[u8]) -> bool
+    ensures { λ r. ⌜ r ≡ cellBytes (now (s .entry)) ⌝ }
+{
+    let mut fine = true;
+    let mut i = 0;
+    while i < s.len() {
+        fine = fine & cell_byte(s[i]);
+        i += 1;
+    }
+    fine
+}
+
+// Whether b may stand behind a: behind a 0 only 0.
+fn follows(a: u8, b: u8) -> bool
+    ensures { λ r. ⌜ r ≡ follows a b ⌝ }
+{
+    (a != 0) | (b == 0)
+}
+
+// Whether the cell starts with no 0 and has nothing else behind a 0.
+fn zeros_last(cell: &[u8]) -> bool
+    requires { ⌜ 1 ≤ length (now cell) ⌝ }
+    ensures { λ r. ⌜ r ≡ zerosLast (now (cell .entry)) ⌝ }
+{
+    let last = cell.len() - 1;
+    let mut fine = cell[0] != 0;
+    let mut i = 0;
+    while i < last {
+        fine = fine & follows(cell[i], cell[i + 1]);
+        i += 1;
+    }
+    fine
+}
+
+// Whether the names are 1 to 256 cells, each of them a name.
+pub fn names_ok(names: &[u8]) -> bool
+    ensures { λ r. ⌜ r ≡ namesOk (now (names .entry)) ⌝ }
+{
+    let l = names.len();
+    if l < 1 {
+        return false;
+    }
+    if 6144 < l {
+        return false;
+    }
+    if l % 24 != 0 {
+        return false;
+    }
+    if !cell_bytes(names) {
+        return false;
+    }
+    let n = l / 24;
+    let mut k = 0;
+    while k < n {
+        let at = 24 * k;
+        if !zeros_last(&names[at..at + 24]) {
+            return false;
+        }
+        k += 1;
+    }
+    true
+}

@@ -1,0 +1,188 @@
+-- Laws of what a path selects, as the code goes: names, the components under a type, the items, the forms.
+use Prim.Native.Nat.{ℕ, _+_, _-_, _*_, _/_, _%_, _^_, _<_, _≤_}
+use mathlib.Core.Path.{_≡_, refl, sym, ap, _∙_}
+use mathlib.Core.Bool.{Bool, true, false, not, _&&_, _||_}
+use mathlib.Core.List.{List}
+use mathlib.Core.Option.{some}
+use native.Mathlib.Nat.{one-mul}
+use native.Mathlib.Omega.{arith}
+use borrow.Author.Tests.{eq-eqb, ne-eqb, not-true, not-false}
+use lib.Bits.{bitOr}
+use lib.Dec.{eqb, lit<}
+use lib.ListN.{length, take, drop, length-take}
+use lib.Pow.{shl-exact, ones-split, ones-lt, high}
+use lib.Seq.{take-take}
+use Rattle.spec.specs.Words.{anyBelow, bit, setOf}
+use Rattle.spec.specs.Bytes.{same}
+use Rattle.spec.specs.Model.{Checked, letters, nameCell, parentOf, nameOf, componentOf, components, items, componentWord, itemWord}
+use Rattle.spec.specs.Path.{Form, subtree, typed, otherForm, formOf, isNamed, hasType, under, inSubtree, inTyped, selectSubtree, selectTyped, selectForm, anyItem, select}
+use Rattle.spec.specs.declared.Selection.{Selection}
+use Rattle.spec.specs.declared.Selection.the-variants.{Items, NotFound}
+use Rattle.spec.proofs.Words.{by-cond}
+use Rattle.spec.proofs.Bits.{or-joins, set-lt, set-ext, set-all}
+use Rattle.spec.proofs.Path.{under-zero}
+use Rattle.path.specs.declared.PathForm.{PathForm}
+use Rattle.path.specs.declared.PathForm.the-variants.{Subtree, Typed}
+use Rattle.path.specs.Forms.{meaning, NamesFit}
+use Rattle.select.specs.Choice.{taken, chosen, byNames, SelectionFits}
+
+-- ---- sets
+
+-- a set of numbers below i, with the bit that is shifted to i
+pub or-shifted : (set i : ℕ) → i < 64 → set < 2 ^ i → bitOr set (1 * 2 ^ i % 2 ^ 64) ≡ 2 ^ i + set
+or-shifted set i h l =
+    ap (bitOr set) (shl-exact {a = 1} 1 i 64 (lit< tt) (omega arith) ∙ one-mul (2 ^ i)) ∙ or-joins set i l
+
+-- all ones of 64, less those above m
+pub all-shifted : (m : ℕ) → m ≤ 64 → (2 ^ 64 - 1) / 2 ^ (64 - m) ≡ setOf anyItem m
+all-shifted m h =
+    let e : 64 ≡ m + (64 - m) = omega arith in
+    ap (λ (x : ℕ). (2 ^ x - 1) / 2 ^ (64 - m)) e
+    ∙ ap (λ (x : ℕ). x / 2 ^ (64 - m)) (ones-split m (64 - m))
+    ∙ high (2 ^ m - 1) (64 - m) (ones-lt (64 - m))
+    ∙ sym (set-all m)
+
+-- ---- names
+
+-- the name's bytes, as the code takes them out of the cell
+pub named-is : (names : List ℕ) (k n : ℕ) (t : List ℕ) (r : Bool) → n ≡ letters (take (24 * k + 24 - 24 * k) (drop (24 * k) names))
+    → n ≤ length (take (24 * k + 24 - 24 * k) (drop (24 * k) names)) → r ≡ same (take (24 * k + n - 24 * k) (drop (24 * k) names)) t → r ≡ isNamed names k t
+unfolding isNamed
+named-is names k n t r en le er =
+    let a : 24 * k + 24 - 24 * k ≡ 24 = omega arith in
+    let b : 24 * k + n - 24 * k ≡ n = omega arith in
+    let l : n ≤ 24 = omega (arith, length-take (24 * k + 24 - 24 * k) (drop (24 * k) names)) in
+    let f : n ≡ letters (nameCell names k) = en ∙ rw a in
+    er ∙ rw (b, ← f, take-take n 24 (drop (24 * k) names) l)
+
+-- ---- tests in a row
+pub or-yes : (t a b : Bool) → t ≡ a → t ≡ true → true ≡ a || b
+or-yes t a b e z = let q : a ≡ true = sym e ∙ z in rw q
+
+pub or-no : (t a b r : Bool) → t ≡ a → t ≡ false → r ≡ b → r ≡ a || b
+or-no t a b r e z g = let q : a ≡ false = sym e ∙ z in rw (q, g)
+
+module _ (names y : List ℕ) (w set : ℕ) (u t : Bool) (e : t ≡ bit set (componentOf w)) where
+  pub not-under : t ≡ false → false ≡ taken names set u y w
+  unfolding taken
+  not-under z = rw (← e, z)
+
+  pub any-type : t ≡ true → u ≡ false → true ≡ taken names set u y w
+  unfolding taken
+  any-type z f = rw (← e, z, f)
+
+  pub of-type : t ≡ true → u ≡ true → (r : Bool) → r ≡ isNamed names (nameOf w) y → r ≡ taken names set u y w
+  unfolding taken
+  of-type z f r g = rw (← e, z, f, g)
+
+-- ---- a checked model's words
+module _ (model names : List ℕ) (M : Checked model names) where
+  pub component-fits : (i w : ℕ) → i < components model → w ≡ componentWord model i → (24 * nameOf w + 24 ≤ length names) × (parentOf w < 64)
+  component-fits i w h e =
+      let n = M .name i h in
+      let p = M .parent i h in
+      let z = M .sizes .c-max in
+      rw e (omega (arith, M .names-len), omega arith)
+
+  pub item-fits : (j w : ℕ) → j < items model → w ≡ itemWord model j → (24 * nameOf w + 24 ≤ length names) × (componentOf w < 64)
+  item-fits j w h e =
+      let n = M .item-name j h in
+      let p = M .component j h in
+      let z = M .sizes .c-max in
+      rw e (omega (arith, M .names-len), omega arith)
+
+pub chosen-is : (model names : List ℕ) (set : ℕ) (u : Bool) (y : List ℕ) (j w : ℕ) (b : Bool) → w ≡ itemWord model j
+    → b ≡ taken names set u y w → b ≡ chosen model names set u y j
+unfolding chosen
+chosen-is model names set u y j w b ew eb = rw (eb, ew)
+
+-- ---- the selections
+and-true : (b : Bool) → b && true ≡ b
+and-true true = refl
+and-true false = refl
+
+module _ (model names t y : List ℕ) (set : ℕ) (e : set ≡ under model names t (components model)) where
+  chosen-subtree : setOf (chosen model names set false y) (items model) ≡ setOf (inSubtree model names t) (items model)
+  unfolding chosen taken inSubtree
+  chosen-subtree = set-ext _ _ (items model) (λ j h. rw e (and-true (bit (under model names t (components model)) (componentOf (itemWord model j)))))
+
+  chosen-typed : setOf (chosen model names set true y) (items model) ≡ setOf (inTyped model names t y) (items model)
+  unfolding chosen taken inTyped inSubtree
+  chosen-typed = set-ext _ _ (items model) (λ j h. rw e)
+
+  any-from : not (anyBelow (hasType model names t) (components model)) ≡ eqb set 0
+  any-from = rw e (sym (under-zero model names t (components model)))
+
+  none : set ≡ 0 → anyBelow (hasType model names t) (components model) ≡ false
+  none z = not-true _ (any-from ∙ eq-eqb set 0 z)
+
+  some-one : (set ≡ 0 → ⊥) → anyBelow (hasType model names t) (components model) ≡ true
+  some-one z = not-false _ (any-from ∙ ne-eqb set 0 z)
+
+  pub type-unknown : (u : Bool) → set ≡ 0 → NotFound ≡ byNames model names t u y
+  unfolding selectTyped selectSubtree
+  type-unknown true z = rw (none z)
+  type-unknown false z = rw (none z)
+
+  module _ (z : set ≡ 0 → ⊥) (u : Bool) (q : ℕ) (eq : q ≡ setOf (chosen model names set u y) (items model)) where
+    pub subtree-items : u ≡ false → Items q ≡ byNames model names t u y
+    unfolding selectSubtree
+    subtree-items f =
+        let g : q ≡ setOf (inSubtree model names t) (items model) = rw (f, chosen-subtree) at eq in
+        rw (f, some-one z, g)
+
+    module _ (f : u ≡ true) where
+      items-are : q ≡ setOf (inTyped model names t y) (items model)
+      items-are = rw (f, chosen-typed) at eq
+
+      pub typed-none : q ≡ 0 → NotFound ≡ byNames model names t u y
+      unfolding selectTyped
+      typed-none n = rw (f, some-one z, ← items-are, eq-eqb q 0 n)
+
+      pub typed-items : (q ≡ 0 → ⊥) → Items q ≡ byNames model names t u y
+      unfolding selectTyped
+      typed-items n = rw (f, some-one z, ← items-are, ne-eqb q 0 n)
+
+-- ---- the forms
+pub subtree-fits : (f : PathForm) (n l : ℕ) → f ≡ Subtree n → NamesFit f l → 2 + n ≤ l
+subtree-fits f n l e h = rw e at h
+
+pub typed-fits : (f : PathForm) (n k l : ℕ) → f ≡ Typed n k → NamesFit f l → 2 + n + 18 + k ≤ l
+typed-fits f n k l e h = rw e at h
+
+pub form-is : (path : List ℕ) (f g : PathForm) → f ≡ g → meaning path f ≡ formOf path → meaning path g ≡ formOf path
+form-is path f g e h = rw e at h
+
+form-fits : (model names : List ℕ) (f : Form) → SelectionFits (selectForm model names f) (items model)
+unfolding selectForm selectSubtree selectTyped
+form-fits model names (subtree t) =
+    by-cond (λ (x : Selection). SelectionFits x (items model)) (anyBelow (hasType model names t) (components model)) _ _ (λ e. set-lt _ _) (λ e. tt)
+form-fits model names (typed t y) =
+    let P : Selection → Type 0 = λ (x : Selection). SelectionFits x (items model) in
+    by-cond P (anyBelow (hasType model names t) (components model)) _ _
+    (λ e. by-cond P (eqb (setOf (inTyped model names t y) (items model)) 0) _ _ (λ d. tt) (λ d. set-lt _ _))
+    (λ e. tt)
+form-fits model names otherForm = tt
+
+pub path-fits : (model names path : List ℕ) (r : Selection) → r ≡ select model names (some path) → SelectionFits r (items model)
+unfolding select
+path-fits model names path r e = rw e (form-fits model names (formOf path))
+
+module _ (model names path : List ℕ) where
+  pub path-other : otherForm ≡ formOf path → NotFound ≡ select model names (some path)
+  unfolding select selectForm
+  path-other e = rw (← e)
+
+  pub path-subtree : (n : ℕ) (r : Selection) → subtree (take n (drop 2 path)) ≡ formOf path
+      → r ≡ selectSubtree model names (take (2 + n - 2) (drop 2 path)) → r ≡ select model names (some path)
+  unfolding select selectForm
+  path-subtree n r e g = let q : 2 + n - 2 ≡ n = omega arith in g ∙ rw (q, ← e)
+
+  pub path-typed : (n k : ℕ) (r : Selection) → typed (take n (drop 2 path)) (take k (drop (2 + n + 18) path)) ≡ formOf path
+      → r ≡ selectTyped model names (take (2 + n - 2) (drop 2 path)) (take (2 + n + 18 + k - (2 + n + 18)) (drop (2 + n + 18) path))
+      → r ≡ select model names (some path)
+  unfolding select selectForm
+  path-typed n k r e g =
+      let q : 2 + n - 2 ≡ n = omega arith in
+      let h : 2 + n + 18 + k - (2 + n + 18) ≡ k = omega arith in
+      g ∙ rw (q, h, ← e)

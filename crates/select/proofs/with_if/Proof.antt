@@ -1,0 +1,19 @@
+-- The bit of i is above the set, so `
+-- ` adds it.
+use Rattle.select.proofs.Laws.{or-shifted}
+use Prim.Native.Nat.{_-_}
+use borrow.Author.Needs.{needs}
+use Rattle.select.proofs.with_if.Statement.{statement}
+use Rattle.select.proofs.with_if.Tie as tie
+
+shl-result : tie.Need-shl-result
+shl-result c = search needs
+
+returns : tie.Need-returns
+returns c = rw (c .if1 .taken) (or-shifted (c .before .args .set) (c .before .args .i) (c .before .pre .0) (c .before .pre .1))
+
+returns-2 : tie.Need-returns-2
+returns-2 c = rw (c .if1 .left)
+
+pub with-if-spec : {M : Type 1} → statement M
+with-if-spec = tie.close (tie.spec shl-result returns returns-2)

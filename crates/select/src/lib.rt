@@ -1,0 +1,156 @@
+// Selections: sets of data items, one bit each, and what a path selects.
+ghost use mathlib.Core.Path.{_≡_};
+ghost use mathlib.Core.Bool.{cond, _||_};
+ghost use mathlib.Core.Option.{some};
+ghost use Prim.Native.Nat.{_+_, _*_, _^_, _<_, _≤_};
+ghost use lib.Count.{ones};
+ghost use lib.ListN.{length};
+ghost use Rattle.spec.specs.Words.{bit, setOf};
+ghost use Rattle.spec.specs.Model.{Checked, parentOf, nameOf, componentOf, components, items};
+ghost use Rattle.spec.specs.Path.{isNamed, under, anyItem, select};
+ghost use Rattle.select.specs.Choice.{taken, chosen, byNames, SelectionFits};
+use path::PathForm;
+use spec::Selection;
+
+// Whether item i is in the selection.
+pub fn has(selection: u64, i: u64) -> bool
+    requires { ⌜ i < 64 ⌝ }
+    ensures { λ r. ⌜ r ≡ bit selection i ⌝ }
+{
+    (selection >> i) & 1 == 1
+}
+
+// How many items the selection has.
+pub fn count(selection: u64) -> u64
+    ensures { λ r. ⌜ (r ≡ ones selection) × (r ≤ 64) ⌝ }
+{
+    u64::count_ones(selection) as u64
+}
+
+// All of m items.
+pub fn all_items(m: u64) -> u64
+    requires { ⌜ (1 ≤ m) × (m ≤ 64) ⌝ }
+    ensures { λ r. ⌜ (r ≡ setOf anyItem m) × (r < 2 ^ m) ⌝ }
+{
+    18446744073709551615 >> (64 - m)
+}
+
+// The set, with i where `taken` says so; i is above all in the set.
+fn with_if(taken: bool, set: u64, i: u64) -> u64
+    requires { ⌜ (i < 64) × (set < 2 ^ i) ⌝ }
+    ensures { λ r. ⌜ r ≡ cond taken (2 ^ i + set) set ⌝ }
+{
+    if taken {
+        return set | (1 << i);
+    }
+    set
+}
+
+// Whether name k is the text t.
+fn is_named(names: &[u8], k: u64, t: &[u8]) -> bool
+    requires { ⌜ 24 * k + 24 ≤ length (now names) ⌝ }
+    ensures { λ r. ⌜ r ≡ isNamed (now (names .entry)) k (now (t .entry)) ⌝ }
+{
+    let at = 24 * (k as usize);
+    let end = at + 24;
+    let stop = at + model::name_length(&names[at..end]);
+    scan::equal(&names[at..stop], t)
+}
+
+// Whether a component, by its word, has type name t or a parent in the set.
+fn joins(names: &[u8], word: u64, t: &[u8], set: u64) -> bool
+    requires { ⌜ (24 * nameOf word + 24 ≤ length (now names)) × (parentOf word < 64) ⌝ }
+    ensures { λ r. ⌜ r ≡ (isNamed (now (names .entry)) (nameOf word) (now (t .entry)) || bit set (parentOf word)) ⌝ }
+{
+    if is_named(names, word % 256, t) {
+        return true;
+    }
+    has(set, word / 256)
+}
+
+// The components that have type name t, or an ancestor that has. A parent stands before its children, so one pass does it.
+fn under_type(model: &[u32], names: &[u8], t: &[u8]) -> u64
+    requires { ⌜ Checked (now model) (now names) ⌝ }
+    ensures { λ r. ⌜ r ≡ under (now (model .entry)) (now (names .entry)) (now (t .entry)) (components (now (model .entry))) ⌝ }
+{
+    let c = model::components(model);
+    let mut set: u64 = 0;
+    let mut i: u64 = 0;
+    while i < c {
+        let word = model::component_word(model, i);
+        set = with_if(joins(names, word, t, set), set, i);
+        i += 1;
+    }
+    set
+}
+
+// Whether an item, by its word, is of a component in the set and, where `typed` asks for it, of item type y.
+fn takes(names: &[u8], word: u64, set: u64, typed: bool, y: &[u8]) -> bool
+    requires { ⌜ (24 * nameOf word + 24 ≤ length (now names)) × (componentOf word < 64) ⌝ }
+    ensures { λ r. ⌜ r ≡ taken (now (names .entry)) set typed (now (y .entry)) word ⌝ }
+{
+    if !has(set, word / 256 % 256) {
+        return false;
+    }
+    if !typed {
+        return true;
+    }
+    is_named(names, word % 256, y)
+}
+
+// The items of the components in the set; where `typed` asks for it, only those of item type y.
+fn items_of(model: &[u32], names: &[u8], set: u64, typed: bool, y: &[u8]) -> u64
+    requires { ⌜ Checked (now model) (now names) ⌝ }
+    ensures { λ r. ⌜ r ≡ setOf (chosen (now (model .entry)) (now (names .entry)) set typed (now (y .entry))) (items (now (model .entry))) ⌝ }
+{
+    let m = model::items(model);
+    let mut selection: u64 = 0;
+    let mut j: u64 = 0;
+    while j < m {
+        let word = model::item_word(model, j);
+        selection = with_if(takes(names, word, set, typed, y), selection, j);
+        j += 1;
+    }
+    selection
+}
+
+// What //T selects; where `typed` asks for it, what //T//DataItem[@type="Y"] does.
+fn select_names(model: &[u32], names: &[u8], t: &[u8], typed: bool, y: &[u8]) -> Selection
+    requires { ⌜ Checked (now model) (now names) ⌝ }
+    ensures { λ r. ⌜ r ≡ byNames (now (model .entry)) (now (names .entry)) (now (t .entry)) typed (now (y .entry)) ⌝ }
+{
+    let set = under_type(model, names, t);
+    if set == 0 {
+        return Selection::NotFound;
+    }
+    let selection = items_of(model, names, set, typed, y);
+    if !typed {
+        return Selection::Items(selection);
+    }
+    if selection == 0 {
+        return Selection::NotFound;
+    }
+    Selection::Items(selection)
+}
+
+// What a path selects.
+pub fn select_path(model: &[u32], names: &[u8], path: &[u8]) -> Selection
+    requires { ⌜ Checked (now model) (now names) ⌝ }
+    ensures { λ r. ⌜ r ≡ select (now (model .entry)) (now (names .entry)) (some (now (path .entry))) ⌝ }
+    ensures { λ r. ⌜ SelectionFits r (items (now (model .entry))) ⌝ }
+{
+    let form = path::path_form(path);
+    match form {
+        PathForm::Subtree(n) => {
+            let end = 2 + n;
+            select_names(model, names, &path[2..end], false, &path[end..])
+        }
+        PathForm::Typed(n, k) => {
+            let end = 2 + n;
+            let at = end + 18;
+            let stop = at + k;
+            select_names(model, names, &path[2..end], true, &path[at..stop])
+        }
+        PathForm::Other => Selection::NotFound,
+    }
+}
