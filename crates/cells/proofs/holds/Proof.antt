@@ -4,11 +4,11 @@ use mathlib.Core.Path.{sym, _∙_}
 use native.Mathlib.Omega.{arith}
 use borrow.Author.Needs.{needs}
 use lib.ListN.{length}
-use Rattle.assets.proofs.Laws.{padded-at, padded-length}
+use Rattle.cells.proofs.Laws.{padded-at, padded-length}
 use Rattle.spec.specs.Bytes.{pad}
 use Rattle.scan.proofs.Laws.{Agreed, agreed-none, agreed-more, agreed-not, agreed-all}
-use Rattle.assets.proofs.holds.Statement.{statement}
-use Rattle.assets.proofs.holds.Tie as tie
+use Rattle.cells.proofs.holds.Statement.{statement}
+use Rattle.cells.proofs.holds.Tie as tie
 
 abbrev Inv-loop : tie.InvT-loop
 Inv-loop cell s j₀ j = Agreed cell (pad (length cell) s) j

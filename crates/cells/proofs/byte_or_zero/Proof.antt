@@ -3,8 +3,8 @@ use Prim.Native.Nat.{_-_}
 use mathlib.Core.Path.{sym}
 use borrow.Author.Needs.{needs}
 use lib.ListN.{List·getD-eq-default}
-use Rattle.assets.proofs.byte_or_zero.Statement.{statement}
-use Rattle.assets.proofs.byte_or_zero.Tie as tie
+use Rattle.cells.proofs.byte_or_zero.Statement.{statement}
+use Rattle.cells.proofs.byte_or_zero.Tie as tie
 
 shared-slice-read-result : tie.Need-shared-slice-read-result
 shared-slice-read-result c = search needs
