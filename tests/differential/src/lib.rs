@@ -4,6 +4,7 @@
 pub mod call;
 pub mod client;
 pub mod damaged;
+pub mod fixture;
 pub mod guard;
 pub mod lists;
 pub mod pair;
