@@ -44,7 +44,7 @@ pub mod ffi;
 mod reply;
 mod value;
 
-pub use reply::{Assets, AssetRow, Observations, Row};
+pub use reply::{AssetRow, Assets, Observations, Row};
 pub use value::{Level, Value};
 
 use std::fmt;

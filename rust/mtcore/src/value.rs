@@ -52,7 +52,8 @@ impl Value {
             1 => Some(Value::Sample(low as i32)),
             2 => Some(Value::Event(low)),
             3 => {
-                let level = [Level::Normal, Level::Warning, Level::Fault].get((low / CODES) as usize).copied()?;
+                let level =
+                    [Level::Normal, Level::Warning, Level::Fault].get((low / CODES) as usize).copied()?;
                 Some(Value::Condition(level, low % CODES))
             }
             _ => None,

@@ -5,11 +5,25 @@ use std::fmt;
 /// A call after a start, with its arguments in the C interface's shapes.
 #[derive(Clone)]
 pub enum Call {
-    Observe { item: u64, time: u64, host: u64, value: u64 },
-    StoreAsset { id: Vec<u8>, body: Vec<u8>, host: u64 },
+    Observe {
+        item: u64,
+        time: u64,
+        host: u64,
+        value: u64,
+    },
+    StoreAsset {
+        id: Vec<u8>,
+        body: Vec<u8>,
+        host: u64,
+    },
     /// With the words that stand in the reply buffer at the call.
-    Request { text: Vec<u8>, reply: Vec<u64> },
-    Body { id: Vec<u8> },
+    Request {
+        text: Vec<u8>,
+        reply: Vec<u64>,
+    },
+    Body {
+        id: Vec<u8>,
+    },
 }
 
 /// The arguments of a start, with what stands in the stores before it.
@@ -41,7 +55,7 @@ impl Answer {
     pub fn refusal(self) -> u64 {
         match self {
             Answer::Pair(number, _) => number,
-            Answer::Word(word) => word.checked_sub(1 << 63).unwrap_or(0),
+            Answer::Word(word) => word.saturating_sub(1 << 63),
             Answer::Part(..) => 0,
         }
     }

@@ -45,7 +45,12 @@ impl Client {
 
     /// Takes the answer of a poll. A refused one hands nothing over and ends the stretch only where
     /// the next number has been written over or cannot be asked for.
-    pub fn take<F: FaultSet>(&mut self, answer: Answer, reply: &[u64], machine: &Machine<F>) -> Result<(), String> {
+    pub fn take<F: FaultSet>(
+        &mut self,
+        answer: Answer,
+        reply: &[u64],
+        machine: &Machine<F>,
+    ) -> Result<(), String> {
         match answer {
             Answer::Pair(0, k) => self.accept(k as usize, reply, machine),
             Answer::Pair(15, _) => Ok(()),
@@ -93,7 +98,9 @@ impl Client {
             .map(|row| [row.number, row.time, row.value.packed(row.item as u64, Clean)]);
         let joined = self.rows.iter().copied().eq(expected.by_ref());
         if !joined {
-            return Err(format!("windows from {begun} up to {next} do not join to the matching observations"));
+            return Err(format!(
+                "windows from {begun} up to {next} do not join to the matching observations"
+            ));
         }
         Ok(())
     }

@@ -21,7 +21,8 @@ pub fn run<C: Core>(core: &C, seed: u64, counts: &mut Counts) -> Result<(), Diff
     let draw = Draw::new(&mut rng, &start);
     for _ in 0..rng.below(60) {
         let call = draw.call(&mut rng, &pair, 25);
-        let answer = step(&mut pair, &call).map_err(|what| fail(format!("{call:?} after {start:?}"), what))?;
+        let answer =
+            step(&mut pair, &call).map_err(|what| fail(format!("{call:?} after {start:?}"), what))?;
         counts.call(&call, answer);
     }
     let sound = copy(&pair, &start);
@@ -60,7 +61,8 @@ fn step<C: Core>(pair: &mut Pair<C>, call: &Call) -> Result<Answer, String> {
     };
     // Store-asset's cell 0 is the one accepted answer that looks like Same.
     let stored = matches!((call, answer), (Call::StoreAsset { .. }, Answer::Word(0)));
-    if !stored && !(kept && reply_kept) {
+    let unchanged = kept && reply_kept;
+    if !stored && !unchanged {
         return Err("a call that adds nothing changed a store or the reply".into());
     }
     Ok(answer)
@@ -107,7 +109,7 @@ fn damage_observations(rng: &mut Rng, words: &mut Vec<u64>) {
     let sound = (1..=64).contains(&m) && (1..=room).contains(&n) && 2 * n + 6 * m as usize <= room;
     if !sound {
         let at = rng.index(words.len());
-        words[at] = rng.next();
+        words[at] = rng.word();
         return;
     }
     match rng.weighted(&[22, 40, 18, 18, 2]) {
@@ -132,8 +134,32 @@ fn damage_head(rng: &mut Rng, words: &mut [u64]) {
     let choices: [&[u64]; 4] = [
         &[0, n + 1, n.wrapping_sub(1), 131_072, 131_073, n + (1 << 32), 1 << 63, u64::MAX],
         &[0, m + 1, m.wrapping_sub(1), 64, m + (1 << 32), u64::MAX],
-        &[0, 1, b + 1, last, last.wrapping_sub(m), last.wrapping_sub(m).wrapping_add(1), last.wrapping_sub(m).wrapping_add(2), 1 << 63, u64::MAX, u64::MAX - 1, u64::MAX - m + 2],
-        &[0, b, near.wrapping_sub(1), near.wrapping_sub(2), last.wrapping_add(1), last.wrapping_sub(1), last.wrapping_add(n), (1 << 63) - 1, (1 << 63) - 2, 1 << 63, u64::MAX],
+        &[
+            0,
+            1,
+            b + 1,
+            last,
+            last.wrapping_sub(m),
+            last.wrapping_sub(m).wrapping_add(1),
+            last.wrapping_sub(m).wrapping_add(2),
+            1 << 63,
+            u64::MAX,
+            u64::MAX - 1,
+            u64::MAX - m + 2,
+        ],
+        &[
+            0,
+            b,
+            near.wrapping_sub(1),
+            near.wrapping_sub(2),
+            last.wrapping_add(1),
+            last.wrapping_sub(1),
+            last.wrapping_add(n),
+            (1 << 63) - 1,
+            (1 << 63) - 2,
+            1 << 63,
+            u64::MAX,
+        ],
     ];
     let word = rng.weighted(&[3, 3, 4, 6]);
     words[word] = *rng.pick(choices[word]);
@@ -141,8 +167,9 @@ fn damage_head(rng: &mut Rng, words: &mut [u64]) {
 
 /// A packed value of an item that is there, or not; any kind and low bits.
 fn packed(rng: &mut Rng, m: u64) -> u64 {
-    let item = *rng.pick(&[0, m - 1, m - 1, m, m, m + 1, 63, 64, 255, 256, 256 + m - 1, 1 << 16, (1 << 24) - 1]);
-    let rest = if rng.percent(50) { lists::value(rng, 0) } else { rng.next() };
+    let item =
+        *rng.pick(&[0, m - 1, m - 1, m, m, m + 1, 63, 64, 255, 256, 256 + m - 1, 1 << 16, (1 << 24) - 1]);
+    let rest = if rng.percent(50) { lists::value(rng, 0) } else { rng.word() };
     (item << 40) | (rest & ((1 << 40) - 1))
 }
 
@@ -187,7 +214,8 @@ fn damage_assets(rng: &mut Rng, bytes: &mut Vec<u8>, ids: &[Vec<u8>]) {
         // Any byte of an id cell: padding broken, or the id cut.
         4 => bytes[id_at + rng.index(32)] = *rng.pick(b"\x00TL1x"),
         _ => {
-            let length = *rng.pick(&[0, 1, 2, bytes.len() - 1, bytes.len() + 1, bytes.len() - 544, bytes.len() + 544]);
+            let length =
+                *rng.pick(&[0, 1, 2, bytes.len() - 1, bytes.len() + 1, bytes.len() - 544, bytes.len() + 544]);
             bytes.resize(length, 0);
         }
     }
@@ -221,7 +249,11 @@ impl Draw {
             }
             1 => {
                 let length = rng.between(1, 30) as usize;
-                Call::StoreAsset { id: rng.pick(&self.ids).clone(), body: vec![b'b'; length], host: worlds::time(rng) }
+                Call::StoreAsset {
+                    id: rng.pick(&self.ids).clone(),
+                    body: vec![b'b'; length],
+                    host: worlds::time(rng),
+                }
             }
             2 => {
                 let text = texts::text(rng, &self.scene(pair));

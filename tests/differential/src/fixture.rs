@@ -94,7 +94,9 @@ impl Tested<'_> {
     /// The bytes of a body.
     pub fn body(&mut self, id: &[u8]) -> Vec<u8> {
         match self.must(&Call::Body { id: id.to_vec() }) {
-            Answer::Part(start, length) => self.pair.expected_assets[start as usize..][..length as usize].to_vec(),
+            Answer::Part(start, length) => {
+                self.pair.expected_assets[start as usize..][..length as usize].to_vec()
+            }
             other => panic!("body answers {other:?}"),
         }
     }

@@ -4,8 +4,11 @@
 pub mod call;
 pub mod client;
 pub mod damaged;
+#[cfg(target_os = "linux")]
+pub mod fenced;
 pub mod fixture;
 pub mod guard;
+pub mod hidden;
 pub mod lists;
 pub mod pair;
 pub mod rng;

@@ -21,7 +21,12 @@ struct Script {
 }
 
 /// Runs the list of a seed. The machine takes the faults given; in earnest it has none.
-pub fn run<C: Core, F: FaultSet>(core: &C, faults: F, seed: u64, counts: &mut Counts) -> Result<(), Difference> {
+pub fn run<C: Core, F: FaultSet>(
+    core: &C,
+    faults: F,
+    seed: u64,
+    counts: &mut Counts,
+) -> Result<(), Difference> {
     let mut rng = Rng::new(seed);
     let fail = |place: String, what: String| Difference { seed, place, what };
     for _ in 0..rng.weighted(&[80, 10, 10]) {
@@ -43,7 +48,9 @@ pub fn run<C: Core, F: FaultSet>(core: &C, faults: F, seed: u64, counts: &mut Co
         counts.call(&call, answer);
         if let Some(client) = client {
             let reply = &session.pair.reply;
-            script.clients[client].take(answer, reply, &session.machine).map_err(|what| fail(place(&call), what))?;
+            script.clients[client]
+                .take(answer, reply, &session.machine)
+                .map_err(|what| fail(place(&call), what))?;
         }
         if index % 32 == 0 {
             session.compare_contents().map_err(|what| fail(place(&call), what))?;
@@ -122,7 +129,7 @@ impl Script {
             2 => self.clock.saturating_sub(self.rng.below(300)),
             3 => 0,
             4 => u64::MAX,
-            _ => self.rng.next(),
+            _ => self.rng.word(),
         }
     }
 
@@ -148,7 +155,8 @@ impl Script {
             2 => *self.rng.pick(&[1, 2, 255, 256, 257, 509, 510]),
             _ => *self.rng.pick(&[0, 511, 512, 513, 766, 1000]),
         };
-        let body = worlds::garbage(&mut self.rng, length as usize).into_iter().map(|word| word as u8).collect();
+        let body =
+            worlds::garbage(&mut self.rng, length as usize).into_iter().map(|word| word as u8).collect();
         Call::StoreAsset { id, body, host: self.time() }
     }
 
@@ -187,7 +195,8 @@ impl Script {
 
 /// Ids that are prefixes of each other, of every length, with the lowest and highest bytes.
 pub fn ids(rng: &mut Rng, cells: usize) -> Vec<Vec<u8>> {
-    let mut ids: Vec<Vec<u8>> = [&b"T"[..], b"T1", b"T12", b"!", b"~", b"=&[@\"", b"t"].map(<[u8]>::to_vec).into();
+    let mut ids: Vec<Vec<u8>> =
+        [&b"T"[..], b"T1", b"T12", b"!", b"~", b"=&[@\"", b"t"].map(<[u8]>::to_vec).into();
     ids.push(vec![b'L'; 32]);
     ids.push(vec![b'L'; 31]);
     rng.shuffle(&mut ids);
@@ -218,11 +227,31 @@ pub fn value(rng: &mut Rng, category: u32) -> u64 {
         0 => u64::from(category) + 1,
         1 => 0,
         2 => rng.below(4),
-        _ => return *rng.pick(&[1, 4 << 32, (3 << 32) + (3 << 24), (3 << 32) + u64::from(u32::MAX), u64::MAX, 1 << 40, (1 << 63) + (1 << 32)]),
+        _ => {
+            return *rng.pick(&[
+                1,
+                4 << 32,
+                (3 << 32) + (3 << 24),
+                (3 << 32) + u64::from(u32::MAX),
+                u64::MAX,
+                1 << 40,
+                (1 << 63) + (1 << 32),
+            ])
+        }
     };
     let low = match kind {
         0 => 0,
-        1 => *rng.pick(&[0, 1, 2, 3, 5000, u64::from(u32::MAX), 1 << 31, (1 << 31) - 1, u64::from(u32::MAX) - 1]),
+        1 => *rng.pick(&[
+            0,
+            1,
+            2,
+            3,
+            5000,
+            u64::from(u32::MAX),
+            1 << 31,
+            (1 << 31) - 1,
+            u64::from(u32::MAX) - 1,
+        ]),
         2 => *rng.pick(&[0, 0, 1, 1, 2, 3, u64::from(u32::MAX), 1 << 24]),
         _ => {
             let level = rng.below(3);

@@ -98,7 +98,7 @@ impl<'c, C: Core> Pair<'c, C> {
             Call::Body { id } => self.body(id),
         }?;
         self.calls += 1;
-        if self.calls % self.every == 0 {
+        if self.calls.is_multiple_of(self.every) {
             self.compare_stores()?;
         }
         Ok(answer)

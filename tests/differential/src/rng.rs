@@ -8,7 +8,7 @@ impl Rng {
         Rng(seed)
     }
 
-    pub fn next(&mut self) -> u64 {
+    pub fn word(&mut self) -> u64 {
         self.0 = self.0.wrapping_add(0x9e37_79b9_7f4a_7c15);
         let mut z = self.0;
         z = (z ^ (z >> 30)).wrapping_mul(0xbf58_476d_1ce4_e5b9);
@@ -18,7 +18,7 @@ impl Rng {
 
     /// Below the bound, which is not 0. The slight bias does not matter here.
     pub fn below(&mut self, bound: u64) -> u64 {
-        ((u128::from(self.next()) * u128::from(bound)) >> 64) as u64
+        ((u128::from(self.word()) * u128::from(bound)) >> 64) as u64
     }
 
     pub fn index(&mut self, length: usize) -> usize {
@@ -61,5 +61,5 @@ impl Rng {
 
 /// The seed of a numbered list under a master seed.
 pub fn list_seed(master: u64, list: u64) -> u64 {
-    Rng::new(master ^ list.wrapping_mul(0xd134_2543_de82_ef95)).next()
+    Rng::new(master ^ list.wrapping_mul(0xd134_2543_de82_ef95)).word()
 }

@@ -49,7 +49,7 @@ pub fn start(rng: &mut Rng) -> Start {
 
 /// Words that stood there before.
 pub fn garbage(rng: &mut Rng, words: usize) -> Vec<u64> {
-    let base = rng.next() | 1;
+    let base = rng.word() | 1;
     (1..=words as u64).map(|index| base.wrapping_mul(index)).collect()
 }
 
@@ -57,7 +57,7 @@ pub fn time(rng: &mut Rng) -> u64 {
     match rng.below(8) {
         0 => 0,
         1 => u64::MAX,
-        2 => rng.next(),
+        2 => rng.word(),
         _ => rng.between(1000, 1100),
     }
 }
@@ -151,7 +151,7 @@ fn spoil_sizes(rng: &mut Rng, start: &mut Start) {
 /// Breaks one rule of the model words, mostly.
 pub fn spoil_model(rng: &mut Rng, words: &mut Vec<u32>) {
     if words.len() < 4 {
-        words.push(rng.next() as u32);
+        words.push(rng.word() as u32);
         return;
     }
     let c = words[0].clamp(1, 64) as usize;
@@ -165,12 +165,12 @@ pub fn spoil_model(rng: &mut Rng, words: &mut Vec<u32>) {
         4 => words[2] += 256,
         // Its own parent, or one above it.
         5 => words[component] = words[component] % 256 + 256 * (component as u32 - 2 + rng.below(2) as u32),
-        6 => words[component] = rng.next() as u32,
+        6 => words[component] = rng.word() as u32,
         7 => words[component] |= 255,
         8 => words[item] |= 255,
         9 => words[item] = words[item] % 65_536 + 65_536 * *rng.pick(&[3, 3, 4, 5, 256, 65_535]),
         10 => words[item] = words[item] / 65_536 * 65_536 + 256 * c as u32 + words[item] % 256,
-        11 => words[item] = rng.next() as u32,
+        11 => words[item] = rng.word() as u32,
         // A parent beyond the low byte.
         _ => words[component] |= 1 << (16 + rng.below(16)),
     }
@@ -192,7 +192,7 @@ pub fn spoil_names(rng: &mut Rng, bytes: &mut Vec<u8>) {
         }
         2 => bytes[at] = 0,
         3 => bytes[at] = *rng.pick(b"@[`{/:-.\x20\x7f\x80\xff\x01"),
-        4 => bytes[at + rng.index(NAME)] = rng.next() as u8,
+        4 => bytes[at + rng.index(NAME)] = rng.word() as u8,
         5 => {
             let length = rng.index(bytes.len() + 2);
             bytes.resize(length, b'x');

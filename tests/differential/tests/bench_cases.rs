@@ -27,11 +27,7 @@ const CASES: [Case; 12] = [
     ("C6 above N", "/sample?count=4", Err(10)),
     ("C7", "/sample?count=0", Err(8)),
     ("C8", "/current?at=1", Err(12)),
-    (
-        "C9",
-        "/sample?from=2&count=1&path=//Device//DataItem[@type=\"AVAILABILITY\"]",
-        Ok(&[0, 2, 4, 3]),
-    ),
+    ("C9", "/sample?from=2&count=1&path=//Device//DataItem[@type=\"AVAILABILITY\"]", Ok(&[0, 2, 4, 3])),
     ("C10", "/assets", Ok(&[0, 0, 1, 0])),
 ];
 

@@ -40,7 +40,12 @@ fn small_rings_through_several_turns() {
                 for step in 0..3 * n.max(4) {
                     let item = rng.below(m);
                     let value = lists::value(&mut rng, (model[3 + item as usize] / 65_536).min(2));
-                    session.must(&Call::Observe { item, time: worlds::time(&mut rng), host: 1000 + step, value });
+                    session.must(&Call::Observe {
+                        item,
+                        time: worlds::time(&mut rng),
+                        host: 1000 + step,
+                        value,
+                    });
                     if step % 4 == 0 {
                         session.store(b"T", b"body", step);
                     }
@@ -88,8 +93,14 @@ fn ask_all_near_the_end(session: &mut Tested) {
 fn first_numbers_at_their_bounds() {
     let core = core();
     for m in [1u64, 2, 64] {
-        for (b, expected) in [(0, 3), (1, 0), (END - m, 0), (END - m + 1, 3), (END, 3), (u64::MAX, 3), (u64::MAX - m + 1, 3)] {
-            let begun = Tested::start(&core, &start(&plain_model(m as u32, false), &one_name(), [3, 1, b], 0), reference::Clean);
+        for (b, expected) in
+            [(0, 3), (1, 0), (END - m, 0), (END - m + 1, 3), (END, 3), (u64::MAX, 3), (u64::MAX - m + 1, 3)]
+        {
+            let begun = Tested::start(
+                &core,
+                &start(&plain_model(m as u32, false), &one_name(), [3, 1, b], 0),
+                reference::Clean,
+            );
             let answer = begun.unwrap().err().unwrap_or(0);
             assert_eq!(answer, expected, "m {m} b {b}");
         }
@@ -100,7 +111,20 @@ fn first_numbers_at_their_bounds() {
 fn sizes_at_their_bounds() {
     let core = core();
     let model = plain_model(2, false);
-    let sizes = [(0u64, 1u64), (1, 1), (131_072, 1), (131_073, 1), (1, 0), (1, 128), (1, 129), (1, 255), (1, 256), (1, 257), (1 << 32, 1), (u64::MAX, u64::MAX)];
+    let sizes = [
+        (0u64, 1u64),
+        (1, 1),
+        (131_072, 1),
+        (131_073, 1),
+        (1, 0),
+        (1, 128),
+        (1, 129),
+        (1, 255),
+        (1, 256),
+        (1, 257),
+        (1 << 32, 1),
+        (u64::MAX, u64::MAX),
+    ];
     for (n, a) in sizes {
         // The lengths that the sizes would need, as far as they can be had.
         let lengths = [(n.min(200_000), a.min(300)), (1, 1)];
@@ -120,7 +144,8 @@ fn sizes_at_their_bounds() {
 fn times_do_not_order() {
     let core = core();
     let mut session = begin(&core, &start(&plain_model(1, false), &one_name(), [32, 1, 1], 500));
-    let times = [(1000, 7), (900, 7), (900, 7), (0, 7), (0, 0), (u64::MAX, 7), (1, 7), (0, u64::MAX), (1000, 7)];
+    let times =
+        [(1000, 7), (900, 7), (900, 7), (0, 7), (0, 0), (u64::MAX, 7), (1, 7), (0, u64::MAX), (1000, 7)];
     for (number, (time, host)) in (2..).zip(times) {
         assert_eq!(session.observe(0, time, host, Value::Sample(number as i32)), number);
     }
@@ -136,12 +161,19 @@ fn every_reply_length() {
     let core = core();
     let mut session = begin(&core, &start(&plain_model(4, true), &one_name(), [6, 3, 7], 500));
     for value in 1..9 {
-        session.observe(value % 3, 0, 600, [Value::Unavailable, Value::Event(2), Value::Unavailable][value as usize % 3]);
+        session.observe(
+            value % 3,
+            0,
+            600,
+            [Value::Unavailable, Value::Event(2), Value::Unavailable][value as usize % 3],
+        );
         session.observe(0, 0, 600, Value::Sample(value as i32));
     }
     session.store(b"A", b"aa", 700);
     session.store(b"B", b"bbb", 700);
-    for text in ["/sample", "/sample?count=1", "/current", "/current?at=20", "/assets", "/asset/A", "/asset/B;A;B"] {
+    for text in
+        ["/sample", "/sample?count=1", "/current", "/current?at=20", "/assets", "/asset/A", "/asset/B;A;B"]
+    {
         let words = session.ask(text).unwrap_or_else(|number| panic!("{text}: {number}")).len();
         for length in 0..=words + 3 {
             let expected = if length < words { 15 } else { 0 };
@@ -250,7 +282,20 @@ fn every_field_of_a_model_word() {
 fn every_edge_of_a_value_word() {
     let core = core();
     let mut session = begin(&core, &start(&plain_model(4, true), &one_name(), [4, 1, 1], 1));
-    let lows = [0, 1, 2, (1 << 24) - 1, 1 << 24, (1 << 24) + 1, (2 << 24) - 1, 2 << 24, (3 << 24) - 1, 3 << 24, 1 << 31, (1 << 32) - 1];
+    let lows = [
+        0,
+        1,
+        2,
+        (1 << 24) - 1,
+        1 << 24,
+        (1 << 24) + 1,
+        (2 << 24) - 1,
+        2 << 24,
+        (3 << 24) - 1,
+        3 << 24,
+        1 << 31,
+        (1 << 32) - 1,
+    ];
     for kind in (0..=5).chain([255, 256, 257, 258, 259, 1 << 8, 1 << 31]) {
         for low in lows {
             for item in 0..5 {

@@ -51,3 +51,14 @@ fn damaged_contents_get_the_same_answers() {
         assert!(table[1] > 0 && table[2] > 0, "damage is never noticed");
     }
 }
+
+/// Fewer lists, with every slice against a page that may not be touched.
+#[cfg(target_os = "linux")]
+#[test]
+fn nothing_outside_a_slice_is_touched() {
+    let core = differential::fenced::Fenced::new(core());
+    all(600, |seed, counts| {
+        lists::run(&core, Clean, seed, counts)?;
+        damaged::run(&core, seed, counts)
+    });
+}

@@ -29,7 +29,8 @@ const SYSTEM: u64 = 3;
 
 /// Device, controller and path; the items in the order of the example's first four numbers.
 fn minimal(core: &UnderTest) -> Tested<'_> {
-    let names = names(&["Device", "Controller", "Path", "EMERGENCY_STOP", "EXECUTION", "AVAILABILITY", "SYSTEM"]);
+    let names =
+        names(&["Device", "Controller", "Path", "EMERGENCY_STOP", "EXECUTION", "AVAILABILITY", "SYSTEM"]);
     let model = [
         3,
         4,
@@ -72,7 +73,12 @@ fn state_after_the_series() {
     assert_eq!(numbers(&reply), [9, 14, 5, 13]);
     assert_eq!(
         packed(&reply),
-        rows(&[(ESTOP, Value::Event(2)), (EXECUTION, ACTIVE), (AVAILABLE, Value::Event(1)), (SYSTEM, NORMAL)])
+        rows(&[
+            (ESTOP, Value::Event(2)),
+            (EXECUTION, ACTIVE),
+            (AVAILABLE, Value::Event(1)),
+            (SYSTEM, NORMAL)
+        ])
     );
 }
 

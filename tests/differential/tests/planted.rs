@@ -1,5 +1,6 @@
 //! The test of the tests: the same random lists tell every planted fault apart.
 
+use differential::hidden::Hidden;
 use differential::{damaged, lists, rng, settings, Counts, Difference};
 use reference::faults::Layer;
 use reference::{Clean, Fault, FaultSet, Faults, Stores};
@@ -11,7 +12,9 @@ const MOST_LISTS: u64 = 3000;
 fn told_apart(mut run: impl FnMut(u64, &mut Counts) -> Result<(), Difference>) -> Option<u64> {
     let master = settings::seed();
     let mut counts = Counts::default();
-    (0..MOST_LISTS).find(|&list| run(rng::list_seed(master, list), &mut counts).is_err()).map(|_| counts.calls)
+    (0..MOST_LISTS)
+        .find(|&list| run(rng::list_seed(master, list), &mut counts).is_err())
+        .map(|_| counts.calls)
 }
 
 /// Reports each fault and fails where one was missed.
@@ -38,6 +41,30 @@ fn faults_in_the_core_are_told_apart() {
     });
 }
 
+/// Faults of the stores that clients come to see. The others show in the stores alone, or where
+/// they are damaged.
+const SEEN_BY_CLIENTS: [Fault; 9] = [
+    Fault::SameRenewsTime,
+    Fault::CheckpointNotUpdated,
+    Fault::CheckpointWrittenOnce,
+    Fault::CheckpointOfNewItem,
+    Fault::CheckpointWithNewNumber,
+    Fault::RingPlaceAfterWrap,
+    Fault::StartWithoutCheckpoint,
+    Fault::StoredThoughSpent,
+    Fault::BodyByPaddedId,
+];
+
+#[test]
+fn faults_are_told_apart_by_answers_alone() {
+    let both = Fault::ALL.iter().copied().filter(|fault| fault.layer() == Layer::Both);
+    let seen: Vec<Fault> = both.chain(SEEN_BY_CLIENTS).collect();
+    report(&seen, |fault| {
+        let core = Hidden::new(fault.into());
+        told_apart(|seed, counts| lists::run(&core, Clean, seed, counts))
+    });
+}
+
 #[test]
 fn faults_in_the_machine_are_told_apart() {
     let both: Vec<Fault> = Fault::ALL.iter().copied().filter(|fault| fault.layer() == Layer::Both).collect();
@@ -53,7 +80,8 @@ fn no_fault_no_difference() {
     let differs = (0..100).any(|list| {
         let seed = rng::list_seed(settings::seed(), list);
         let mut counts = Counts::default();
-        lists::run(&core, Faults::none(), seed, &mut counts).is_err() || damaged::run(&core, seed, &mut counts).is_err()
+        lists::run(&core, Faults::none(), seed, &mut counts).is_err()
+            || damaged::run(&core, seed, &mut counts).is_err()
     });
     assert!(!differs);
 }

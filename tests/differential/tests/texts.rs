@@ -11,9 +11,17 @@ use reference::Value;
 /// Components Device, Axes, Linear, Linear (twice below Axes) and an empty Coolant; numbers 5 to 14
 /// held of 1 to 14; assets T1 and a 32-byte id.
 fn prepared(core: &UnderTest) -> Tested<'_> {
-    let names = names(&["Device", "Axes", "Linear", "Coolant", "POSITION", "AVAILABILITY", "ASSET_CHANGED", "Linear"]);
-    let model =
-        [5, 4, 0, 1, 256 + 2, 256 + 7, 3, 2 * 256 + 4, 3 * 256 + 4, 65_536 + 5, 3 * 65_536 + 6];
+    let names = names(&[
+        "Device",
+        "Axes",
+        "Linear",
+        "Coolant",
+        "POSITION",
+        "AVAILABILITY",
+        "ASSET_CHANGED",
+        "Linear",
+    ]);
+    let model = [5, 4, 0, 1, 256 + 2, 256 + 7, 3, 2 * 256 + 4, 3 * 256 + 4, 65_536 + 5, 3 * 65_536 + 6];
     let mut session = begin(core, &start(&model, &names, [10, 3, 1], 1000));
     for value in 1..=6 {
         session.observe(0, 0, 2000 + value, Value::Sample(value as i32));
@@ -261,7 +269,16 @@ fn every_length_around_the_bounds() {
         text
     };
     for length in [0, 1, 2, 254, 255, 256, 257, 258, 1000, 65_536] {
-        for front in ["", "/", "/sample?path=//", "/sample?from=", "/asset/", "/assets", "/probe", "/current?at=8&path="] {
+        for front in [
+            "",
+            "/",
+            "/sample?path=//",
+            "/sample?from=",
+            "/asset/",
+            "/assets",
+            "/probe",
+            "/current?at=8&path=",
+        ] {
             for byte in *b"A0/;!~ \x7f\x00" {
                 let _ = session.ask(fill(front, byte, length));
             }
@@ -292,11 +309,18 @@ fn digits_at_the_bounds() {
     let core = core();
     let mut session = prepared(&core);
     let edge = 1u128 << 63;
-    let mut values: Vec<u128> = vec![0, 1, 4, 5, 9, 10, 11, 14, 15, 16, edge - 1, edge, edge + 1, 1 << 64, (1 << 64) + 5];
+    let mut values: Vec<u128> =
+        vec![0, 1, 4, 5, 9, 10, 11, 14, 15, 16, edge - 1, edge, edge + 1, 1 << 64, (1 << 64) + 5];
     values.extend((0..21).flat_map(|power| [10u128.pow(power) - 1, 10u128.pow(power)]));
     for value in values {
         for width in 1..=22 {
-            for front in ["/sample?from=", "/sample?count=", "/current?at=", "/sample?interval=", "/current?path=//Axes&at="] {
+            for front in [
+                "/sample?from=",
+                "/sample?count=",
+                "/current?at=",
+                "/sample?interval=",
+                "/current?path=//Axes&at=",
+            ] {
                 let _ = session.ask(format!("{front}{value:0width$}"));
             }
         }

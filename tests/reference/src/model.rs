@@ -27,8 +27,7 @@ impl<'a> Model<'a> {
         }
         let (components, items) = rest.split_at(c as usize);
         let model = Model { components, items, names };
-        (names_valid(names, faults) && model.components_valid() && model.items_valid(faults))
-            .then_some(model)
+        (names_valid(names, faults) && model.components_valid() && model.items_valid(faults)).then_some(model)
     }
 
     fn components_valid(&self) -> bool {
@@ -43,10 +42,8 @@ impl<'a> Model<'a> {
     fn items_valid<F: FaultSet>(&self, faults: F) -> bool {
         let cells = (self.names.len() / NAME) as u32;
         let c = self.components.len() as u32;
-        let each = self
-            .items
-            .iter()
-            .all(|&word| category(word) <= 3 && word / 256 % 256 < c && word % 256 < cells);
+        let each =
+            self.items.iter().all(|&word| category(word) <= 3 && word / 256 % 256 < c && word % 256 < cells);
         let asset_items = self.items.iter().filter(|&&word| category(word) == 3).count();
         each && (asset_items <= 1 || faults.has(Fault::ManyAssetItems))
     }
@@ -101,9 +98,11 @@ fn category(word: u32) -> u32 {
 }
 
 fn names_valid<F: FaultSet>(names: &[u8], faults: F) -> bool {
-    let whole = names.len() % NAME == 0;
+    let whole = names.len().is_multiple_of(NAME);
     let count = names.len() / NAME;
-    whole && (1..=MOST_NAMES).contains(&count) && names.chunks_exact(NAME).all(|cell| name_valid(cell, faults))
+    whole
+        && (1..=MOST_NAMES).contains(&count)
+        && names.chunks_exact(NAME).all(|cell| name_valid(cell, faults))
 }
 
 /// 1 to 24 letters, digits or `_`, then zeros to the end of the cell.

@@ -16,9 +16,7 @@ pub fn select<F: FaultSet>(model: &Model, path: Option<&[u8]>, faults: F) -> Opt
         return Some(set_of(model, in_subtree));
     };
     let ignored = faults.has(Fault::ItemTypeIgnored);
-    let selected = set_of(model, |item| {
-        in_subtree(item) && (ignored || model.item_type(item) == item_type)
-    });
+    let selected = set_of(model, |item| in_subtree(item) && (ignored || model.item_type(item) == item_type));
     (selected != 0 || faults.has(Fault::EmptySecondForm)).then_some(selected)
 }
 

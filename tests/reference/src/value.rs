@@ -42,9 +42,7 @@ impl Value {
     pub fn low<F: FaultSet>(self, faults: F) -> u64 {
         match self {
             Value::Unavailable => 0,
-            Value::Sample(x) if faults.has(Fault::NegativeSampleAsMagnitude) => {
-                u64::from(x.unsigned_abs())
-            }
+            Value::Sample(x) if faults.has(Fault::NegativeSampleAsMagnitude) => u64::from(x.unsigned_abs()),
             // i32 to u32 keeps the bits: it adds 2^32 to a negative number.
             Value::Sample(x) => u64::from(x as u32),
             Value::Event(code) => u64::from(code),

@@ -55,7 +55,9 @@ impl Cells {
         let holds = |&cell: &usize| {
             let stored = &bytes[self.id_at(cell)..self.id_at(cell) + ID];
             let prefix = faults.has(Fault::IdPrefix);
-            id.len() <= ID && stored.starts_with(id) && (prefix || stored[id.len()..].iter().all(|&byte| byte == 0))
+            id.len() <= ID
+                && stored.starts_with(id)
+                && (prefix || stored[id.len()..].iter().all(|&byte| byte == 0))
         };
         if faults.has(Fault::HigherCellMeant) {
             return (0..self.used).rev().find(holds);

@@ -241,8 +241,13 @@ impl<F: FaultSet> Stores<F> {
         count: Option<u64>,
         reply: &mut [u64],
     ) -> Result<(u64, usize), Refusal> {
-        let given = if self.faults.has(Fault::DefaultCountRefused) { Some(count.unwrap_or(DEFAULT_COUNT)) } else { count };
-        let too_many = given.is_some_and(|count| count > head.n()) && !self.faults.has(Fault::CountAboveNAccepted);
+        let given = if self.faults.has(Fault::DefaultCountRefused) {
+            Some(count.unwrap_or(DEFAULT_COUNT))
+        } else {
+            count
+        };
+        let too_many =
+            given.is_some_and(|count| count > head.n()) && !self.faults.has(Fault::CountAboveNAccepted);
         if self.faults.has(Fault::PathBeforeCount) {
             path::select(model, path, self.faults).ok_or(Refusal::InvalidXpath)?;
         }
@@ -314,9 +319,14 @@ impl<F: FaultSet> Stores<F> {
         reply: &mut [u64],
     ) -> Result<(u64, usize), Refusal> {
         let first = head.first(self.faults);
-        let held = |row: &observations::Row| row.number >= first || !self.faults.has(Fault::CurrentFromRingOnly);
+        let held =
+            |row: &observations::Row| row.number >= first || !self.faults.has(Fault::CurrentFromRingOnly);
         let rows = || items(selected).map(|item| head.latest(words, item)).filter(held);
-        let k = if self.faults.has(Fault::CurrentFromRingOnly) { rows().count() } else { selected.count_ones() as usize };
+        let k = if self.faults.has(Fault::CurrentFromRingOnly) {
+            rows().count()
+        } else {
+            selected.count_ones() as usize
+        };
         self.space(reply, 4 + 3 * k)?;
         let sizes = [k as u64, first, head.last, head.last + 1];
         Ok(write_rows(reply, sizes, rows()))
@@ -345,7 +355,9 @@ impl<F: FaultSet> Stores<F> {
         let row = |item: usize| match newest[item] {
             Some(row) => Some(row),
             None if self.faults.has(Fault::AtFromRingOnly) => None,
-            None => head.checkpoint(words, item).filter(|row| row.number <= at || !self.faults.has(Fault::CheckpointCompared)),
+            None => head
+                .checkpoint(words, item)
+                .filter(|row| row.number <= at || !self.faults.has(Fault::CheckpointCompared)),
         };
         let k = items(selected).filter_map(row).count();
         self.in_turn(ring, self.space(reply, 4 + 3 * k))?;
@@ -395,7 +407,8 @@ impl<F: FaultSet> Stores<F> {
         reply: &mut [u64],
     ) -> Result<(u64, usize), Refusal> {
         let k = found.len();
-        let lengths = found.iter().try_for_each(|&cell| cells.length_of(bytes, cell, self.faults).map(|_| ()));
+        let lengths =
+            found.iter().try_for_each(|&cell| cells.length_of(bytes, cell, self.faults).map(|_| ()));
         self.in_turn(lengths, self.space(reply, 4 + 2 * k))?;
         let (sizes, rest) = reply.split_at_mut(4);
         sizes.copy_from_slice(&[k as u64, cells.used as u64, cells.cells as u64, 0]);

@@ -183,7 +183,8 @@ impl Head {
         if faults.has(Fault::CheckpointNotUpdated) {
             return;
         }
-        let item = if faults.has(Fault::CheckpointOfNewItem) { new_item } else { item_of(row.packed) as usize };
+        let item =
+            if faults.has(Fault::CheckpointOfNewItem) { new_item } else { item_of(row.packed) as usize };
         if item >= self.m {
             // Only where a fault let an unsound entry through.
             return;
@@ -218,7 +219,12 @@ impl Head {
     }
 
     /// Each item's newest entry among the held numbers up to `at`.
-    pub fn newest_at<F: FaultSet>(&self, words: &[u64], at: u64, faults: F) -> Result<[Option<Row>; 64], Refusal> {
+    pub fn newest_at<F: FaultSet>(
+        &self,
+        words: &[u64],
+        at: u64,
+        faults: F,
+    ) -> Result<[Option<Row>; 64], Refusal> {
         let end = if faults.has(Fault::AtExclusive) { at } else { at + 1 };
         let mut newest = [None; 64];
         for row in self.entries(words, self.first(faults)..end, faults) {
@@ -232,7 +238,14 @@ impl Head {
     }
 
     /// The end of a sample that counts rows: a planted fault.
-    pub fn end_by_rows<F: FaultSet>(&self, words: &[u64], f: u64, count: u64, selected: u64, faults: F) -> u64 {
+    pub fn end_by_rows<F: FaultSet>(
+        &self,
+        words: &[u64],
+        f: u64,
+        count: u64,
+        selected: u64,
+        faults: F,
+    ) -> u64 {
         let mut left = count;
         for row in self.entries(words, f..self.last + 1, faults) {
             if left == 0 {
