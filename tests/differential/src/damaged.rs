@@ -132,12 +132,21 @@ fn damage_head(rng: &mut Rng, words: &mut [u64]) {
     let (n, m, b, last) = (words[0], words[1], words[2], words[3]);
     let near = b.wrapping_add(m);
     let choices: [&[u64]; 4] = [
-        &[0, n + 1, n.wrapping_sub(1), 131_072, 131_073, n + (1 << 32), 1 << 63, u64::MAX],
-        &[0, m + 1, m.wrapping_sub(1), 64, m + (1 << 32), u64::MAX],
+        &[
+            0,
+            n.wrapping_add(1),
+            n.wrapping_sub(1),
+            131_072,
+            131_073,
+            n.wrapping_add(1 << 32),
+            1 << 63,
+            u64::MAX,
+        ],
+        &[0, m.wrapping_add(1), m.wrapping_sub(1), 64, m.wrapping_add(1 << 32), u64::MAX],
         &[
             0,
             1,
-            b + 1,
+            b.wrapping_add(1),
             last,
             last.wrapping_sub(m),
             last.wrapping_sub(m).wrapping_add(1),
@@ -145,7 +154,8 @@ fn damage_head(rng: &mut Rng, words: &mut [u64]) {
             1 << 63,
             u64::MAX,
             u64::MAX - 1,
-            u64::MAX - m + 2,
+            // B + m - 1 is 2^64.
+            1u64.wrapping_sub(m),
         ],
         &[
             0,
@@ -201,7 +211,7 @@ fn damage_assets(rng: &mut Rng, bytes: &mut Vec<u8>, ids: &[Vec<u8>]) {
     let body_at = 2 + 32 * cells + 512 * cell;
     match rng.weighted(&[8, 14, 36, 34, 4, 4]) {
         0 => bytes[0] = *rng.pick(&[0, 128, 129, 255, a.wrapping_add(1), a - 1]),
-        1 => bytes[1] = *rng.pick(&[0, a, a + 1, 255, u.wrapping_add(1), u.wrapping_sub(1)]),
+        1 => bytes[1] = *rng.pick(&[0, a, a.wrapping_add(1), 255, u.wrapping_add(1), u.wrapping_sub(1)]),
         2 => {
             let length: u16 = *rng.pick(&[0, 1, 255, 256, 509, 510, 511, 511, 512, 513, 65_535]);
             bytes[body_at..body_at + 2].copy_from_slice(&length.to_be_bytes());

@@ -16,6 +16,7 @@ pub mod session;
 pub mod settings;
 pub mod texts;
 pub mod under_test;
+pub mod windows;
 pub mod worlds;
 
 use call::{Answer, Call};

@@ -5,6 +5,7 @@ use crate::client::Client;
 use crate::rng::Rng;
 use crate::session::Session;
 use crate::texts::{self, Scene};
+use crate::windows::Windows;
 use crate::{worlds, Counts, Difference};
 use reference::model::Model;
 use reference::{Clean, Core, FaultSet};
@@ -40,12 +41,17 @@ pub fn run<C: Core, F: FaultSet>(
     let mut session = begun.map_err(|number| fail(format!("{start:?}"), format!("refused with {number}")))?;
     counts.start(0);
     let mut script = Script::new(&session, rng);
-    let length = script.rng.between(20, 260);
+    let length =
+        if script.rng.percent(94) { script.rng.between(20, 240) } else { script.rng.between(300, 900) };
+    let mut windows = Windows::default();
     for index in 0..length {
         let (call, client) = script.next(&session);
         let place = |call: &Call| format!("call {index} after {start:?}: {call:?}");
         let answer = session.call(&call).map_err(|what| fail(place(&call), what))?;
         counts.call(&call, answer);
+        if let Call::Request { text, .. } = &call {
+            windows.take(text, answer, &session.pair.reply);
+        }
         if let Some(client) = client {
             let reply = &session.pair.reply;
             script.clients[client]
@@ -57,6 +63,8 @@ pub fn run<C: Core, F: FaultSet>(
         }
     }
     session.compare_contents().map_err(|what| fail("at the end".into(), what))?;
+    let joined = windows.check(&mut script.rng, &session.pair, &session.machine);
+    counts.windows += joined.map_err(|what| fail("at the end".into(), what))?;
     for client in &mut script.clients {
         client.finish(&session.machine).map_err(|what| fail("at the end".into(), what))?;
         counts.windows += client.windows;

@@ -55,6 +55,7 @@ impl<'c, C: Core> Pair<'c, C> {
         let answer = Answer::Pair(got.0, got.1);
         let (number, count) = expected.pair();
         pair.compare(answer, Answer::Pair(number, count))?;
+        pair.compare_inputs()?;
         pair.compare_stores()?;
         Ok((pair, answer))
     }
@@ -97,6 +98,7 @@ impl<'c, C: Core> Pair<'c, C> {
             Call::Request { text, reply } => self.request(text, reply),
             Call::Body { id } => self.body(id),
         }?;
+        self.compare_inputs()?;
         self.calls += 1;
         if self.calls.is_multiple_of(self.every) {
             self.compare_stores()?;
@@ -200,14 +202,19 @@ impl<'c, C: Core> Pair<'c, C> {
         Ok(got)
     }
 
-    /// Both stores word for word, and that nothing else was written to.
-    pub fn compare_stores(&self) -> Result<(), String> {
+    /// What a call only reads stayed, and nothing beside a slice was written.
+    fn compare_inputs(&self) -> Result<(), String> {
         if !self.model.holds(&self.expected_model) || !self.names.holds(&self.expected_names) {
             return Err("model or names were written to".into());
         }
         if !self.observations.intact() || !self.assets.intact() {
             return Err("cells beside a store were written to".into());
         }
+        Ok(())
+    }
+
+    /// Both stores word for word.
+    pub fn compare_stores(&self) -> Result<(), String> {
         same("observation store word", self.observations.inner(), &self.expected_observations)?;
         same("asset store byte", self.assets.inner(), &self.expected_assets)
     }

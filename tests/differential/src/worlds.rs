@@ -158,11 +158,13 @@ pub fn spoil_model(rng: &mut Rng, words: &mut Vec<u32>) {
     let component = 2 + rng.index(c).min(words.len() - 3);
     let item = (2 + c + rng.index(words.len())).min(words.len() - 1);
     match rng.below(13) {
-        0 => words[0] = *rng.pick(&[0, 65, 66, u32::MAX, words[0] + 1, words[0] - 1]),
-        1 => words[1] = *rng.pick(&[0, 65, 255, u32::MAX, words[1] + 1, words[1] - 1]),
+        0 => words[0] = *rng.pick(&[0, 65, 66, u32::MAX, words[0].wrapping_add(1), words[0].wrapping_sub(1)]),
+        1 => {
+            words[1] = *rng.pick(&[0, 65, 255, u32::MAX, words[1].wrapping_add(1), words[1].wrapping_sub(1)])
+        }
         2 => words.truncate(rng.index(words.len() + 1)),
         3 => words.push(0),
-        4 => words[2] += 256,
+        4 => words[2] = words[2].wrapping_add(256),
         // Its own parent, or one above it.
         5 => words[component] = words[component] % 256 + 256 * (component as u32 - 2 + rng.below(2) as u32),
         6 => words[component] = rng.word() as u32,

@@ -155,6 +155,26 @@ fn times_do_not_order() {
     ask_all(&mut session);
 }
 
+/// A count that is not given is 100, whatever the size of the ring.
+#[test]
+fn the_default_count() {
+    let core = core();
+    for n in [1, 99, 100, 101, 300] {
+        let mut session = begin(&core, &start(&plain_model(1, false), &one_name(), [n, 1, 1], 1));
+        for number in 2..=350 {
+            assert_eq!(session.observe(0, 1, 1, Value::Sample(number as i32)), number);
+        }
+        let first = 350 - n + 1;
+        for from in (first..first + 3).chain([first + n / 2, 250, 251, 252, 350, 351]) {
+            let held = (first..=351).contains(&from);
+            let expected = if held { Ok((from + 100).min(351)) } else { Err(12) };
+            assert_eq!(session.ask(format!("/sample?from={from}")).map(|reply| reply[3]), expected);
+        }
+        assert_eq!(session.ask("/sample").unwrap()[..4], [n.min(100), first, 350, (first + 100).min(351)]);
+        assert_eq!(session.ask(format!("/sample?count={}", n + 1)), Err(10));
+    }
+}
+
 /// Every reply length from none to beyond the words needed, for each kind of reply.
 #[test]
 fn every_reply_length() {

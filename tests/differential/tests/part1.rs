@@ -116,7 +116,7 @@ fn eight_places(core: &UnderTest) -> Tested<'_> {
     let names = names(&["Path", "LINE", "POSITION"]);
     let model = [1, 2, component(0, 0), item(1, 0, 1), item(0, 0, 2)];
     let mut session = begin(core, &start(&model, &names, [8, 1, 9], 1));
-    let balls = [
+    let inserted = [
         (LINE, Value::Event(201)),
         (POSITION, Value::Sample(0)),
         (POSITION, Value::Sample(10_000)),
@@ -127,7 +127,7 @@ fn eight_places(core: &UnderTest) -> Tested<'_> {
         (LINE, Value::Event(227)),
         (POSITION, Value::Sample(22_000)),
     ];
-    for (number, (item, value)) in (11..=19).zip(balls) {
+    for (number, (item, value)) in (11..=19).zip(inserted) {
         assert_eq!(session.observe(item, number, number, value), number);
     }
     session

@@ -351,11 +351,11 @@ impl<F: FaultSet> Stores<F> {
         self.at_in_range(head, Some(at))?;
         let found = head.newest_at(words, at, self.faults);
         let ring = found.as_ref().map(|_| ()).map_err(|&refusal| refusal);
-        let newest = found.unwrap_or([None; 64]);
+        let newest = found.unwrap_or([0; 64]);
         let row = |item: usize| match newest[item] {
-            Some(row) => Some(row),
-            None if self.faults.has(Fault::AtFromRingOnly) => None,
-            None => head
+            number if number != 0 => Some(head.entry(words, number, self.faults)),
+            _ if self.faults.has(Fault::AtFromRingOnly) => None,
+            _ => head
                 .checkpoint(words, item)
                 .filter(|row| row.number <= at || !self.faults.has(Fault::CheckpointCompared)),
         };

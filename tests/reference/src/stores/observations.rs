@@ -218,23 +218,25 @@ impl Head {
             .map(|((&time, &packed), number)| Row { number, time, packed })
     }
 
-    /// Each item's newest entry among the held numbers up to `at`.
-    pub fn newest_at<F: FaultSet>(
-        &self,
-        words: &[u64],
-        at: u64,
-        faults: F,
-    ) -> Result<[Option<Row>; 64], Refusal> {
+    /// Each item's newest number among the held ones up to `at`, 0 where there is none.
+    pub fn newest_at<F: FaultSet>(&self, words: &[u64], at: u64, faults: F) -> Result<[u64; 64], Refusal> {
         let end = if faults.has(Fault::AtExclusive) { at } else { at + 1 };
-        let mut newest = [None; 64];
-        for row in self.entries(words, self.first(faults)..end, faults) {
-            let sound = self.item_valid(row.packed, faults);
-            if !sound && !faults.has(Fault::RingUntested) {
-                return Err(Refusal::Store);
-            }
-            newest[(item_of(row.packed) & 63) as usize] = Some(row);
+        let mut newest = [0; 64];
+        let mut sound = true;
+        self.entries(words, self.first(faults)..end, faults).for_each(|row| {
+            sound &= self.item_valid(row.packed, faults);
+            newest[(item_of(row.packed) & 63) as usize] = row.number;
+        });
+        if !sound && !faults.has(Fault::RingUntested) {
+            return Err(Refusal::Store);
         }
         Ok(newest)
+    }
+
+    /// The entry of a held number.
+    pub fn entry<F: FaultSet>(&self, words: &[u64], number: u64, faults: F) -> Row {
+        let place = self.place(number, faults);
+        Row { number, time: words[self.ring_time(place)], packed: words[self.ring_packed(place)] }
     }
 
     /// The end of a sample that counts rows: a planted fault.
