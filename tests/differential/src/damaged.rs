@@ -5,7 +5,7 @@ use crate::call::{Answer, Call, Start};
 use crate::pair::Pair;
 use crate::rng::Rng;
 use crate::texts::{self, Scene};
-use crate::{lists, worlds, Counts, Difference};
+use crate::{lists, settings, worlds, Counts, Difference};
 use reference::model::Model;
 use reference::{Clean, Core};
 
@@ -18,6 +18,7 @@ pub fn run<C: Core>(core: &C, seed: u64, counts: &mut Counts) -> Result<(), Diff
     let fail = |place: String, what: String| Difference { seed, place, what };
     let (mut pair, answer) = Pair::start(core, &start).map_err(|what| fail(format!("{start:?}"), what))?;
     counts.start(answer.refusal());
+    let tracing = settings::tracing();
     let draw = Draw::new(&mut rng, &start);
     for _ in 0..rng.below(60) {
         let call = draw.call(&mut rng, &pair, 25);
@@ -41,6 +42,9 @@ pub fn run<C: Core>(core: &C, seed: u64, counts: &mut Counts) -> Result<(), Diff
                 fail(format!("{call:?} over {before:?}\n  {contents}"), what)
             })?;
             counts.call(&call, answer);
+            if tracing {
+                println!("{call:?}: {answer:?}");
+            }
         }
     }
     Ok(())

@@ -15,6 +15,7 @@ pub mod rng;
 pub mod session;
 pub mod settings;
 pub mod texts;
+pub mod trespass;
 pub mod under_test;
 pub mod windows;
 pub mod worlds;

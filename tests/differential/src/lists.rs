@@ -6,7 +6,7 @@ use crate::rng::Rng;
 use crate::session::Session;
 use crate::texts::{self, Scene};
 use crate::windows::Windows;
-use crate::{worlds, Counts, Difference};
+use crate::{settings, worlds, Counts, Difference};
 use reference::model::Model;
 use reference::{Clean, Core, FaultSet};
 
@@ -40,6 +40,10 @@ pub fn run<C: Core, F: FaultSet>(
     let begun = Session::start(core, &start, faults).map_err(|what| fail(format!("{start:?}"), what))?;
     let mut session = begun.map_err(|number| fail(format!("{start:?}"), format!("refused with {number}")))?;
     counts.start(0);
+    let tracing = settings::tracing();
+    if tracing {
+        println!("{start:?}");
+    }
     let mut script = Script::new(&session, rng);
     let length =
         if script.rng.percent(94) { script.rng.between(20, 240) } else { script.rng.between(300, 900) };
@@ -49,6 +53,9 @@ pub fn run<C: Core, F: FaultSet>(
         let place = |call: &Call| format!("call {index} after {start:?}: {call:?}");
         let answer = session.call(&call).map_err(|what| fail(place(&call), what))?;
         counts.call(&call, answer);
+        if tracing {
+            println!("{index}: {call:?}: {answer:?}");
+        }
         if let Call::Request { text, .. } = &call {
             windows.take(text, answer, &session.pair.reply);
         }

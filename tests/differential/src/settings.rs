@@ -28,6 +28,11 @@ pub fn seed() -> u64 {
     given(SEED).unwrap_or(DEFAULT_SEED)
 }
 
+/// Whether every call is to be printed: where a single list was asked for.
+pub fn tracing() -> bool {
+    env::var_os(ONE_LIST).is_some()
+}
+
 /// The seeds of so many lists, or the one asked for.
 pub fn seeds(lists: u64) -> Vec<u64> {
     if let Some(seed) = given(ONE_LIST) {

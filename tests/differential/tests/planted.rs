@@ -1,6 +1,7 @@
 //! The test of the tests: the same random lists tell every planted fault apart.
 
 use differential::hidden::Hidden;
+use differential::trespass::{Trespass, Trespasser};
 use differential::{damaged, lists, rng, settings, Counts, Difference};
 use reference::faults::Layer;
 use reference::{Clean, Fault, FaultSet, Faults, Stores};
@@ -84,4 +85,14 @@ fn no_fault_no_difference() {
             || damaged::run(&core, seed, &mut counts).is_err()
     });
     assert!(!differs);
+}
+
+/// Right answers do not help a core that writes where it must not.
+#[test]
+fn trespasses_are_noticed() {
+    for kind in Trespass::ALL {
+        let core = Trespasser::new(kind);
+        let noticed = told_apart(|seed, counts| lists::run(&core, Clean, seed, counts));
+        assert!(noticed.is_some(), "{kind:?} is never noticed");
+    }
 }
