@@ -21,4 +21,5 @@ pub mod History
 pub mod Never
 pub mod Assets
 pub mod Bench
+pub mod Examples
 pub mod Refusals
