@@ -19,9 +19,9 @@ use Rattle.spec.specs.Assets.{assetHeadOk, idOk, bodyOk, assetOk, find, 
 use Rattle.spec.specs.Reply.{numbers, pairs, lengths, observationWords, assetWords, written, observationReply, assetReply, readRows}
 use Rattle.spec.specs.Answers.{refusalNumber, observeWord, storeWord}
 use Rattle.spec.specs.Calls.{startOk, start, roomFor, observeItem, observe, keepAsset, storeAsset, inRange, sampleBetween, sampleReply, currentReply, currentUpTo, atReply, cellRows, allCells, cellsReply, findAll, namedReply, downFrom, answerRequest, answerReading, request, body}
-use Rattle.spec.specs.History.{Call, Output, Start, Window, storesRun, callOutputs, storesOutputs, windowsOfOutputs, windowsOf, Meets}
+use Rattle.spec.specs.History.{Call, Output, Stores, Start, Window, storesStart, storesRun, callOutputs, storesOutputs, windowsOfOutputs, windowsOf, Meets}
 use Rattle.spec.specs.History.Output.{started, observed, stored, replied, returned}
-use Rattle.spec.specs.Bench.{benchStart, benchObserves}
+use Rattle.spec.specs.Bench.{benchStart, benchObserves, storesAfter, benchStores}
 use Rattle.spec.specs.declared.Level.the-variants.{Normal, Warning, Fault}
 use Rattle.spec.specs.declared.Value.{Value}
 use Rattle.spec.specs.declared.Value.the-variants.{Unavailable, Sample, Event, Condition}
@@ -195,6 +195,31 @@ pub tools :
     ∷ []
 unfolding every firstWhere anyBelow countBelow pickRows setOf row put textByte nameByte idByte all same before joinFirst split digit valueFrom isNumber letters zeros cellOk namesOk changeItem sizesOk componentOk itemOk componentsOk itemsOk changesOk modelOk uriOk wordOf slotOf takesSlot addPart addParts parameters sampleRequest currentRequest idText idTexts assetRequest readWord readText typedForm formBehind formOf isNamed under inSubtree inTyped selectSubtree selectTyped selectForm select headOk evict add evictOk blank addAll startStore ringOk sampleRows currentRows newestIn atRows assetHeadOk idOk bodyOk assetOk find renew cellFor storeCells startAssets lengthOk bodyPlace numbers pairs lengths observationWords assetWords written observationReply assetReply startOk start roomFor observeItem observe keepAsset storeAsset inRange sampleBetween sampleReply currentReply currentUpTo atReply cellRows allCells cellsReply findAll namedReply downFrom answerRequest answerReading request body storesRun callOutputs storesOutputs
 tools = refl
+
+-- ---- the stores, word by word and byte by byte
+
+-- behind the bench case's observes: N, m, B, last; ring times; ring packed words; latest numbers, times, packed words; the same of the
+-- checkpoint, which holds number 1 of item 0
+pub bench-words :
+    benchStores .observations
+    ≡ 3 ∷ 2 ∷ 1 ∷ 4
+    ∷ 1030 ∷ 1000 ∷ 1010
+    ∷ 1108101562367 ∷ 1099511627776 ∷ 1103806600072
+    ∷ 1 ∷ 4 ∷ 1000 ∷ 1030 ∷ 0 ∷ 1108101562367
+    ∷ 1 ∷ 0 ∷ 1000 ∷ 0 ∷ 0 ∷ 0 ∷ []
+unfolding every firstWhere anyBelow countBelow pickRows setOf row put textByte nameByte idByte all same before joinFirst split digit valueFrom isNumber letters zeros cellOk namesOk changeItem sizesOk componentOk itemOk componentsOk itemsOk changesOk modelOk uriOk wordOf slotOf takesSlot addPart addParts parameters sampleRequest currentRequest idText idTexts assetRequest readWord readText typedForm formBehind formOf isNamed under inSubtree inTyped selectSubtree selectTyped selectForm select headOk evict add evictOk blank addAll startStore ringOk sampleRows currentRows newestIn atRows assetHeadOk idOk bodyOk assetOk find renew cellFor storeCells startAssets lengthOk bodyPlace numbers pairs lengths observationWords assetWords written observationReply assetReply startOk start roomFor observeItem observe keepAsset storeAsset inRange sampleBetween sampleReply currentReply currentUpTo atReply cellRows allCells cellsReply findAll namedReply downFrom answerRequest answerReading request body storesAfter benchStores
+bench-words = refl
+
+abbrev toolStores : Stores
+toolStores =
+    storesAfter toolModel toolNames (record { observations = storesStart toolStart .observations; assets = storesStart toolStart .assets }) toolCalls
+
+-- behind the calls above: A and u; the id cells, b and then a; the body cells, the length in two bytes before each body
+pub tool-bytes :
+    toolStores .assets
+    ≡ 2 ∷ 2 ∷ (pad 32 (bytes "b") ++ (pad 32 (bytes "a") ++ (pad 512 (0 ∷ 2 ∷ 8 ∷ 9 ∷ []) ++ pad 512 (0 ∷ 3 ∷ 1 ∷ 2 ∷ 3 ∷ []))))
+unfolding every firstWhere anyBelow countBelow pickRows setOf row put textByte nameByte idByte all same before joinFirst split digit valueFrom isNumber letters zeros cellOk namesOk changeItem sizesOk componentOk itemOk componentsOk itemsOk changesOk modelOk uriOk wordOf slotOf takesSlot addPart addParts parameters sampleRequest currentRequest idText idTexts assetRequest readWord readText typedForm formBehind formOf isNamed under inSubtree inTyped selectSubtree selectTyped selectForm select headOk evict add evictOk blank addAll startStore ringOk sampleRows currentRows newestIn atRows assetHeadOk idOk bodyOk assetOk find renew cellFor storeCells startAssets lengthOk bodyPlace numbers pairs lengths observationWords assetWords written observationReply assetReply startOk start roomFor observeItem observe keepAsset storeAsset inRange sampleBetween sampleReply currentReply currentUpTo atReply cellRows allCells cellsReply findAll namedReply downFrom answerRequest answerReading request body storesAfter
+tool-bytes = refl
 
 -- ---- one client's windows
 
