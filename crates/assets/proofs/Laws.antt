@@ -1,15 +1,15 @@
 -- The asset store's definitions, as the code reads and writes them.
-use Prim.Native.Nat.{ℕ, zero, suc, _+_, _-_, _*_, _≤_, _<_}
-use mathlib.Core.Path.{_≡_, refl, sym, ap, _∙_}
+use Prim.Native.Nat.{ℕ, suc, _+_, _-_, _*_, _≤_, _<_}
+use mathlib.Core.Path.{_≡_, sym, ap, _∙_}
 use mathlib.Core.Bool.{Bool, true, false, _&&_, false≢true}
-use mathlib.Core.List.{List, [], _∷_, _++_, append-nil}
+use mathlib.Core.List.{List, append-nil}
 use native.Mathlib.Omega.{arith}
 use borrow.Author.Tests.{le-leb, leb-true, ltb-true, lt-ltb, le-ltb}
 use lib.Dec.{leb, ltb, eqb}
-use lib.ListN.{length, getD, set, take, drop, replicate, length-append, length-replicate, length-drop, drop-of-length-le}
+use lib.ListN.{length, getD, set, take, drop, replicate, length-replicate, length-drop, drop-of-length-le}
 use lib.Seq.{sets, sets-eq, length-take-le}
 use Rattle.spec.specs.Bytes.{same, pad}
-use Rattle.spec.specs.Assets.{capacity, used, assetHeadOk, storeBytes, startAssets, lengthAt, idsAt, cell, idCell, idOk, find, lengthOk, bodyPlace, AssetHead, bodyCell, renew, usedAfter, outFor, cellFor, storeCells}
+use Rattle.spec.specs.Assets.{capacity, used, bodiesAt, assetHeadOk, storeBytes, startAssets, lengthAt, idsAt, cell, idCell, idOk, find, lengthOk, bodyPlace, AssetHead, bodyCell, renew, usedAfter, outFor, cellFor, storeCells}
 use Rattle.spec.proofs.Assets.{given-up-room, given-up-max, used-after-more, used-after-max}
 use Rattle.assets.specs.Cells.{withAsset}
 use Rattle.spec.specs.declared.Place.the-variants.{At, Nothing}
@@ -20,25 +20,6 @@ use Rattle.spec.proofs.Words.{and-left, and-right, not-so, first-here, first-on
 pub head-last : (bs : List ℕ) (a : ℕ) → a ≡ capacity bs → 1 ≤ a → a ≤ 128 → used bs ≤ a → eqb (length bs) (2 + a * 544) ≡ assetHeadOk bs
 unfolding assetHeadOk
 head-last bs a e b c d = rw (← e, le-leb _ _ b, le-leb _ _ c, le-leb _ _ d)
-
--- ---- padded cells
-
-zero-at : (k j : ℕ) → _≡_ {A = ℕ} (getD (replicate k 0) j 0) 0
-zero-at zero j = refl
-zero-at (suc k) zero = refl
-zero-at (suc k) (suc j) = zero-at k j
-
-zeros-behind : (k : ℕ) (s : List ℕ) (j : ℕ) → getD (s ++ replicate k 0) j 0 ≡ getD s j 0
-zeros-behind k [] j = zero-at k j
-zeros-behind k (x ∷ s) zero = refl
-zeros-behind k (x ∷ s) (suc j) = zeros-behind k s j
-
--- padding shows as the zeros that are read behind the end
-pub padded-at : (w : ℕ) (s : List ℕ) (j : ℕ) → getD (pad w s) j 0 ≡ getD s j 0
-padded-at w s j = zeros-behind (w - length s) s j
-
-pub padded-length : (w : ℕ) (s : List ℕ) → length s ≤ w → length (pad w s) ≡ w
-padded-length w s h = omega (arith, length-append s (replicate (w - length s) 0), length-replicate {A = ℕ} (w - length s) 0)
 
 -- ---- start
 
@@ -54,9 +35,8 @@ start-is bs l a h e =
 
 -- ---- bodies
 
-pub length-is : (bs : List ℕ) (i a x y : ℕ) → a ≡ capacity bs → x ≡ getD bs (2 + a * 32 + i * 512) 0 → y ≡ getD bs (2 + a * 32 + i * 512 + 1) 0
-    → x * 256 + y ≡ lengthAt bs i
-length-is bs i a x y ea ex ey = rw (ex, ey, ea)
+pub length-is : (bs : List ℕ) (i b x y : ℕ) → b ≡ bodiesAt (capacity bs) → x ≡ getD bs (b + i * 512) 0 → y ≡ getD bs (b + i * 512 + 1) 0 → x * 256 + y ≡ lengthAt bs i
+length-is bs i b x y eb ex ey = rw (ex, ey, eb)
 
 -- ---- find
 
@@ -126,22 +106,22 @@ no-place bs id h =
     h (and-left _ _ e) (ltb-true _ _ (and-left _ _ e1)) (and-right (ltb i (used bs)) _ e1)) in
     rw (sym z)
 
-pub place-is : (bs id : List ℕ) (i a n : ℕ) → assetHeadOk bs ≡ true → i ≡ find bs id → i < used bs → a ≡ capacity bs → n ≡ lengthAt bs i → lengthOk n ≡ true
-    → At (2 + a * 32 + i * 512 + 2) n ≡ bodyPlace bs id
+pub place-is : (bs id : List ℕ) (i b n : ℕ) → assetHeadOk bs ≡ true → i ≡ find bs id → i < used bs → b ≡ bodiesAt (capacity bs) → n ≡ lengthAt bs i → lengthOk n ≡ true
+    → At (b + i * 512 + 2) n ≡ bodyPlace bs id
 unfolding bodyPlace
-place-is bs id i a n h ei l ea en g =
+place-is bs id i b n h ei l eb en g =
     let k : lengthOk (lengthAt bs i) ≡ true = rw (sym en) g in
-    rw (← ei, h, lt-ltb _ _ l, k, ea, en)
+    rw (← ei, h, lt-ltb _ _ l, k, eb, en)
 
 pub wrong-length : (bs id : List ℕ) (i n : ℕ) (t : Bool) → i ≡ find bs id → n ≡ lengthAt bs i → t ≡ lengthOk n → t ≡ false → Nothing ≡ bodyPlace bs id
 wrong-length bs id i n t ei en et f = no-place bs id (λ h l g. false≢true (sym f ∙ et ∙ ap lengthOk (en ∙ ap (lengthAt bs) ei) ∙ g))
 
 -- ---- store
 
-pub with-asset-is : (out n a : ℕ) (id body o l₁ l₂ : List ℕ) → a ≡ capacity o → l₁ ≡ renew 32 2 out n (pad 32 id) o
-    → l₂ ≡ renew 512 (2 + a * 32) out n (bodyCell body) l₁ → set l₂ 1 n ≡ withAsset out n id body o
+pub with-asset-is : (out n b : ℕ) (id body o l₁ l₂ : List ℕ) → b ≡ bodiesAt (capacity o) → l₁ ≡ renew 32 2 out n (pad 32 id) o
+    → l₂ ≡ renew 512 b out n (bodyCell body) l₁ → set l₂ 1 n ≡ withAsset out n id body o
 unfolding withAsset
-with-asset-is out n a id body o l₁ l₂ ea e₁ e₂ = rw (e₂, e₁, ea)
+with-asset-is out n b id body o l₁ l₂ eb e₁ e₂ = rw (e₂, e₁, eb)
 
 -- the cell that is given up, by what the code reads
 module _ (bs id : List ℕ) (u i : ℕ) (eu : u ≡ used bs) (ei : i ≡ find bs id) where

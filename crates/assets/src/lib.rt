@@ -1,9 +1,8 @@
 // The asset store: its head, its ids, its bodies, and what store-asset and start write.
 ghost use mathlib.Core.Path.{_≡_};
 ghost use mathlib.Core.Bool.{true};
-ghost use Prim.Native.Nat.{suc, _+_, _-_, _*_, _<_, _≤_};
-ghost use lib.ListN.{length, getD};
-ghost use Rattle.spec.specs.Bytes.{same, pad};
+ghost use Prim.Native.Nat.{_<_, _≤_};
+ghost use lib.ListN.{length};
 ghost use Rattle.spec.specs.Assets as spec;
 ghost use Rattle.spec.specs.Assets.{AssetHead, capacity, used};
 ghost use Rattle.assets.specs.Cells.{PlaceFits, withAsset};
@@ -67,28 +66,6 @@ pub fn asset_ok(id: &[u8], body: &[u8]) -> bool
     length_ok(body.len() as u64)
 }
 
-// Byte j, or 0 behind the end.
-fn byte_or_zero(s: &[u8], j: usize) -> u8
-    ensures { λ r. ⌜ r ≡ getD (now (s .entry)) j 0 ⌝ }
-{
-    if j < s.len() { s[j] } else { 0 }
-}
-
-// Whether a cell is the bytes of s, zero padded.
-fn holds(cell: &[u8], s: &[u8]) -> bool
-    requires { ⌜ length (now s) ≤ length (now cell) ⌝ }
-    ensures { λ r. ⌜ r ≡ same (now (cell .entry)) (pad (length (now (cell .entry))) (now (s .entry))) ⌝ }
-{
-    let mut j = 0;
-    while j < cell.len() {
-        if cell[j] != byte_or_zero(s, j) {
-            return false;
-        }
-        j += 1;
-    }
-    true
-}
-
 // The lowest used cell that holds the id; u where there is none, or the id is no id.
 pub fn find(bs: &[u8], id: &[u8]) -> u64
     requires { ⌜ AssetHead (now bs) ⌝ }
@@ -103,12 +80,20 @@ pub fn find(bs: &[u8], id: &[u8]) -> u64
     while i < u {
         let start = (2 + i * 32) as usize;
         let end = start + 32;
-        if holds(&bs[start..end], id) {
+        if cells::holds(&bs[start..end], id) {
             return i;
         }
         i += 1;
     }
     i
+}
+
+// Where the body cells begin.
+fn bodies_at(bs: &[u8]) -> u64
+    requires { ⌜ AssetHead (now bs) ⌝ }
+    ensures { λ r. ⌜ r ≡ spec.bodiesAt (capacity (now (bs .entry))) ⌝ }
+{
+    2 + wide(bs[0]) * 32
 }
 
 // The length that stands in body cell i.
@@ -118,7 +103,7 @@ pub fn length_at(bs: &[u8], i: u64) -> u64
     ensures { λ r. ⌜ r ≡ spec.lengthAt (now (bs .entry)) i ⌝ }
     ensures { λ r. ⌜ r < 65536 ⌝ }
 {
-    let at = 2 + wide(bs[0]) * 32 + i * 512;
+    let at = bodies_at(bs) + i * 512;
     wide(bs[at as usize]) * 256 + wide(bs[(at + 1) as usize])
 }
 
@@ -136,7 +121,7 @@ fn place_in(bs: &[u8], id: &[u8]) -> Place
     if !length_ok(n) {
         return Place::Nothing;
     }
-    let start = 2 + wide(bs[0]) * 32 + i * 512 + 2;
+    let start = bodies_at(bs) + i * 512 + 2;
     Place::At(start as usize, n as usize)
 }
 
@@ -194,7 +179,7 @@ fn put_asset(bs: &mut [u8], out: u64, n: u64, id: &[u8], body: &[u8])
     requires { ⌜ (length (now id) ≤ 32) × (length (now body) ≤ 510) ⌝ }
     ensures { λ r. ⌜ now (bs .exit) ≡ withAsset out n (now (id .entry)) (now (body .entry)) (now (bs .entry)) ⌝ }
 {
-    let bodies = 2 + wide(bs[0]) as usize * 32;
+    let bodies = bodies_at(bs) as usize;
     let head = [(body.len() / 256) as u8, (body.len() % 256) as u8];
     cells::renew_cells(bs, 32, 2, out as usize, n as usize, &id[0..0], id);
     cells::renew_cells(bs, 512, bodies, out as usize, n as usize, &head, body);

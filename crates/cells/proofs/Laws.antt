@@ -1,5 +1,5 @@
 -- A run of bytes written front to back, and cells put together from such runs, at any place and width.
-use Prim.Native.Nat.{ℕ, suc, _+_, _-_, _*_, _≤_, _<_}
+use Prim.Native.Nat.{ℕ, zero, suc, _+_, _-_, _*_, _≤_, _<_}
 use mathlib.Core.Path.{_≡_, refl, sym, ap, _∙_}
 use mathlib.Core.List.{List, [], _∷_, _++_, append-assoc}
 use native.Mathlib.Nat.{add-zero, suc-mul, add-mul}
@@ -51,7 +51,50 @@ moved-byte o l at gap n j r h =
     let q : at + gap + j ≡ at + j + gap = omega arith in
     rw (getD-take n (drop (at + gap) o) j 0 h, getD-drop (at + gap) o j 0, q, ← getD-drop (at + j) l gap 0, ← getD-drop (at + j) o gap 0, r .ahead)
 
--- ---- cells
+-- ---- padded cells
+
+zero-at : (k j : ℕ) → _≡_ {A = ℕ} (getD (replicate k 0) j 0) 0
+zero-at zero j = refl
+zero-at (suc k) zero = refl
+zero-at (suc k) (suc j) = zero-at k j
+
+zeros-behind : (k : ℕ) (s : List ℕ) (j : ℕ) → getD (s ++ replicate k 0) j 0 ≡ getD s j 0
+zeros-behind k [] j = zero-at k j
+zeros-behind k (x ∷ s) zero = refl
+zeros-behind k (x ∷ s) (suc j) = zeros-behind k s j
+
+-- padding shows as the zeros that are read behind the end
+pub padded-at : (w : ℕ) (s : List ℕ) (j : ℕ) → getD (pad w s) j 0 ≡ getD s j 0
+padded-at w s j = zeros-behind (w - length s) s j
+
+pub padded-length : (w : ℕ) (s : List ℕ) → length s ≤ w → length (pad w s) ≡ w
+padded-length w s h = omega (arith, length-append s (replicate (w - length s) 0), length-replicate {A = ℕ} (w - length s) 0)
+
+-- ---- cells renewed
+
+-- two runs, one behind the other, are one
+pub sets-append : (l x y : List ℕ) (i : ℕ) → sets (sets l i x) (i + length x) y ≡ sets l i (x ++ y)
+sets-append l [] y i = rw (add-zero i)
+sets-append l (a ∷ x) y i =
+    let q : i + suc (length x) ≡ suc i + length x = omega arith in
+    rw q (sets-append (set l i a) x y (suc i))
+
+-- the moved bytes, then the new cell in three runs
+pub renew-runs : (at w moved : ℕ) (head s o l₁ l₂ l₃ l₄ : List ℕ) → at + w + moved ≤ length o → length head + length s ≤ w
+    → l₁ ≡ sets o at (take moved (drop (at + w) o))
+    → l₂ ≡ sets l₁ (at + moved) head
+    → l₃ ≡ sets l₂ (at + moved + length head) s
+    → l₄ ≡ sets l₃ (at + moved + length head + length s) (replicate (w - length head - length s) 0)
+    → l₄ ≡ sets o at (take moved (drop (at + w) o) ++ pad w (head ++ s))
+renew-runs at w moved head s o l₁ l₂ l₃ l₄ hb hs e₁ e₂ e₃ e₄ =
+    let m = take moved (drop (at + w) o) in
+    let lm : length m ≡ moved = part-length (at + w) moved o (omega arith) in
+    let z : w - length head - length s ≡ w - length (head ++ s) = omega (arith, length-append head s) in
+    let q : at + moved + length head + length s ≡ at + moved + length (head ++ s) = omega (arith, length-append head s) in
+    let k : at + moved ≡ at + length m = omega arith in
+    e₄
+    ∙ rw (e₃, e₂, z, q, sets-append l₁ head s (at + moved), sets-append l₁ (head ++ s) (replicate (w - length (head ++ s)) 0) (at + moved), e₁, k)
+    (sets-append o m (pad w (head ++ s)) at)
 
 -- where the cells begin, without the base: cell n - 1 is the last, and behind `out` stand n - 1 - out more
 pub record Places (w out n : ℕ) : Type 0 where
@@ -67,39 +110,17 @@ places w out n h =
       split = ap (λ (x : ℕ). x * w) e ∙ add-mul out (n - 1 - out) w;
     }
 
--- two runs, one behind the other, are one
-pub sets-append : (l x y : List ℕ) (i : ℕ) → sets (sets l i x) (i + length x) y ≡ sets l i (x ++ y)
-sets-append l [] y i = rw (add-zero i)
-sets-append l (a ∷ x) y i =
-    let q : i + suc (length x) ≡ suc i + length x = omega arith in
-    rw q (sets-append (set l i a) x y (suc i))
-
--- the moved cells, then the new one in three runs
-pub renew-runs : (w b out n : ℕ) (head s o l₁ l₂ l₃ l₄ : List ℕ) → out < n → b + n * w ≤ length o → length head + length s ≤ w
-    → l₁ ≡ sets o (b + out * w) (take ((n - 1 - out) * w) (drop (b + out * w + w) o))
-    → l₂ ≡ sets l₁ (b + (n - 1) * w) head
-    → l₃ ≡ sets l₂ (b + (n - 1) * w + length head) s
-    → l₄ ≡ sets l₃ (b + (n - 1) * w + length head + length s) (replicate (w - length head - length s) 0)
-    → l₄ ≡ renew w b out n (pad w (head ++ s)) o
+-- and that is a run of cells renewed
+pub renew-is : (w b out n : ℕ) (c o : List ℕ) → out < n → b + n * w ≤ length o → length c ≡ w
+    → sets o (b + out * w) (take ((n - 1 - out) * w) (drop (b + out * w + w) o) ++ c) ≡ renew w b out n c o
 unfolding renew
-renew-runs w b out n head s o l₁ l₂ l₃ l₄ h hb hs e₁ e₂ e₃ e₄ =
+renew-is w b out n c o h hb hc =
     let p = places w out n h in
     let at = b + out * w in
-    let c = pad w (head ++ s) in
-    let moved = take ((n - 1 - out) * w) (drop (b + out * w + w) o) in
+    let moved = take ((n - 1 - out) * w) (drop (at + w) o) in
     let lm : length moved ≡ (n - 1 - out) * w = part-length (at + w) ((n - 1 - out) * w) o (omega arith) in
-    let lc : length c ≡ w = omega (arith, length-append (head ++ s) (replicate (w - length (head ++ s)) 0), length-append head s, length-replicate {A = ℕ} (w - length (head ++ s)) 0) in
-    let z : w - length head - length s ≡ w - length (head ++ s) = omega (arith, length-append head s) in
-    let f : l₄ ≡ sets l₁ (b + (n - 1) * w) c =
-    e₄ ∙ rw (e₃, e₂, z, sets-append l₁ head s (b + (n - 1) * w)) (go (b + (n - 1) * w) l₁ (w - length (head ++ s))) in
-    let k : b + (n - 1) * w ≡ at + length moved = omega arith in
-    let g : l₄ ≡ sets o at (moved ++ c) = f ∙ rw (e₁, k) (sets-append o moved c at) in
-    let t : at + length (moved ++ c) ≡ b + n * w = omega (arith, length-append moved c) in
+    let l = length-append moved c in
+    let t : at + length (moved ++ c) ≡ b + n * w = omega arith in
     let v : at + w ≡ b + suc out * w = omega (arith, suc-mul out w) in
     let u : n - 1 - out ≡ n - suc out = omega arith in
-    g ∙ sets-eq (moved ++ c) o at (omega arith) ∙ rw (t, v, u) (simp append-assoc)
-  where
-    go : (i : ℕ) (l : List ℕ) (k : ℕ) → sets (sets l i (head ++ s)) (i + length head + length s) (replicate k 0) ≡ sets l i (head ++ s ++ replicate k 0)
-    go i l k =
-        let q : i + length head + length s ≡ i + length (head ++ s) = omega (arith, length-append head s) in
-        rw q (sets-append l (head ++ s) (replicate k 0) i)
+    sets-eq (moved ++ c) o at (omega arith) ∙ rw (t, v, u) (simp append-assoc)

@@ -1,11 +1,33 @@
-// Cells of bytes inside a store, of any width: written, cleared, moved down, renewed.
+// Cells of bytes inside a store, of any width: compared, written, cleared, moved down, renewed.
 ghost use mathlib.Core.Path.{_≡_};
 ghost use mathlib.Core.List.{_++_};
 ghost use Prim.Native.Nat.{suc, _+_, _*_, _<_, _≤_};
-ghost use lib.ListN.{length, take, drop, replicate};
+ghost use lib.ListN.{length, getD, take, drop, replicate};
 ghost use lib.Seq.{sets};
-ghost use Rattle.spec.specs.Bytes.{pad};
+ghost use Rattle.spec.specs.Bytes.{same, pad};
 ghost use Rattle.spec.specs.Assets.{renew};
+
+// Byte j, or 0 behind the end.
+fn byte_or_zero(s: &[u8], j: usize) -> u8
+    ensures { λ r. ⌜ r ≡ getD (now (s .entry)) j 0 ⌝ }
+{
+    if j < s.len() { s[j] } else { 0 }
+}
+
+// Whether a cell is the bytes of s, zero padded to its end.
+pub fn holds(cell: &[u8], s: &[u8]) -> bool
+    requires { ⌜ length (now s) ≤ length (now cell) ⌝ }
+    ensures { λ r. ⌜ r ≡ same (now (cell .entry)) (pad (length (now (cell .entry))) (now (s .entry))) ⌝ }
+{
+    let mut j = 0;
+    while j < cell.len() {
+        if cell[j] != byte_or_zero(s, j) {
+            return false;
+        }
+        j += 1;
+    }
+    true
+}
 
 // The bytes of s stand from `at` on.
 pub fn write(bs: &mut [u8], at: usize, s: &[u8])
@@ -43,6 +65,21 @@ pub fn move_down(bs: &mut [u8], at: usize, gap: usize, n: usize)
     }
 }
 
+// The `moved` bytes behind the cell of w bytes at `at` move down over it, and behind them stands a cell of `head` and `s`, zero
+// padded to its end.
+fn renew_at(bs: &mut [u8], at: usize, w: usize, moved: usize, head: &[u8], s: &[u8])
+    requires { ⌜ at + w + moved ≤ length (now bs) ⌝ }
+    requires { ⌜ length (now head) + length (now s) ≤ w ⌝ }
+    ensures { λ r. ⌜ now (bs .exit) ≡ sets (now (bs .entry)) at (take moved (drop (at + w) (now (bs .entry))) ++ pad w (now (head .entry) ++ now (s .entry))) ⌝ }
+{
+    let last = at + moved;
+    let left = w - head.len() - s.len();
+    move_down(bs, at, w, moved);
+    write(bs, last, head);
+    write(bs, last + head.len(), s);
+    clear(bs, last + head.len() + s.len(), left);
+}
+
 // Of n cells of w bytes from b on, cell `out` is given up, those behind it move down whole, and the last one becomes `head`
 // and `s`, zero padded to its end.
 pub fn renew_cells(bs: &mut [u8], w: usize, b: usize, out: usize, n: usize, head: &[u8], s: &[u8])
@@ -51,10 +88,5 @@ pub fn renew_cells(bs: &mut [u8], w: usize, b: usize, out: usize, n: usize, head
     requires { ⌜ length (now head) + length (now s) ≤ w ⌝ }
     ensures { λ r. ⌜ now (bs .exit) ≡ renew w b out n (pad w (now (head .entry) ++ now (s .entry))) (now (bs .entry)) ⌝ }
 {
-    let last = b + (n - 1) * w;
-    let left = w - head.len() - s.len();
-    move_down(bs, b + out * w, w, (n - 1 - out) * w);
-    write(bs, last, head);
-    write(bs, last + head.len(), s);
-    clear(bs, last + head.len() + s.len(), left);
+    renew_at(bs, b + out * w, w, (n - 1 - out) * w, head, s);
 }

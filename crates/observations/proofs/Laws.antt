@@ -2,33 +2,34 @@
 use Prim.Native.Nat.{ℕ, zero, suc, _+_, _-_, _*_, _≤_, _<_}
 use mathlib.Core.Path.{_≡_, refl, sym, _∙_}
 use mathlib.Core.Bool.{Bool, true, false, cond}
-use mathlib.Core.List.{List, [], _∷_}
+use mathlib.Core.List.{List, [], _∷_, _++_}
 use native.Mathlib.Omega.{arith}
-use native.Mathlib.Nat.{mod-lt, sub-zero, add-zero, mul-div-cancel}
+use native.Mathlib.Nat.{sub-zero, add-zero}
 use native.Mathlib.Numerals.{add-one}
 use lib.Dec.{leb, ltb, eqb}
-use lib.ListN.{length, getD, set, replicate, length-replicate}
-use borrow.Author.Tests.{le-leb, lt-leb, leb-false, eq-eqb, eqb-true, eqb-false, ltb-true, lt-ltb, le-ltb}
+use lib.ListN.{length, getD, set, replicate, length-append}
+use borrow.Author.Tests.{le-leb, lt-leb, leb-false, eq-eqb, ltb-true, lt-ltb, le-ltb}
 use Rattle.spec.specs.Words.{row, put}
 use Rattle.spec.specs.Value.{itemOf, pack}
-use Rattle.spec.specs.Observations.{maxNumber, ringSize, base, last, ringAt, latestAt, checkpointAt, place, storeWords, headOk, Head, itemAt, overwrites, evict, evictOk, add, blank, addAll}
+use Rattle.spec.specs.Observations.{maxNumber, ringSize, base, last, ringAt, latestAt, checkpointAt, place, storeWords, headOk, Head, itemAt, evict, evictOk, add, blank, addAll, startStore}
 use Rattle.spec.specs.Calls.{roomFor}
+use Rattle.spec.specs.Reference.{Observation}
 use Rattle.spec.specs.declared.Refusal.the-variants.{Spent, Store}
 use Rattle.spec.specs.declared.Value.the-variants.{Unavailable}
 use Rattle.spec.specs.declared.Verdict.{Verdict}
 use Rattle.spec.specs.declared.Verdict.the-variants.{Fine, Refused}
-use Rattle.spec.proofs.Observations.{head, length-add, head-add, last-add, ring-add-same, ring-add-other}
-use Rattle.observations.specs.Adding.{Adding, Sizes, Starting}
+use Rattle.spec.proofs.Words.{not-so}
+use Rattle.spec.proofs.Observations.{head}
+use Rattle.spec.proofs.Kept.{Rep, next, add-rep}
+use Rattle.spec.proofs.Rows.{evict-ok}
+use Rattle.spec.proofs.Start.{blank-rep}
+use Rattle.observations.specs.Adding.{Adding, Sizes}
 
 -- ---- the head
 
-not-true : (b : Bool) → (b ≡ true → ⊥) → false ≡ b
-not-true true h = absurd (h refl)
-not-true false h = refl
-
 -- a test that rules a right head out
 pub no-head : (st : List ℕ) (m : ℕ) → (Head m st → ⊥) → false ≡ headOk m st
-no-head st m h = not-true (headOk m st) (λ e. h (head m st e))
+no-head st m h = not-so (headOk m st) (λ e. h (head m st e))
 
 -- after all other tests the length decides
 pub head-by-length : (st : List ℕ) (m : ℕ) → 1 ≤ ringSize st → ringSize st ≤ 131072 → getD st 1 0 ≡ m → 1 ≤ base st → base st + m ≤ suc (last st)
@@ -115,81 +116,18 @@ blank-words n m b k e =
     let f : k ≡ suc (suc (suc (suc (2 * n + 6 * m)))) = omega arith in
     rw f
 
-get-zeros : (n i : ℕ) → getD {A = ℕ} (replicate n 0) i 0 ≡ 0
-get-zeros zero i = refl
-get-zeros (suc n) zero = refl
-get-zeros (suc n) (suc i) = get-zeros n i
-
--- an unused ring entry has item 0
-blank-item : (n m b p : ℕ) → itemOf (getD (row (blank n m b) ringAt n p 2) 1 0) ≡ 0
-unfolding blank row
-blank-item n m b p =
-    let e : ringAt + n + p ≡ suc (suc (suc (suc (n + p)))) = omega arith in
-    rw (e, get-zeros (2 * n + 6 * m) (n + p))
-
-pub blank-starting : (n m b : ℕ) → Sizes n m b → Starting n m b 0 (blank n m b)
-unfolding blank
-blank-starting n m b h =
-    record {
-      sizes = h;
-      n-is = refl;
-      b-is = refl;
-      last-is = omega (arith, h .b-pos);
-      len = omega (arith, length-replicate {A = ℕ} (2 * n + 6 * m) 0);
-      items = λ p k. omega (arith, blank-item n m b p, h .m-pos);
-    }
-
-cond-true : (t x : Bool) → x ≡ true → cond t x true ≡ true
-cond-true true x e = e
-cond-true false x e = refl
-
--- while start adds, whatever is overwritten has an item below m
-pub starting-ok : {n m b k : ℕ} {st : List ℕ} (s : ℕ) → Starting n m b k st → evictOk n m b s st ≡ true
-unfolding evictOk
-starting-ok {n} {m} {b} {k} {st} s h =
-    cond-true (overwrites n b s) (ltb (itemAt n b st s) m) (lt-ltb _ _ (h .items (place n b s) (mod-lt (s - b) (h .sizes .n-pos))))
-
-module _ (n m b k time word : ℕ) (st : List ℕ) (h : Starting n m b k st) (hk : k < m) (hw : itemOf word < m) where
-  item-of-ring : (p : ℕ) (t : Bool) → eqb p (place n b (b + k)) ≡ t → p < n
-      → itemOf (getD (row (add n m b (b + k) k time word st) ringAt n p 2) 1 0) < m
-  item-of-ring p true e l =
-      rw (
-        eqb-true p _ e,
-        ring-add-same n m b (b + k) k time word st (starting-ok (b + k) h) (h .sizes .n-pos) hk (omega (arith, h .len)),
-      )
-      hw
-  item-of-ring p false e l =
-      rw (ring-add-other n m b (b + k) k time word st (starting-ok (b + k) h) (h .sizes .n-pos) hk p l (eqb-false p _ e)) (h .items p l)
-
-  -- one item more
-  pub starting-more : Starting n m b (k + 1) (add n m b (b + k) k time word st)
-  starting-more =
-      let keep = head-add n m b (b + k) k time word st (starting-ok (b + k) h) (h .sizes .n-pos) hk in
-      let gives = last-add n m b (b + k) k time word st (starting-ok (b + k) h) (h .sizes .n-pos) hk (omega (arith, h .len)) in
-      record {
-        sizes = h .sizes;
-        n-is = keep 0 (omega arith) ∙ h .n-is;
-        b-is = keep 2 (omega arith) ∙ h .b-is;
-        last-is = omega (arith, gives);
-        len = length-add n m b (b + k) k time word st (starting-ok (b + k) h) (h .sizes .n-pos) hk ∙ h .len;
-        items = λ p l. item-of-ring p (eqb p (place n b (b + k))) refl l;
-      }
-
--- start's loop: k items are added, and the rest makes the whole
-pub record Filling (n m b host : ℕ) (st₀ : List ℕ) (k : ℕ) (st : List ℕ) : Type 0 where
+-- start's loop: k items are added, as the reference model holds them, and the rest makes the whole
+pub record Filling (n m b host k : ℕ) (st : List ℕ) : Type 0 where
   pub below : k ≤ m
-  pub starting : Starting n m b k st
-  pub rest : addAll n m b host (m - k) (b + k) k st ≡ addAll n m b host m b 0 st₀
+  pub held : List Observation
+  pub count : length held ≡ k
+  pub rep : Rep n m b held st
+  pub rest : addAll n m b host (m - k) (b + k) k st ≡ startStore n m b host
 
-pub filling-none : (n m b host : ℕ) (st : List ℕ) → Starting n m b 0 st → Filling n m b host st 0 st
-filling-none n m b host st h = record { below = omega arith; starting = h; rest = rw (sub-zero, add-zero b) }
-
--- the packed word of an item that is Unavailable
-unavailable-word : (k : ℕ) → k * 1099511627776 ≡ pack k Unavailable
-unavailable-word k = sym (add-zero (k * 1099511627776))
-
-unavailable-item : (k : ℕ) → itemOf (pack k Unavailable) ≡ k
-unavailable-item k = rw (← unavailable-word k) (mul-div-cancel k (omega arith))
+pub filling-none : (n m b host : ℕ) → Sizes n m b → Filling n m b host 0 (blank n m b)
+unfolding startStore
+filling-none n m b host s =
+    record { below = omega arith; held = []; count = refl; rep = blank-rep n m b (s .n-pos) (s .b-pos); rest = rw (sub-zero, add-zero b) }
 
 one-more : (n m b host k : ℕ) (st : List ℕ) → k < m
     → addAll n m b host (m - (k + 1)) (b + (k + 1)) (k + 1) (add n m b (b + k) k host (pack k Unavailable) st) ≡ addAll n m b host (m - k) (b + k) k st
@@ -199,34 +137,32 @@ one-more n m b host k st l =
     let f : b + (k + 1) ≡ suc (b + k) = omega arith in
     rw (e, f, add-one k)
 
-pub filling-more : {n m b host k : ℕ} {st₀ st e : List ℕ} → Filling n m b host st₀ k st → k < m
-    → e ≡ add (ringSize st) m (base st) (suc (last st)) k host (k * 1099511627776) st → Filling n m b host st₀ (k + 1) e
-filling-more {n} {m} {b} {host} {k} {st₀} {st} {e} f l q =
-    let h = f .starting in
-    let e' : e ≡ add n m b (b + k) k host (pack k Unavailable) st = q ∙ rw (h .n-is, h .b-is, h .last-is, ← unavailable-word k) in
-    record {
-      below = omega arith;
-      starting = rw e' (starting-more n m b k host (pack k Unavailable) st h l (omega (arith, unavailable-item k)));
-      rest = rw e' (one-more n m b host k st l ∙ f .rest);
-    }
+module _ {n m b host k : ℕ} {st : List ℕ} (f : Filling n m b host k st) where
+  -- what a turn's addition asks, and what it gives
+  pub filling-adding : Sizes n m b → k < m → Adding m st
+  filling-adding s l =
+      let r = f .rep in
+      let c = f .count in
+      record { n-pos = omega arith; n-max = omega arith; b-last = omega arith; last-max = omega arith; len = omega arith }
 
-pub filling-all : {n m b host k : ℕ} {st₀ st : List ℕ} → Filling n m b host st₀ k st → m ≤ k → st ≡ addAll n m b host m b 0 st₀
-unfolding addAll
-filling-all {n} {m} {b} {host} {k} {st₀} {st} f l =
-    let e : m - k ≡ 0 = omega (arith, f .below) in
-    rw e at (f .rest)
+  pub filling-evict : evictOk (ringSize st) m (base st) (suc (last st)) st ≡ true
+  filling-evict = rw (f .rep .cap, f .rep .base, f .rep .last) (evict-ok n m b (f .held) st (f .rep))
 
--- what a turn's addition asks
-pub starting-adding : {n m b k : ℕ} {st : List ℕ} → Starting n m b k st → k < m → Adding m st
-starting-adding h l =
-    let s = h .sizes in
-    record {
-      n-pos = omega arith;
-      n-max = omega arith;
-      b-last = omega arith;
-      last-max = omega arith;
-      len = omega arith;
-    }
+  pub filling-more : {e : List ℕ} {w : ℕ} → k < m → w ≡ pack k Unavailable → e ≡ add (ringSize st) m (base st) (suc (last st)) k host w st
+      → Filling n m b host (k + 1) e
+  filling-more {e} {w} l ew q =
+      let a : e ≡ add n m b (b + length (f .held)) k host (pack k Unavailable) st = q ∙ rw (ew, f .rep .cap, f .rep .base, f .rep .last) in
+      let o = next b (f .held) k host Unavailable in
+      record {
+        below = omega arith;
+        held = f .held ++ (o ∷ []);
+        count = length-append (f .held) (o ∷ []) ∙ omega (arith, f .count);
+        rep = rw a (add-rep n m b (f .held) st k host Unavailable (f .rep) l tt);
+        rest = rw (a, f .count) (one-more n m b host k st l ∙ f .rest);
+      }
 
-pub starting-evict : {n m b k : ℕ} {st : List ℕ} → Starting n m b k st → evictOk (ringSize st) m (base st) (suc (last st)) st ≡ true
-starting-evict {n} {m} {b} {k} {st} h = rw (h .n-is, h .b-is) (starting-ok (suc (last st)) h)
+  pub filling-all : m ≤ k → st ≡ startStore n m b host
+  unfolding addAll
+  filling-all l =
+      let e : m - k ≡ 0 = omega (arith, f .below) in
+      rw e at (f .rest)

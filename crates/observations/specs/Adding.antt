@@ -3,10 +3,8 @@ use Prim.Native.Nat.{ℕ, suc, _+_, _≤_, _<_}
 use mathlib.Core.Path.{_≡_}
 use mathlib.Core.Bool.{true}
 use mathlib.Core.List.{List}
-use lib.ListN.{length, getD}
-use Rattle.spec.specs.Words.{row}
-use Rattle.spec.specs.Value.{itemOf}
-use Rattle.spec.specs.Observations.{ringSize, base, last, ringAt, storeWords, evictOk}
+use lib.ListN.{length}
+use Rattle.spec.specs.Observations.{ringSize, base, last, storeWords, evictOk}
 
 -- a head whose first numbers may still be missing (start adds to such a one), with a number left to give
 pub record Adding (m : ℕ) (st : List ℕ) : Type 0 where
@@ -33,12 +31,3 @@ pub record Sizes (n m b : ℕ) : Type 0 where
   pub m-max : m ≤ 64
   pub b-pos : 1 ≤ b
   pub b-max : b + m ≤ 9223372036854775808
-
--- start has added the first k items: the head is right so far, and every ring entry has an item below m
-pub record Starting (n m b k : ℕ) (st : List ℕ) : Type 0 where
-  pub sizes : Sizes n m b
-  pub n-is : ringSize st ≡ n
-  pub b-is : base st ≡ b
-  pub last-is : suc (last st) ≡ b + k
-  pub len : length st ≡ storeWords n m
-  pub items : (p : ℕ) → p < n → itemOf (getD (row st ringAt n p 2) 1 0) < m

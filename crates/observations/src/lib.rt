@@ -2,14 +2,14 @@
 ghost use mathlib.Core.Path.{_≡_};
 ghost use mathlib.Core.Bool.{true};
 ghost use mathlib.Core.List.{[], _∷_};
-ghost use Prim.Native.Nat.{suc, _+_, _*_, _≤_, _<_};
+ghost use Prim.Native.Nat.{suc, _+_, _≤_, _<_};
 ghost use lib.ListN.{length, getD, replicate};
 ghost use Rattle.spec.specs.Words.{put};
-ghost use Rattle.spec.specs.Value.{itemOf};
-ghost use Rattle.spec.specs.Observations.{ringSize, base, last, latestRow, storeWords, place, firstOf, headOk, Head, evict, evictOk, add, blank, addAll, startStore};
+ghost use Rattle.spec.specs.Observations.{ringSize, base, last, latestRow, storeWords, place, firstOf, headOk, Head, evict, evictOk, add, blank, startStore};
 ghost use Rattle.spec.specs.Calls.{roomFor};
-ghost use Rattle.observations.specs.Adding.{Adding, Overwriting, Sizes, Starting};
+ghost use Rattle.observations.specs.Adding.{Adding, Overwriting, Sizes};
 use spec::Refusal;
+use spec::Value;
 use spec::Verdict;
 
 // Whether the head and the length are right for m items.
@@ -71,13 +71,6 @@ pub fn place(n: u64, b: u64, s: u64) -> u64
     (s - b) % n
 }
 
-// The item of a packed word.
-fn item_of(word: u64) -> u64
-    ensures { λ r. ⌜ r ≡ itemOf word ⌝ }
-{
-    word / 1099511627776
-}
-
 // The packed word of an item's latest observation.
 pub fn latest_word(st: &[u64], m: u64, item: u64) -> u64
     requires { ⌜ Head m (now st) ⌝ }
@@ -105,7 +98,7 @@ pub fn room_for(st: &[u64], m: u64) -> Verdict
         return Verdict::Fine;
     }
     let p = place(n, b, last + 1);
-    if item_of(st[(4 + n + p) as usize]) < m {
+    if value::item_of(st[(4 + n + p) as usize]) < m {
         return Verdict::Fine;
     }
     Verdict::Refused(Refusal::Store)
@@ -140,7 +133,7 @@ fn evict(st: &mut [u64], n: u64, m: u64, b: u64, s: u64)
         let p = place(n, b, s);
         let time = st[(4 + p) as usize];
         let word = st[(4 + n + p) as usize];
-        let item = item_of(word) as usize;
+        let item = value::item_of(word) as usize;
         let checkpoint = (4 + 2 * n + 3 * m) as usize;
         put_three(st, checkpoint, m as usize, item, s - n, time, word);
     }
@@ -190,24 +183,17 @@ fn make_blank(st: &mut [u64], n: u64, m: u64, b: u64)
     st[3] = b - 1;
 }
 
-// One Unavailable per item, in item order, numbered from b on.
-fn add_all(st: &mut [u64], n: u64, m: u64, b: u64, host: u64)
-    requires { ⌜ Starting n m b 0 (now st) ⌝ }
-    ensures { λ r. ⌜ now (st .exit) ≡ addAll n m b host m b 0 (now (st .entry)) ⌝ }
-{
-    let mut item: u64 = 0;
-    while item < m {
-        add(st, m, item, host, item * 1099511627776);
-        item += 1;
-    }
-}
-
-// The store that start makes, whatever stood there.
+// The store that start makes, whatever stood there: one Unavailable per item, in item order, numbered from b on.
 pub fn start_store(st: &mut [u64], n: u64, m: u64, b: u64, host: u64)
     requires { ⌜ Sizes n m b ⌝ }
     requires { ⌜ length (now st) ≡ storeWords n m ⌝ }
     ensures { λ r. ⌜ now (st .exit) ≡ startStore n m b host ⌝ }
 {
     make_blank(st, n, m, b);
-    add_all(st, n, m, b, host);
+    let mut item: u64 = 0;
+    while item < m {
+        let word = value::pack(item, Value::Unavailable);
+        add(st, m, item, host, word);
+        item += 1;
+    }
 }

@@ -9,6 +9,7 @@ pub mod Text
 pub mod Print
 pub mod Path
 pub mod Observations
+pub mod Assets
 pub mod Recorded
 pub mod Kept
 pub mod Rows
@@ -19,6 +20,5 @@ pub mod Begin
 pub mod Windows
 pub mod History
 pub mod Never
-pub mod Assets
 pub mod Bench
 pub mod Refusals

@@ -33,7 +33,7 @@ blank-newest : (N m B b : ℕ) → 4 ≤ b → Newest b m [] (blank N m B)
 unfolding row newestOr
 blank-newest N m B b h i l = rw (blank-zero N m B (b + i) (omega arith), blank-zero N m B (b + m + i) (omega arith), blank-zero N m B (b + m + m + i) (omega arith))
 
-blank-rep : (N m B : ℕ) → 0 < N → 0 < B → Rep N m B [] (blank N m B)
+pub blank-rep : (N m B : ℕ) → 0 < N → 0 < B → Rep N m B [] (blank N m B)
 unfolding blank
 blank-rep N m B hN hB =
     record {

@@ -52,13 +52,17 @@ holds-requires : tie.Need-holds-requires Inv-loop μ-loop
 holds-requires c κs =
     let z = c .before .before .before .before .before .before .before .before .before .args in
     let l = c .before .before .loop in
-    omega (arith, cell-length (z .bs .now) (l .i) (omega arith), id-max (z .id .now) (sym (c .before .before .before .before .id-ok .ensures) ∙ not-false _ (c .before .before .before .if1 .left)))
+    omega
+    (arith, cell-length (z .bs .now) (l .i) (omega arith), id-max (z .id .now) (sym (c .before .before .before .before .id-ok .ensures) ∙ not-false _ (c .before .before .before .if1 .left)))
 
 returns-2 : tie.Need-returns-2 Inv-loop μ-loop
 returns-2 c =
     let z = c .before .before .before .before .before .before .before .before .before .before .before .args in
-    let l = c .before .before .before .before .loop in
-    (searching-here (l .inv) (omega arith) (sym (holds-is (z .bs .now) (z .id .now) _ (l .i) _ refl (omega arith) (c .before .holds .ensures)) ∙ c .if2 .taken), omega arith)
+    let l = c .before .before .before .before .loop in (
+      searching-here (l .inv) (omega arith)
+          (sym (holds-is (z .bs .now) (z .id .now) _ (l .i) _ refl (omega arith) (c .before .holds .ensures)) ∙ c .if2 .taken),
+      omega arith,
+    )
 
 add-i : tie.Need-add-i Inv-loop μ-loop
 add-i c = search needs

@@ -38,7 +38,9 @@ add-result : tie.Need-add-result
 add-result c = search needs
 
 returns-5 : tie.Need-returns-5
-returns-5 c = head-last (c .before .before .before .before .before .before .before .before .before .args .bs .now) _ (c .before .before .before .before .before .wide .ensures .0) (omega arith) (omega arith) (omega arith)
+returns-5 c =
+    head-last (c .before .before .before .before .before .before .before .before .before .args .bs .now) _
+    (c .before .before .before .before .before .wide .ensures .0) (omega arith) (omega arith) (omega arith)
 
 pub head-ok-spec : {M : Type 1} → statement M
 head-ok-spec =

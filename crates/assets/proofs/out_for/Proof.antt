@@ -25,10 +25,14 @@ wide-requires-2 : tie.Need-wide-requires-2
 wide-requires-2 c κs = search needs
 
 returns-2 : tie.Need-returns-2
-returns-2 c = out-free _ _ _ _ (c .before .before .before .before .before .wide .ensures .0) (c .before .before .before .before .find .ensures .0) _ (c .before .wide2 .ensures .0) (omega arith) (omega arith)
+returns-2 c =
+    out-free _ _ _ _ (c .before .before .before .before .before .wide .ensures .0)
+    (c .before .before .before .before .find .ensures .0) _ (c .before .wide2 .ensures .0) (omega arith) (omega arith)
 
 returns-3 : tie.Need-returns-3
-returns-3 c = out-oldest _ _ _ _ (c .before .before .before .before .before .wide .ensures .0) (c .before .before .before .before .find .ensures .0) _ (c .before .wide2 .ensures .0) (omega arith) (omega arith)
+returns-3 c =
+    out-oldest _ _ _ _ (c .before .before .before .before .before .wide .ensures .0)
+    (c .before .before .before .before .find .ensures .0) _ (c .before .wide2 .ensures .0) (omega arith) (omega arith)
 
 pub out-for-spec : {M : Type 1} → statement M
 out-for-spec =

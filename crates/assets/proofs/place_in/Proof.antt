@@ -28,13 +28,14 @@ length-ok-requires : tie.Need-length-ok-requires
 length-ok-requires c κs = search needs
 
 returns-2 : tie.Need-returns-2
-returns-2 c = (wrong-length _ _ _ _ _ (c .before .before .before .before .before .before .find .ensures .0) (c .before .before .length-at .ensures .0) (c .before .length-ok .ensures) (not-true _ (c .if2 .taken)), tt)
+returns-2 c = (
+  wrong-length _ _ _ _ _ (c .before .before .before .before .before .before .find .ensures .0)
+      (c .before .before .length-at .ensures .0) (c .before .length-ok .ensures) (not-true _ (c .if2 .taken)),
+  tt,
+)
 
-shared-slice-read-wide-2 : tie.Need-shared-slice-read-wide-2
-shared-slice-read-wide-2 c = search needs
-
-wide-requires-2 : tie.Need-wide-requires-2
-wide-requires-2 c κs = search needs
+bodies-at-requires : tie.Need-bodies-at-requires
+bodies-at-requires c κs = search needs
 
 mul-start : tie.Need-mul-start
 mul-start c = search needs
@@ -42,21 +43,19 @@ mul-start c = search needs
 add-start : tie.Need-add-start
 add-start c = search needs
 
-mul-start-2 : tie.Need-mul-start-2
-mul-start-2 c = search needs
-
 add-start-2 : tie.Need-add-start-2
 add-start-2 c = search needs
 
-add-start-3 : tie.Need-add-start-3
-add-start-3 c = search needs
-
 returns-3 : tie.Need-returns-3
 returns-3 c =
-    let z = c .before .before .before .before .before .before .before .before .before .before .before .args in
-    let n = c .before .before .before .before .length-at .result in
-    let g = sym (c .before .before .before .length-ok .ensures) ∙ not-false _ (c .before .before .if2 .left) in
-    (place-is (z .bs .now) (z .id .now) _ _ _ (asset-head-ok (z .bs .now) (c .before .before .before .before .before .before .before .before .before .before .before .pre)) (c .before .before .before .before .before .before .before .before .find .ensures .0) (omega arith) (c .wide2 .ensures .0) (c .before .before .before .before .length-at .ensures .0) g, (omega (arith, length-max n g), length-pos n g))
+    let s = c .before .before .before .before .before .before .before .before .before .before in
+    let n = c .before .before .before .length-at in
+    let g = sym (c .before .before .length-ok .ensures) ∙ not-false _ (c .before .if2 .left) in (
+      place-is _ (s .args .id .now) _ _ _ (asset-head-ok _ (s .pre))
+          (c .before .before .before .before .before .before .before .find .ensures .0) (omega arith) (c .bodies-at .ensures)
+          (n .ensures .0) g,
+      (omega (arith, length-max (n .result) g), length-pos (n .result) g),
+    )
 
 pub place-in-spec : {M : Type 1} → statement M
 place-in-spec =
@@ -69,11 +68,8 @@ place-in-spec =
     length-at-requires
     length-ok-requires
     returns-2
-    shared-slice-read-wide-2
-    wide-requires-2
+    bodies-at-requires
     mul-start
     add-start
-    mul-start-2
     add-start-2
-    add-start-3
     returns-3)

@@ -7,20 +7,11 @@ use Rattle.assets.proofs.Laws.{with-asset-is}
 use Rattle.assets.proofs.put_asset.Statement.{statement}
 use Rattle.assets.proofs.put_asset.Tie as tie
 
-slice-read-wide : tie.Need-slice-read-wide
-slice-read-wide c = search needs
+bodies-at-requires : tie.Need-bodies-at-requires
+bodies-at-requires c κs = search needs
 
-wide-requires : tie.Need-wide-requires
-wide-requires c κs = search needs
-
-mul-bodies : tie.Need-mul-bodies
-mul-bodies c = search needs
-
-add-bodies : tie.Need-add-bodies
-add-bodies c = search needs
-
-cast-t10 : tie.Need-cast-t10
-cast-t10 c = search needs
+cast-t13 : tie.Need-cast-t13
+cast-t13 c = search needs
 
 cast-bs : tie.Need-cast-bs
 cast-bs c = search needs
@@ -50,22 +41,24 @@ slice-write-bs : tie.Need-slice-write-bs
 slice-write-bs c = search needs
 
 same-length : tie.Need-same-length
-same-length c = omega (arith, length-set (c .before .before .renew-cells2 .last .0) 1 (c .before .before .before .before .before .before .before .before .before .before .before .before .before .before .before .args .n))
+same-length c =
+    omega
+    (arith, length-set (c .before .before .renew-cells2 .last .0) 1 (c .before .before .before .before .before .before .before .before .before .before .before .before .before .before .before .args .n))
 
 returns : tie.Need-returns
 returns c =
     let z = c .before .before .before .before .before .before .before .before .before .before .before .before .before .before .before .args in
-    with-asset-is (z .out) (z .n) _ (z .id .now) (z .body .now) (z .bs .now) _ _ (c .before .before .before .before .before .before .before .before .before .before .wide .ensures .0) (c .before .before .before .before .before .before .before .renew-cells .ensures) (c .before .before .renew-cells2 .ensures)
+    with-asset-is (z .out) (z .n) _ (z .id .now) (z .body .now) (z .bs .now) _ _
+    (c .before .before .before .before .before .before .before .before .before .before .bodies-at .ensures)
+    (c .before .before .before .before .before .before .before .renew-cells .ensures)
+    (c .before .before .renew-cells2 .ensures)
 
 pub put-asset-spec : {M : Type 1} → statement M
 put-asset-spec =
     tie.close
     (tie.spec
-    slice-read-wide
-    wide-requires
-    mul-bodies
-    add-bodies
-    cast-t10
+    bodies-at-requires
+    cast-t13
     cast-bs
     sub-renew-cells
     part-renew-cells-start

@@ -19,7 +19,9 @@ same-length : tie.Need-same-length
 same-length c = search needs
 
 returns : tie.Need-returns
-returns c = start-is (c .before .before .before .before .before .args .bs .now) _ (c .before .before .before .before .before .args .a) (omega arith) (c .before .before .clear .ensures)
+returns c =
+    start-is (c .before .before .before .before .before .args .bs .now) _
+    (c .before .before .before .before .before .args .a) (omega arith) (c .before .before .clear .ensures)
 
 pub start-spec : {M : Type 1} → statement M
 start-spec = tie.close (tie.spec clear-requires cast-bs slice-write-bs same-length returns)

@@ -23,14 +23,20 @@ put-asset-requires : tie.Need-put-asset-requires
 put-asset-requires c κs =
     let s = c .before .before .before .before .before .before .before .before .before in
     let z = s .args in
-    let r = renewal (s .args .bs .now) (s .args .id .now) _ _ _ (s .pre .0) (c .before .before .wide .ensures .0) (c .before .before .before .before .out-for .ensures) (c .before .used-after .ensures) in
+    let r =
+    renewal (s .args .bs .now) (s .args .id .now) _ _ _ (s .pre .0) (c .before .before .wide .ensures .0)
+    (c .before .before .before .before .out-for .ensures) (c .before .used-after .ensures) in
     let i = asset-id (z .id .now) (z .body .now) (s .pre .1) in
     (s .pre .0, ((r .more, r .most), (id-max (z .id .now) i, body-max (z .id .now) (z .body .now) (s .pre .1))))
 
 sub-result : tie.Need-sub-result
 sub-result c =
     let s = c .before .before .before .before .before .before .before .before .before .before .before .before in
-    let r = renewal (s .args .bs .now) (s .args .id .now) _ _ _ (s .pre .0) (c .before .before .before .before .before .wide .ensures .0) (c .before .before .before .before .before .before .before .out-for .ensures) (c .before .before .before .before .used-after .ensures) in
+    let r =
+    renewal (s .args .bs .now) (s .args .id .now) _ _ _ (s .pre .0)
+    (c .before .before .before .before .before .wide .ensures .0)
+    (c .before .before .before .before .before .before .before .out-for .ensures)
+    (c .before .before .before .before .used-after .ensures) in
     omega arith
 
 same-length : tie.Need-same-length
@@ -39,7 +45,11 @@ same-length c = search needs
 returns : tie.Need-returns
 returns c =
     let s = c .before .before .before .before .before .before .before .before .before .before .before .before in
-    let r = renewal (s .args .bs .now) (s .args .id .now) _ _ _ (s .pre .0) (c .before .before .before .before .before .wide .ensures .0) (c .before .before .before .before .before .before .before .out-for .ensures) (c .before .before .before .before .used-after .ensures) in
+    let r =
+    renewal (s .args .bs .now) (s .args .id .now) _ _ _ (s .pre .0)
+    (c .before .before .before .before .before .wide .ensures .0)
+    (c .before .before .before .before .before .before .before .out-for .ensures)
+    (c .before .before .before .before .used-after .ensures) in
     (store-is _ _ _ _ _ _ r (c .before .before .put-asset .ensures), cell-for-is _ _ _ _ r)
 
 pub store-spec : {M : Type 1} → statement M

@@ -9,25 +9,38 @@ sizes-ok-requires : tie.Need-sizes-ok-requires
 sizes-ok-requires c κs = search needs
 
 returns : tie.Need-returns
-returns c = let s = c .before .before .before .before in model-sizes (s .args .model .now) (s .args .names .now) _ (c .before .sizes-ok .ensures) (not-true _ (c .if1 .taken))
+returns c =
+    let s = c .before .before .before .before .args in
+    model-sizes (s .model .now) (s .names .now) _ (c .before .sizes-ok .ensures) (not-true _ (c .if1 .taken))
 
 names-ok-requires : tie.Need-names-ok-requires
 names-ok-requires c κs = search needs
 
 returns-2 : tie.Need-returns-2
-returns-2 c = let s = c .before .before .before .before .before .before in model-names (s .args .model .now) (s .args .names .now) _ (c .before .before .before .sizes-ok .ensures) (not-false _ (c .before .before .if1 .left)) _ (c .before .names-ok .ensures) (not-true _ (c .if2 .taken))
+returns-2 c =
+    let s = c .before .before .before .before .before .before .args in
+    model-names (s .model .now) (s .names .now) _ (c .before .before .before .sizes-ok .ensures) (not-false _ (c .before .before .if1 .left))
+    _ (c .before .names-ok .ensures) (not-true _ (c .if2 .taken))
 
 components-ok-requires : tie.Need-components-ok-requires
 components-ok-requires c κs = sizes-known _ _ (c .before .before .before .sizes-ok .ensures) (not-false _ (c .before .before .if1 .left))
 
 returns-3 : tie.Need-returns-3
-returns-3 c = let s = c .before .before .before .before .before .before .before .before in model-components (s .args .model .now) (s .args .names .now) _ (c .before .before .before .before .before .sizes-ok .ensures) (not-false _ (c .before .before .before .before .if1 .left)) _ (c .before .before .before .names-ok .ensures) (not-false _ (c .before .before .if2 .left)) _ (c .before .components-ok .ensures) (not-true _ (c .if3 .taken))
+returns-3 c =
+    let s = c .before .before .before .before .before .before .before .before .args in
+    model-components (s .model .now) (s .names .now) _ (c .before .before .before .before .before .sizes-ok .ensures) (not-false _ (c .before .before .before .before .if1 .left))
+    _ (c .before .before .before .names-ok .ensures) (not-false _ (c .before .before .if2 .left))
+    _ (c .before .components-ok .ensures) (not-true _ (c .if3 .taken))
 
 items-ok-requires : tie.Need-items-ok-requires
 items-ok-requires c κs = sizes-known _ _ (c .before .before .before .before .before .sizes-ok .ensures) (not-false _ (c .before .before .before .before .if1 .left))
 
 returns-4 : tie.Need-returns-4
-returns-4 c = let s = c .before .before .before .before .before .before .before .before .before in model-items (s .args .model .now) (s .args .names .now) _ (c .before .before .before .before .before .before .sizes-ok .ensures) (not-false _ (c .before .before .before .before .before .if1 .left)) _ (c .before .before .before .before .names-ok .ensures) (not-false _ (c .before .before .before .if2 .left)) _ _ (c .before .before .components-ok .ensures) (not-false _ (c .before .if3 .left)) (c .items-ok .ensures)
+returns-4 c =
+    let s = c .before .before .before .before .before .before .before .before .before .args in
+    model-items (s .model .now) (s .names .now) _ (c .before .before .before .before .before .before .sizes-ok .ensures) (not-false _ (c .before .before .before .before .before .if1 .left))
+    _ (c .before .before .before .before .names-ok .ensures) (not-false _ (c .before .before .before .if2 .left))
+    _ _ (c .before .before .components-ok .ensures) (not-false _ (c .before .if3 .left)) (c .items-ok .ensures)
 
 pub model-ok-spec : {M : Type 1} → statement M
 model-ok-spec =

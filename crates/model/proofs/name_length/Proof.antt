@@ -26,7 +26,9 @@ name-byte-requires : tie.Need-name-byte-requires Inv-loop μ-loop
 name-byte-requires c κs = search needs
 
 returns : tie.Need-returns Inv-loop μ-loop
-returns c = (letters-stop _ _ (c .before .before .before .before .loop .inv .1) _ (c .before .before .before .loop-test .taken) (c .before .name-byte .ensures) (not-true _ (c .if1 .taken)), omega arith)
+returns c =
+    let l = c .before .before .before .before .loop in
+    (letters-stop _ _ (l .inv .1) _ (c .before .before .before .loop-test .taken) (c .before .name-byte .ensures) (not-true _ (c .if1 .taken)), omega arith)
 
 add-i : tie.Need-add-i Inv-loop μ-loop
 add-i c = search needs
@@ -35,7 +37,9 @@ loop-less : tie.Need-loop-less Inv-loop μ-loop
 loop-less c = search needs
 
 loop-again : tie.Need-loop-again Inv-loop μ-loop
-loop-again c = (omega arith, letters-on _ _ (c .before .before .before .before .loop .inv .1) _ (c .before .before .before .loop-test .taken) (c .before .name-byte .ensures) (not-false _ (c .if1 .left)))
+loop-again c =
+    let l = c .before .before .before .before .loop in
+    (omega arith, letters-on _ _ (l .inv .1) _ (c .before .before .before .loop-test .taken) (c .before .name-byte .ensures) (not-false _ (c .if1 .left)))
 
 returns-2 : tie.Need-returns-2 Inv-loop μ-loop
 returns-2 c = (letters-end _ _ (c .before .loop .inv .1) (c .loop-test .left), omega arith)

@@ -1,22 +1,64 @@
--- A blank store is one that start may fill.
+-- Invariant: Filling, the words stand for the items added so far, and the rest makes the whole. Measure: the items left.
+use Prim.Native.Nat.{_-_}
+use mathlib.Core.Path.{sym, _∙_}
+use native.Mathlib.Omega.{arith}
 use borrow.Author.Needs.{needs}
-use Rattle.spec.specs.Observations.{startStore}
-use Rattle.observations.proofs.Laws.{blank-starting}
+use Rattle.observations.proofs.Laws.{Filling, filling-none, filling-more, filling-all, filling-adding, filling-evict}
 use Rattle.observations.proofs.start_store.Statement.{statement}
 use Rattle.observations.proofs.start_store.Tie as tie
 
-make-blank-requires : tie.Need-make-blank-requires
+abbrev Inv-loop : tie.InvT-loop
+Inv-loop st₀ n m b host item₀ st item = Filling n m b host item st
+
+abbrev μ-loop : tie.MeasureT-loop
+μ-loop st₀ n m b host item₀ st item = m - item
+
+make-blank-requires : tie.Need-make-blank-requires Inv-loop μ-loop
 make-blank-requires c κs = search needs
 
-add-all-requires : tie.Need-add-all-requires
-add-all-requires c κs = rw (c .before .before .before .make-blank .ensures) (blank-starting _ _ _ (c .before .before .before .before .before .before .pre .0))
+loop-holds : tie.Need-loop-holds Inv-loop μ-loop
+loop-holds c = rw (c .before .before .make-blank .ensures) (filling-none _ _ _ _ (c .before .before .before .before .before .pre .0))
 
-same-length : tie.Need-same-length
-same-length c = search needs
+pack-requires : tie.Need-pack-requires Inv-loop μ-loop
+pack-requires c κs = search needs
 
-returns : tie.Need-returns
-unfolding startStore
-returns c = rw (c .before .before .add-all .ensures, c .before .before .before .before .before .before .make-blank .ensures)
+add-requires : tie.Need-add-requires Inv-loop μ-loop
+add-requires c κs =
+    let l = c .before .before in
+    let s = l .before .before .before .before .before .before .before in
+    let f = l .before .loop .inv in
+    (filling-adding f (s .pre .0) (l .loop-test .taken), (filling-evict f, (omega arith, l .loop-test .taken)))
+
+add-item : tie.Need-add-item Inv-loop μ-loop
+add-item c = search needs
+
+loop-less : tie.Need-loop-less Inv-loop μ-loop
+loop-less c = omega arith
+
+loop-again : tie.Need-loop-again Inv-loop μ-loop
+loop-again c =
+    let a = c .before .before in
+    let p = a .before .before in
+    filling-more (p .before .before .loop .inv) (p .before .loop-test .taken) (p .pack .ensures) (a .add .ensures)
+
+same-length : tie.Need-same-length Inv-loop μ-loop
+same-length c = c .before .loop .inv .rep .words ∙ sym (c .before .before .before .before .before .before .before .pre .1)
+
+returns : tie.Need-returns Inv-loop μ-loop
+returns c = filling-all (c .before .loop .inv) (c .loop-test .left)
 
 pub start-store-spec : {M : Type 1} → statement M
-start-store-spec = tie.close (tie.spec make-blank-requires add-all-requires same-length returns)
+start-store-spec =
+    tie.close
+    (tie.spec
+    Inv-loop
+    μ-loop
+    make-blank-requires
+    loop-holds
+    pack-requires
+    add-requires
+    add-item
+    loop-less
+    loop-again
+    same-length
+    returns)

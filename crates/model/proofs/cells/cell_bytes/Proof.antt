@@ -34,7 +34,10 @@ loop-less : tie.Need-loop-less Inv-loop μ-loop
 loop-less c = search needs
 
 loop-again : tie.Need-loop-again Inv-loop μ-loop
-loop-again c = (omega arith, every-keep (λ k. cellByte (getD (c .before .before .before .before .before .args .s .now) k 0)) _ (c .before .before .before .loop .fine) _ _ (c .before .before .before .loop .inv .1) _ (c .before .before .loop-test .taken) (c .cell-byte .ensures))
+loop-again c =
+    let s = c .before .before .before .before .before .args .s .now in
+    let l = c .before .before .before .loop in
+    (omega arith, every-keep (λ k. cellByte (getD s k 0)) _ (l .fine) _ _ (l .inv .1) _ (c .before .before .loop-test .taken) (c .cell-byte .ensures))
 
 returns : tie.Need-returns Inv-loop μ-loop
 returns c = every-kept _ _ _ _ _ (c .before .loop .inv .1) (c .loop-test .left)

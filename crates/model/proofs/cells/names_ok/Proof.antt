@@ -37,13 +37,24 @@ returns-4 : tie.Need-returns-4 Inv-loop μ-loop
 returns-4 c = no-names _ (λ h. false≢true (sym (not-true _ (c .if4 .taken)) ∙ (c .before .cell-bytes .ensures ∙ names-bytes _ h)))
 
 loop-holds : tie.Need-loop-holds Inv-loop μ-loop
-loop-holds c = (omega arith, (sym (c .before .cell-bytes .ensures) ∙ not-false _ (c .if4 .left), names-start (c .before .before .before .before .before .before .args .names .now) (c .before .before .before .before .if1 .left) (c .before .before .before .if2 .left) (c .before .before .if3 .left)))
+loop-holds c =
+    let s = c .before .before .before .before .before .before in (
+      omega arith,
+      (
+        sym (c .before .cell-bytes .ensures) ∙ not-false _ (c .if4 .left),
+        names-start (s .args .names .now) (c .before .before .before .before .if1 .left) (c .before .before .before .if2 .left) (c .before .before .if3 .left),
+      ),
+    )
 
 mul-at : tie.Need-mul-at Inv-loop μ-loop
-mul-at c = omega (arith, cells-fit (length (c .before .before .before .before .before .before .before .before .args .names .now)) (c .before .loop .k) (c .loop-test .taken))
+mul-at c =
+    let s = c .before .before .before .before .before .before .before .before in
+    omega (arith, cells-fit (length (s .args .names .now)) (c .before .loop .k) (c .loop-test .taken))
 
 add-zeros-last : tie.Need-add-zeros-last Inv-loop μ-loop
-add-zeros-last c = omega (arith, cells-fit (length (c .before .before .before .before .before .before .before .before .args .names .now)) (c .before .loop .k) (c .loop-test .taken))
+add-zeros-last c =
+    let s = c .before .before .before .before .before .before .before .before in
+    omega (arith, cells-fit (length (s .args .names .now)) (c .before .loop .k) (c .loop-test .taken))
 
 sub-zeros-last : tie.Need-sub-zeros-last Inv-loop μ-loop
 sub-zeros-last c = search needs
@@ -52,13 +63,20 @@ part-zeros-last-start : tie.Need-part-zeros-last-start Inv-loop μ-loop
 part-zeros-last-start c = search needs
 
 part-zeros-last-end : tie.Need-part-zeros-last-end Inv-loop μ-loop
-part-zeros-last-end c = omega (arith, cells-fit (length (c .before .before .before .before .before .before .before .before .args .names .now)) (c .before .loop .k) (c .loop-test .taken))
+part-zeros-last-end c =
+    let s = c .before .before .before .before .before .before .before .before in
+    omega (arith, cells-fit (length (s .args .names .now)) (c .before .loop .k) (c .loop-test .taken))
 
 zeros-last-requires : tie.Need-zeros-last-requires Inv-loop μ-loop
 zeros-last-requires c κs = search needs
 
 returns-5 : tie.Need-returns-5 Inv-loop μ-loop
-returns-5 c = every-no _ _ _ _ (c .before .before .before .before .loop .inv .1 .1) (c .before .before .before .loop-test .taken) (cell-at (c .before .before .before .before .before .before .before .before .before .before .before .args .names .now) _ (c .before .before .before .loop-test .taken) _ _ (c .before .before .before .before .loop .inv .1 .0) (c .before .zeros-last .ensures) (not-true _ (c .if5 .taken)))
+returns-5 c =
+    let s = c .before .before .before .before .before .before .before .before .before .before .before in
+    let l = c .before .before .before .before .loop in
+    let w = c .before .before .before .loop-test .taken in
+    every-no _ _ _ _ (l .inv .1 .1) w
+    (cell-at (s .args .names .now) _ w _ _ (l .inv .1 .0) (c .before .zeros-last .ensures) (not-true _ (c .if5 .taken)))
 
 add-k : tie.Need-add-k Inv-loop μ-loop
 add-k c = search needs
@@ -67,7 +85,17 @@ loop-less : tie.Need-loop-less Inv-loop μ-loop
 loop-less c = search needs
 
 loop-again : tie.Need-loop-again Inv-loop μ-loop
-loop-again c = (omega arith, (c .before .before .before .before .loop .inv .1 .0, every-yes _ _ _ _ (c .before .before .before .before .loop .inv .1 .1) (c .before .before .before .loop-test .taken) (cell-at (c .before .before .before .before .before .before .before .before .before .before .before .args .names .now) _ (c .before .before .before .loop-test .taken) _ _ (c .before .before .before .before .loop .inv .1 .0) (c .before .zeros-last .ensures) (not-false _ (c .if5 .left)))))
+loop-again c =
+    let s = c .before .before .before .before .before .before .before .before .before .before .before in
+    let l = c .before .before .before .before .loop in
+    let w = c .before .before .before .loop-test .taken in (
+      omega arith,
+      (
+        l .inv .1 .0,
+        every-yes _ _ _ _ (l .inv .1 .1) w
+            (cell-at (s .args .names .now) _ w _ _ (l .inv .1 .0) (c .before .zeros-last .ensures) (not-false _ (c .if5 .left))),
+      ),
+    )
 
 returns-6 : tie.Need-returns-6 Inv-loop μ-loop
 returns-6 c = every-end _ _ _ _ (c .before .loop .inv .1 .1) (c .loop-test .left)

@@ -46,7 +46,15 @@ loop-less : tie.Need-loop-less Inv-loop μ-loop
 loop-less c = search needs
 
 loop-again : tie.Need-loop-again Inv-loop μ-loop
-loop-again c = (omega arith, (c .before .before .before .before .loop .inv .1 .0, every-keep (λ k. follows (getD (c .before .before .before .before .before .before .before .args .cell .now) k 0) (getD (c .before .before .before .before .before .before .before .args .cell .now) (k + 1) 0)) _ (c .before .before .before .before .loop .fine) _ _ (c .before .before .before .before .loop .inv .1 .1) _ (c .before .before .before .loop-test .taken) (c .follows .ensures)))
+loop-again c =
+    let s = c .before .before .before .before .before .before .before .args .cell .now in
+    let l = c .before .before .before .before .loop in (
+      omega arith,
+      (
+        l .inv .1 .0,
+        every-keep (λ k. follows (getD s k 0) (getD s (k + 1) 0)) _ (l .fine) _ _ (l .inv .1 .1) _ (c .before .before .before .loop-test .taken) (c .follows .ensures),
+      ),
+    )
 
 returns : tie.Need-returns Inv-loop μ-loop
 returns c = every-kept _ _ _ _ _ (c .before .loop .inv .1 .1) (c .loop-test .left)

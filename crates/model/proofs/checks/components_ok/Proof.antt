@@ -30,7 +30,11 @@ component-ok-requires : tie.Need-component-ok-requires Inv-loop μ-loop
 component-ok-requires c κs = search needs
 
 returns : tie.Need-returns Inv-loop μ-loop
-returns c = every-no _ _ _ _ (c .before .before .before .before .loop .inv .1 .1) (c .before .before .before .loop-test .taken) (component-at (c .before .before .before .before .before .before .before .args .model .now) _ _ (c .before .before .before .before .loop .inv .0) _ _ _ _ (c .before .component-ok .ensures) (c .before .before .component-word .ensures) (not-true _ (c .if1 .taken)))
+returns c =
+    let s = c .before .before .before .before .before .before .before in
+    let l = c .before .before .before .before .loop in
+    every-no _ _ _ _ (l .inv .1 .1) (c .before .before .before .loop-test .taken)
+    (component-at (s .args .model .now) _ _ (l .inv .0) _ _ _ _ (c .before .component-ok .ensures) (c .before .before .component-word .ensures) (not-true _ (c .if1 .taken)))
 
 add-i : tie.Need-add-i Inv-loop μ-loop
 add-i c = search needs
@@ -39,7 +43,16 @@ loop-less : tie.Need-loop-less Inv-loop μ-loop
 loop-less c = search needs
 
 loop-again : tie.Need-loop-again Inv-loop μ-loop
-loop-again c = (c .before .before .before .before .loop .inv .0, (omega arith, every-yes _ _ _ _ (c .before .before .before .before .loop .inv .1 .1) (c .before .before .before .loop-test .taken) (component-at (c .before .before .before .before .before .before .before .args .model .now) _ _ (c .before .before .before .before .loop .inv .0) _ _ _ _ (c .before .component-ok .ensures) (c .before .before .component-word .ensures) (not-false _ (c .if1 .left)))))
+loop-again c =
+    let s = c .before .before .before .before .before .before .before in
+    let l = c .before .before .before .before .loop in (
+      l .inv .0,
+      (
+        omega arith,
+        every-yes _ _ _ _ (l .inv .1 .1) (c .before .before .before .loop-test .taken)
+            (component-at (s .args .model .now) _ _ (l .inv .0) _ _ _ _ (c .before .component-ok .ensures) (c .before .before .component-word .ensures) (not-false _ (c .if1 .left))),
+      ),
+    )
 
 returns-2 : tie.Need-returns-2 Inv-loop μ-loop
 returns-2 c = every-end _ _ _ _ (c .before .loop .inv .1 .1) (c .loop-test .left)

@@ -25,7 +25,10 @@ items-requires c κs = search needs
 
 loop-holds : tie.Need-loop-holds Inv-loop μ-loop
 unfolding countBelow
-loop-holds c = ((c .before .components .ensures .0, c .items .ensures .0), ((omega arith, omega arith), (items-start (c .before .before .before .args .model .now) _ _ (c .before .components .ensures .0) _ (c .items .ensures .0), refl)))
+loop-holds c =
+    let ec = c .before .components .ensures .0 in
+    let em = c .items .ensures .0 in
+    ((ec, em), ((omega arith, omega arith), (items-start (c .before .before .before .args .model .now) _ _ ec _ em, refl)))
 
 item-word-requires : tie.Need-item-word-requires Inv-loop μ-loop
 item-word-requires c κs = search needs
@@ -34,7 +37,12 @@ item-ok-requires : tie.Need-item-ok-requires Inv-loop μ-loop
 item-ok-requires c κs = search needs
 
 returns : tie.Need-returns Inv-loop μ-loop
-returns c = items-no _ _ (every-no _ _ _ _ (c .before .before .before .before .loop .inv .1 .1 .0) (c .before .before .before .loop-test .taken) (item-at (c .before .before .before .before .before .before .before .before .args .model .now) _ _ (c .before .before .before .before .loop .inv .0 .0) (c .before .before .before .before .loop .j) _ _ _ (c .before .item-ok .ensures) (c .before .before .item-word .ensures) (not-true _ (c .if1 .taken))))
+returns c =
+    let s = c .before .before .before .before .before .before .before .before in
+    let l = c .before .before .before .before .loop in
+    items-no _ _
+    (every-no _ _ _ _ (l .inv .1 .1 .0) (c .before .before .before .loop-test .taken)
+    (item-at (s .args .model .now) _ _ (l .inv .0 .0) (l .j) _ _ _ (c .before .item-ok .ensures) (c .before .before .item-word .ensures) (not-true _ (c .if1 .taken))))
 
 one-if-change-requires : tie.Need-one-if-change-requires Inv-loop μ-loop
 one-if-change-requires c κs = search needs
@@ -49,7 +57,20 @@ loop-less : tie.Need-loop-less Inv-loop μ-loop
 loop-less c = search needs
 
 loop-again : tie.Need-loop-again Inv-loop μ-loop
-loop-again c = (c .before .before .before .before .before .loop .inv .0, ((omega arith, omega arith), (every-yes _ _ _ _ (c .before .before .before .before .before .loop .inv .1 .1 .0) (c .before .before .before .before .loop-test .taken) (item-at (c .before .before .before .before .before .before .before .before .before .args .model .now) _ _ (c .before .before .before .before .before .loop .inv .0 .0) (c .before .before .before .before .before .loop .j) _ _ _ (c .before .before .item-ok .ensures) (c .before .before .before .item-word .ensures) (not-false _ (c .before .if1 .left))), change-more (c .before .before .before .before .before .before .before .before .before .args .model .now) (c .before .before .before .before .before .loop .j) _ _ _ (c .before .before .before .item-word .ensures) (c .before .before .before .before .before .loop .inv .1 .1 .1) (c .one-if-change .ensures .0))))
+loop-again c =
+    let s = c .before .before .before .before .before .before .before .before .before in
+    let l = c .before .before .before .before .before .loop in
+    let word = c .before .before .before .item-word .ensures in (
+      l .inv .0,
+      (
+        (omega arith, omega arith),
+        (
+          every-yes _ _ _ _ (l .inv .1 .1 .0) (c .before .before .before .before .loop-test .taken)
+              (item-at (s .args .model .now) _ _ (l .inv .0 .0) (l .j) _ _ _ (c .before .before .item-ok .ensures) word (not-false _ (c .before .if1 .left))),
+          change-more (s .args .model .now) (l .j) _ _ _ word (l .inv .1 .1 .1) (c .one-if-change .ensures .0),
+        ),
+      ),
+    )
 
 returns-2 : tie.Need-returns-2 Inv-loop μ-loop
 returns-2 c = items-end _ _ _ _ (omega arith) (every-end _ _ _ _ (c .before .loop .inv .1 .1 .0) (c .loop-test .left)) (c .before .loop .inv .1 .1 .1)
