@@ -188,13 +188,13 @@ module _ {st : List ℕ} {m selection f e k d z : ℕ} {o l : List ℕ} {c a s q
       selected : x ≡ 1 → bit selection (itemIn st s) ≡ true
       selected t = rw (item-is st s q (v .run .is h), ← w, ← b .0, t)
 
-      pub sampling-room : x ≡ 1 → c + 1 ≤ k
+      pub sampling-room : x ≡ 1 → 3 * k ≤ length o → (c < length l) × (a + 1 < length l)
       sampling-room t = writing-room (v .put) h (selected t)
 
-      pub sampling-more : x ≡ 1
-          → Sampling st m selection f e k d z o (set (set (set l c s) a (getD st (4 + q) 0)) (a + 1) (wordAt st q)) (c + 1) (a + 2) (s + 1) (q + 1)
-      sampling-more t =
-          record { run = run-next (v .run) h; ok = ok-more; put = writing-more (v .put) h (selected t) (numbered-is st s q (v .run .is h)) }
+      pub sampling-more : {y : List ℕ} → x ≡ 1 → y ≡ set (set (set l c s) a (getD st (4 + q) 0)) (a + 1) (wordAt st q)
+          → Sampling st m selection f e k d z o y (c + 1) (a + 2) (s + 1) (q + 1)
+      sampling-more t g =
+          record { run = run-next (v .run) h; ok = ok-more; put = writing-more (v .put) h (selected t) (numbered-is st s q (v .run .is h)) g }
 
       pub sampling-skip : (x ≡ 1 → ⊥) → Sampling st m selection f e k d z o l c a (s + 1) (q + 1)
       sampling-skip t =

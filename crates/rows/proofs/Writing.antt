@@ -89,20 +89,23 @@ writing-start p v f e k d z o h q = record { rows = refl; fits = h; pair = q; le
 
 module _ {p : ℕ → Bool} {v : ℕ → List ℕ} {f e k d z : ℕ} {o l : List ℕ} {c a s : ℕ} (r : Writing p v f e k d z o l c a s) where
   -- there is room for a row
-  pub writing-room : s < e → p s ≡ true → c + 1 ≤ k
-  writing-room h t = omega (arith, r .fits, ap length (rows-in p v s e h t))
+  pub writing-room : s < e → p s ≡ true → 3 * k ≤ length o → (c < length l) × (a + 1 < length l)
+  writing-room h t i =
+      let g : c + 1 ≤ k = omega (arith, r .fits, ap length (rows-in p v s e h t)) in
+      (omega (arith, r .len), omega (arith, r .len, r .pair))
 
-  pub writing-more : {x y w : ℕ} → s < e → p s ≡ true → v s ≡ x ∷ y ∷ w ∷ [] → Writing p v f e k d z o (set (set (set l c x) a y) (a + 1) w) (c + 1) (a + 2) (s + 1)
-  writing-more {x} {y} {w} h t q =
+  pub writing-more : {x y w : ℕ} {b : List ℕ} → s < e → p s ≡ true → v s ≡ x ∷ y ∷ w ∷ [] → b ≡ set (set (set l c x) a y) (a + 1) w
+      → Writing p v f e k d z o b (c + 1) (a + 2) (s + 1)
+  writing-more {x} {y} {w} h t q eb =
       let g : pickRows p v (e - s) s ≡ (x ∷ y ∷ w ∷ []) ∷ pickRows p v (e - (s + 1)) (s + 1) =
-      rows-in p v s e h t ∙ ap (λ (b : List ℕ). b ∷ pickRows p v (e - (s + 1)) (s + 1)) q in
+      rows-in p v s e h t ∙ ap (λ (i : List ℕ). i ∷ pickRows p v (e - (s + 1)) (s + 1)) q in
       let n = ap length g in
       record {
         rows = omega (arith, r .rows, n);
         fits = omega (arith, r .fits, n);
         pair = omega (arith, r .pair);
-        len = simp length-set (r .len);
-        all = r .all ∙ (ap (rowsAt l c a) g ∙ rows-more l c a (x ∷ y ∷ w ∷ []) (pickRows p v (e - (s + 1)) (s + 1)) (omega (arith, r .fits, n, r .pair)));
+        len = rw eb (simp length-set (r .len));
+        all = r .all ∙ (ap (rowsAt l c a) g ∙ rw eb (rows-more l c a (x ∷ y ∷ w ∷ []) (pickRows p v (e - (s + 1)) (s + 1)) (omega (arith, r .fits, n, r .pair))));
       }
 
   pub writing-skip : s < e → p s ≡ false → Writing p v f e k d z o l c a (s + 1)

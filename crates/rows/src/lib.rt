@@ -3,7 +3,7 @@
 ghost use mathlib.Core.Path.{_≡_};
 ghost use mathlib.Core.Bool.{true};
 ghost use Prim.Native.Nat.{_+_, _-_, _*_, _%_, _/_, _<_, _≤_, _^_};
-ghost use lib.ListN.{length, getD};
+ghost use lib.ListN.{length, set};
 ghost use Rattle.spec.specs.Observations.{Head, ringSize, base};
 ghost use Rattle.rows.specs.Rows.{itemsOk, sampled, counted, rowsAt, rowsInto, Run, TwoRuns};
 
@@ -88,6 +88,16 @@ pub fn count_rows(st: &[u64], m: u64, selection: u64, f: u64, e: u64) -> Counted
     Counted::Count(c + d)
 }
 
+// One row: its number to word c, its time and packed word to words a and a + 1.
+pub fn write_row(out: &mut [u64], c: u64, a: u64, number: u64, time: u64, packed: u64)
+    requires { ⌜ (c < length (now out)) × (a + 1 < length (now out)) ⌝ }
+    ensures { λ r. ⌜ now (out .exit) ≡ set (set (set (now (out .entry)) c number) a time) (a + 1) packed ⌝ }
+{
+    out[c as usize] = number;
+    out[a as usize] = time;
+    out[(a + 1) as usize] = packed;
+}
+
 // One run of write_rows, from place p on, where `done` of the k rows are written; how many are written then.
 fn write_run(
     st: &[u64],
@@ -116,9 +126,7 @@ fn write_run(
     while s < e {
         let w = st[(words + q) as usize];
         if bit_of(selection, value::item_of(w)) == 1 {
-            out[c as usize] = s;
-            out[a as usize] = st[(4 + q) as usize];
-            out[(a + 1) as usize] = w;
+            write_row(out, c, a, s, st[(4 + q) as usize], w);
             c += 1;
             a += 2;
         }

@@ -132,9 +132,7 @@ fn write_items(st: &[u64], m: u64, t: u64, seen: &[u64; 64], chosen: u64, k: u64
     while i < m {
         if rows::bit_of(chosen, i) == 1 {
             let h = row_of(st, m, t, seen[i as usize], i);
-            out[c as usize] = h.number;
-            out[a as usize] = h.time;
-            out[(a + 1) as usize] = h.packed;
+            rows::write_row(out, c, a, h.number, h.time, h.packed);
             c += 1;
             a += 2;
         }

@@ -1,11 +1,11 @@
 -- The invariant: the rows of the numbers from f up to s are written, the next goes to words c and a, and s is at place q.
 -- The measure is the numbers left.
 use mathlib.Core.Logic.{⊎-elim}
-use lib.ListN.{length-set}
 use Rattle.rows.proofs.Laws.{Sampling, sampling-start, sampling-item, sampling-room, sampling-more, sampling-skip, sampling-end}
 use borrow.Author.Needs.{needs}
 use native.Mathlib.Omega.{arith}
 use Prim.Native.Nat.{_-_}
+use mathlib.Core.Path.{_∙_}
 use Rattle.rows.proofs.write_run.Statement.{statement}
 use Rattle.rows.proofs.write_run.Tie as tie
 
@@ -45,41 +45,23 @@ item-of-requires c κs = search needs
 bit-of-requires : tie.Need-bit-of-requires Inv-loop μ-loop
 bit-of-requires c κs = omega (arith, sampling-item (c .before .before .before .loop .inv) (c .before .before .loop-test .taken) (c .item-of .ensures))
 
-mul-out : tie.Need-mul-out Inv-loop μ-loop
-mul-out c = search needs
+add-write-row : tie.Need-add-write-row Inv-loop μ-loop
+add-write-row c = omega (arith, c .before .before .before .before .before .before .loop .inv .run .room)
 
-slice-write-out : tie.Need-slice-write-out Inv-loop μ-loop
-slice-write-out c = let g = sampling-room (c .before .before .before .before .before .loop .inv) (c .before .before .before .before .loop-test .taken) (c .before .before .item-of .ensures) (c .before .bit-of .ensures) (c .if1 .taken) in omega arith
+mul-write-row : tie.Need-mul-write-row Inv-loop μ-loop
+mul-write-row c = omega (arith, c .before .before .before .before .before .before .loop .inv .run .room)
 
-add-out : tie.Need-add-out Inv-loop μ-loop
-add-out c = omega (arith, c .before .before .before .before .before .loop .inv .run .room)
+shared-slice-read-write-row : tie.Need-shared-slice-read-write-row Inv-loop μ-loop
+shared-slice-read-write-row c = omega (arith, c .before .before .before .before .before .before .before .loop .inv .run .room)
 
-mul-out-2 : tie.Need-mul-out-2 Inv-loop μ-loop
-mul-out-2 c = omega (arith, c .before .before .before .before .before .loop .inv .run .room)
-
-shared-slice-read-out : tie.Need-shared-slice-read-out Inv-loop μ-loop
-shared-slice-read-out c = omega (arith, c .before .before .before .before .before .before .loop .inv .run .room)
-
-mul-out-3 : tie.Need-mul-out-3 Inv-loop μ-loop
-mul-out-3 c = let g = sampling-room (c .before .before .before .before .before .before .loop .inv) (c .before .before .before .before .before .loop-test .taken) (c .before .before .before .item-of .ensures) (c .before .before .bit-of .ensures) (c .before .if1 .taken) in omega arith
-
-slice-write-out-2 : tie.Need-slice-write-out-2 Inv-loop μ-loop
-slice-write-out-2 c = let g = sampling-room (c .before .before .before .before .before .before .loop .inv) (c .before .before .before .before .before .loop-test .taken) (c .before .before .before .item-of .ensures) (c .before .before .bit-of .ensures) (c .before .if1 .taken) in simp length-set (omega arith)
-
-add-out-2 : tie.Need-add-out-2 Inv-loop μ-loop
-add-out-2 c = let g = sampling-room (c .before .before .before .before .before .before .loop .inv) (c .before .before .before .before .before .loop-test .taken) (c .before .before .before .item-of .ensures) (c .before .before .bit-of .ensures) (c .before .if1 .taken) in omega arith
-
-mul-out-4 : tie.Need-mul-out-4 Inv-loop μ-loop
-mul-out-4 c = let g = sampling-room (c .before .before .before .before .before .before .loop .inv) (c .before .before .before .before .before .loop-test .taken) (c .before .before .before .item-of .ensures) (c .before .before .bit-of .ensures) (c .before .if1 .taken) in omega arith
-
-slice-write-out-3 : tie.Need-slice-write-out-3 Inv-loop μ-loop
-slice-write-out-3 c = let g = sampling-room (c .before .before .before .before .before .before .loop .inv) (c .before .before .before .before .before .loop-test .taken) (c .before .before .before .item-of .ensures) (c .before .before .bit-of .ensures) (c .before .if1 .taken) in simp length-set (omega arith)
+write-row-requires : tie.Need-write-row-requires Inv-loop μ-loop
+write-row-requires c κs = sampling-room (c .before .before .before .before .before .before .before .loop .inv) (c .before .before .before .before .before .before .loop-test .taken) (c .before .before .before .before .item-of .ensures) (c .before .before .before .bit-of .ensures) (c .before .before .if1 .taken) (c .before .before .before .before .before .before .before .before .before .before .before .pre .1 .1 .1 .1 .1)
 
 add-c : tie.Need-add-c Inv-loop μ-loop
-add-c c = let g = sampling-room (c .before .before .before .before .before .before .loop .inv) (c .before .before .before .before .before .loop-test .taken) (c .before .before .before .item-of .ensures) (c .before .before .bit-of .ensures) (c .before .if1 .taken) in omega arith
+add-c c = let g = sampling-room (c .before .before .before .before .before .before .before .before .before .before .loop .inv) (c .before .before .before .before .before .before .before .before .before .loop-test .taken) (c .before .before .before .before .before .before .before .item-of .ensures) (c .before .before .before .before .before .before .bit-of .ensures) (c .before .before .before .before .before .if1 .taken) (c .before .before .before .before .before .before .before .before .before .before .before .before .before .before .pre .1 .1 .1 .1 .1) in omega arith
 
 add-a-2 : tie.Need-add-a-2 Inv-loop μ-loop
-add-a-2 c = let g = sampling-room (c .before .before .before .before .before .before .loop .inv) (c .before .before .before .before .before .loop-test .taken) (c .before .before .before .item-of .ensures) (c .before .before .bit-of .ensures) (c .before .if1 .taken) in omega arith
+add-a-2 c = let g = sampling-room (c .before .before .before .before .before .before .before .before .before .before .loop .inv) (c .before .before .before .before .before .before .before .before .before .loop-test .taken) (c .before .before .before .before .before .before .before .item-of .ensures) (c .before .before .before .before .before .before .bit-of .ensures) (c .before .before .before .before .before .if1 .taken) (c .before .before .before .before .before .before .before .before .before .before .before .before .before .before .pre .1 .1 .1 .1 .1) in omega arith
 
 add-q : tie.Need-add-q Inv-loop μ-loop
 add-q c = omega (arith, c .before .before .before .before .before .loop .inv .run .room)
@@ -91,7 +73,7 @@ loop-less : tie.Need-loop-less Inv-loop μ-loop
 loop-less c = search needs
 
 loop-again : tie.Need-loop-again Inv-loop μ-loop
-loop-again c = ⊎-elim (λ w. rw (w .2, w .3, w .4) (sampling-more (c .before .before .before .before .before .loop .inv) (c .before .before .before .before .loop-test .taken) (c .before .before .item-of .ensures) (c .before .bit-of .ensures) (w .0 .taken))) (λ w. rw (w .1, w .2, w .3) (sampling-skip (c .before .before .before .before .before .loop .inv) (c .before .before .before .before .loop-test .taken) (c .before .before .item-of .ensures) (c .before .bit-of .ensures) (w .0 .left))) (c .if1 .came)
+loop-again c = ⊎-elim (λ w. rw (w .7, w .8) (sampling-more (c .before .before .before .before .before .loop .inv) (c .before .before .before .before .loop-test .taken) (c .before .before .item-of .ensures) (c .before .bit-of .ensures) (w .0 .taken) (w .6 ∙ w .3 .ensures))) (λ w. rw (w .1, w .2, w .3) (sampling-skip (c .before .before .before .before .before .loop .inv) (c .before .before .before .before .loop-test .taken) (c .before .before .item-of .ensures) (c .before .bit-of .ensures) (w .0 .left))) (c .if1 .came)
 
 same-length : tie.Need-same-length Inv-loop μ-loop
 same-length c = c .before .loop .inv .put .len
@@ -115,16 +97,10 @@ write-run-spec =
     shared-slice-read-w
     item-of-requires
     bit-of-requires
-    mul-out
-    slice-write-out
-    add-out
-    mul-out-2
-    shared-slice-read-out
-    mul-out-3
-    slice-write-out-2
-    add-out-2
-    mul-out-4
-    slice-write-out-3
+    add-write-row
+    mul-write-row
+    shared-slice-read-write-row
+    write-row-requires
     add-c
     add-a-2
     add-q

@@ -35,7 +35,7 @@ item-of-requires : tie.Need-item-of-requires Inv-loop μ-loop
 item-of-requires c κs = search needs
 
 returns : tie.Need-returns Inv-loop μ-loop
-returns c = (seeing-broken (c .before .before .before .before .loop .inv) (c .before .before .before .loop-test .taken) (c .before .item-of .ensures) (c .if1 .taken), λ z. absurd (false≢true z))
+returns c = (seeing-broken (c .before .before .before .before .loop .inv) (omega arith) (c .before .item-of .ensures) (c .if1 .taken), λ z. absurd (false≢true z))
 
 mul-seen : tie.Need-mul-seen Inv-loop μ-loop
 mul-seen c = search needs
@@ -53,10 +53,10 @@ loop-less : tie.Need-loop-less Inv-loop μ-loop
 loop-less c = search needs
 
 loop-again : tie.Need-loop-again Inv-loop μ-loop
-loop-again c = seeing-more (c .before .before .before .before .loop .inv) (c .before .before .before .loop-test .taken) (c .before .item-of .ensures) (c .if1 .left)
+loop-again c = seeing-more (c .before .before .before .before .loop .inv) (omega arith) (c .before .item-of .ensures) (c .if1 .left)
 
 returns-2 : tie.Need-returns-2 Inv-loop μ-loop
-returns-2 c = (seeing-end (c .before .loop .inv) (c .loop-test .left) .0, λ z. seeing-end (c .before .loop .inv) (c .loop-test .left) .1)
+returns-2 c = (seeing-end (c .before .loop .inv) (omega arith) .0, λ z. seeing-end (c .before .loop .inv) (omega arith) .1)
 
 pub newest-run-spec : {M : Type 1} → statement M
 newest-run-spec =

@@ -1,6 +1,5 @@
 -- The invariant: the rows of the chosen items below i are written, the next goes to words c and a. The measure is the items left.
 use mathlib.Core.Logic.{⊎-elim}
-use lib.ListN.{length-set}
 use Rattle.spec.specs.Words.{bit}
 use Rattle.rows.proofs.Writing.{Writing, writing-room, writing-more, writing-skip}
 use Rattle.snapshots.specs.Snapshots.{rowFrom}
@@ -8,6 +7,7 @@ use Rattle.snapshots.proofs.Laws.{bit-yes, bit-no, items-start, items-e
 use borrow.Author.Needs.{needs}
 use native.Mathlib.Omega.{arith}
 use Prim.Native.Nat.{_-_}
+use mathlib.Core.Path.{_∙_}
 use Rattle.snapshots.proofs.write_items.Statement.{statement}
 use Rattle.snapshots.proofs.write_items.Tie as tie
 
@@ -32,32 +32,14 @@ element-copy-out-row-of c = search needs
 row-of-requires : tie.Need-row-of-requires Inv-loop μ-loop
 row-of-requires c κs = search needs
 
-mul-out : tie.Need-mul-out Inv-loop μ-loop
-mul-out c = search needs
-
-slice-write-out : tie.Need-slice-write-out Inv-loop μ-loop
-slice-write-out c = let g = writing-room (c .before .before .before .before .before .loop .inv) (c .before .before .before .before .loop-test .taken) (bit-yes _ _ _ (c .before .before .before .bit-of .ensures) (c .before .before .if1 .taken)) in omega arith
-
-mul-out-2 : tie.Need-mul-out-2 Inv-loop μ-loop
-mul-out-2 c = let g = writing-room (c .before .before .before .before .before .loop .inv) (c .before .before .before .before .loop-test .taken) (bit-yes _ _ _ (c .before .before .before .bit-of .ensures) (c .before .before .if1 .taken)) in omega arith
-
-slice-write-out-2 : tie.Need-slice-write-out-2 Inv-loop μ-loop
-slice-write-out-2 c = let g = writing-room (c .before .before .before .before .before .loop .inv) (c .before .before .before .before .loop-test .taken) (bit-yes _ _ _ (c .before .before .before .bit-of .ensures) (c .before .before .if1 .taken)) in simp length-set (omega arith)
-
-add-out : tie.Need-add-out Inv-loop μ-loop
-add-out c = let g = writing-room (c .before .before .before .before .before .loop .inv) (c .before .before .before .before .loop-test .taken) (bit-yes _ _ _ (c .before .before .before .bit-of .ensures) (c .before .before .if1 .taken)) in omega arith
-
-mul-out-3 : tie.Need-mul-out-3 Inv-loop μ-loop
-mul-out-3 c = let g = writing-room (c .before .before .before .before .before .loop .inv) (c .before .before .before .before .loop-test .taken) (bit-yes _ _ _ (c .before .before .before .bit-of .ensures) (c .before .before .if1 .taken)) in omega arith
-
-slice-write-out-3 : tie.Need-slice-write-out-3 Inv-loop μ-loop
-slice-write-out-3 c = let g = writing-room (c .before .before .before .before .before .loop .inv) (c .before .before .before .before .loop-test .taken) (bit-yes _ _ _ (c .before .before .before .bit-of .ensures) (c .before .before .if1 .taken)) in simp length-set (omega arith)
+write-row-requires : tie.Need-write-row-requires Inv-loop μ-loop
+write-row-requires c κs = writing-room (c .before .before .before .before .before .before .loop .inv) (c .before .before .before .before .before .loop-test .taken) (bit-yes _ _ _ (c .before .before .before .before .bit-of .ensures) (c .before .before .before .if1 .taken)) (c .before .before .before .before .before .before .before .before .before .pre .1 .1 .1)
 
 add-c : tie.Need-add-c Inv-loop μ-loop
-add-c c = let g = writing-room (c .before .before .before .before .before .loop .inv) (c .before .before .before .before .loop-test .taken) (bit-yes _ _ _ (c .before .before .before .bit-of .ensures) (c .before .before .if1 .taken)) in omega arith
+add-c c = let g = writing-room (c .before .before .before .before .before .before .before .before .before .loop .inv) (c .before .before .before .before .before .before .before .before .loop-test .taken) (bit-yes _ _ _ (c .before .before .before .before .before .before .before .bit-of .ensures) (c .before .before .before .before .before .before .if1 .taken)) (c .before .before .before .before .before .before .before .before .before .before .before .before .pre .1 .1 .1) in omega arith
 
 add-a : tie.Need-add-a Inv-loop μ-loop
-add-a c = let g = writing-room (c .before .before .before .before .before .loop .inv) (c .before .before .before .before .loop-test .taken) (bit-yes _ _ _ (c .before .before .before .bit-of .ensures) (c .before .before .if1 .taken)) in omega arith
+add-a c = let g = writing-room (c .before .before .before .before .before .before .before .before .before .loop .inv) (c .before .before .before .before .before .before .before .before .loop-test .taken) (bit-yes _ _ _ (c .before .before .before .before .before .before .before .bit-of .ensures) (c .before .before .before .before .before .before .if1 .taken)) (c .before .before .before .before .before .before .before .before .before .before .before .before .pre .1 .1 .1) in omega arith
 
 add-i : tie.Need-add-i Inv-loop μ-loop
 add-i c = search needs
@@ -66,7 +48,7 @@ loop-less : tie.Need-loop-less Inv-loop μ-loop
 loop-less c = search needs
 
 loop-again : tie.Need-loop-again Inv-loop μ-loop
-loop-again c = ⊎-elim (λ w. rw (w .3, w .4, w .5) (writing-more (c .before .before .before .loop .inv) (c .before .before .loop-test .taken) (bit-yes _ _ _ (c .before .bit-of .ensures) (w .0 .taken)) (w .2 .ensures))) (λ w. rw (w .1, w .2, w .3) (writing-skip (c .before .before .before .loop .inv) (c .before .before .loop-test .taken) (bit-no _ _ _ (c .before .bit-of .ensures) (w .0 .left)))) (c .if1 .came)
+loop-again c = ⊎-elim (λ w. rw (w .8, w .9) (writing-more (c .before .before .before .loop .inv) (c .before .before .loop-test .taken) (bit-yes _ _ _ (c .before .bit-of .ensures) (w .0 .taken)) (w .2 .ensures) (w .7 ∙ w .4 .ensures))) (λ w. rw (w .1, w .2, w .3) (writing-skip (c .before .before .before .loop .inv) (c .before .before .loop-test .taken) (bit-no _ _ _ (c .before .bit-of .ensures) (w .0 .left)))) (c .if1 .came)
 
 same-length : tie.Need-same-length Inv-loop μ-loop
 same-length c = c .before .loop .inv .len
@@ -85,13 +67,7 @@ write-items-spec =
     mul-row-of
     element-copy-out-row-of
     row-of-requires
-    mul-out
-    slice-write-out
-    mul-out-2
-    slice-write-out-2
-    add-out
-    mul-out-3
-    slice-write-out-3
+    write-row-requires
     add-c
     add-a
     add-i
