@@ -1,31 +1,20 @@
-use native.Mathlib.Omega.{arith}
-use lib.ListN.{length, getD}
-use Prim.Native.Nat.{ℕ, _+_, _-_, _≤_, _<_}
-use mathlib.Core.Path.{_≡_, refl, sym, ap, _∙_}
+-- Each answer has its own clause of the definition.
 use borrow.Author.Needs.{needs}
 use Rattle.mtcore.proofs.store_word.Statement.{statement}
 use Rattle.mtcore.proofs.store_word.Tie as tie
-use Rattle.mtcore.proofs.store_word.Reads as reads
-use Rattle.mtcore.proofs.store_word.Lts as lts
-use Rattle.mtcore.proofs.refusal_word.Reads as refusal-word-reads
 
--- src/lib.rt:90:29
 enum-known-answer : tie.Need-enum-known-answer
 enum-known-answer c = search needs
 
--- src/lib.rt:91:30
 enum-known-answer-2 : tie.Need-enum-known-answer-2
 enum-known-answer-2 c = search needs
 
--- src/lib.rt:91:42
 refusal-word-requires : tie.Need-refusal-word-requires
 refusal-word-requires c κs = search needs
 
--- src/lib.rt:86:1
 returns : tie.Need-returns
 returns c = search needs
 
--- src/lib.rt:86:1
 returns-2 : tie.Need-returns-2
 returns-2 c = rw (c .before .before .answer2 .given .1) (c .refusal-word .ensures)
 
