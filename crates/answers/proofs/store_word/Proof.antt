@@ -1,7 +1,7 @@
 -- Each answer has its own clause of the definition.
 use borrow.Author.Needs.{needs}
-use Rattle.mtcore.proofs.store_word.Statement.{statement}
-use Rattle.mtcore.proofs.store_word.Tie as tie
+use Rattle.answers.proofs.store_word.Statement.{statement}
+use Rattle.answers.proofs.store_word.Tie as tie
 
 enum-known-answer : tie.Need-enum-known-answer
 enum-known-answer c = search needs
