@@ -1,0 +1,2 @@
+-- What the writers of replies keep of the cells that they are to show.
+pub mod Cells

@@ -1,0 +1,3 @@
+pub mod Ranges
+pub mod Writing
+pub mod Laws

@@ -1,0 +1,17 @@
+-- The bit of i is above the set, so the or adds it.
+use Rattle.snapshots.proofs.Laws.{or-shifted}
+use borrow.Author.Needs.{needs}
+use Rattle.snapshots.proofs.with_if.Statement.{statement}
+use Rattle.snapshots.proofs.with_if.Tie as tie
+
+shl-result : tie.Need-shl-result
+shl-result c = search needs
+
+returns : tie.Need-returns
+returns c = rw (c .if1 .taken) (or-shifted (c .before .args .set) (c .before .args .i) (c .before .pre .0) (c .before .pre .1))
+
+returns-2 : tie.Need-returns-2
+returns-2 c = rw (c .if1 .left)
+
+pub with-if-spec : {M : Type 1} → statement M
+with-if-spec = tie.close (tie.spec shl-result returns returns-2)

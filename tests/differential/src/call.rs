@@ -1,0 +1,96 @@
+//! Calls and answers as data.
+
+use std::fmt;
+
+/// A call after a start, with its arguments in the C interface's shapes.
+#[derive(Clone)]
+pub enum Call {
+    Observe {
+        item: u64,
+        time: u64,
+        host: u64,
+        value: u64,
+    },
+    StoreAsset {
+        id: Vec<u8>,
+        body: Vec<u8>,
+        host: u64,
+    },
+    /// With the words that stand in the reply buffer at the call.
+    Request {
+        text: Vec<u8>,
+        reply: Vec<u64>,
+    },
+    Body {
+        id: Vec<u8>,
+    },
+}
+
+/// The arguments of a start, with what stands in the stores before it.
+#[derive(Clone)]
+pub struct Start {
+    pub model: Vec<u32>,
+    pub names: Vec<u8>,
+    pub n: u64,
+    pub a: u64,
+    pub b: u64,
+    pub host: u64,
+    pub observations: Vec<u64>,
+    pub assets: Vec<u8>,
+}
+
+/// An answer in the C interface's words.
+#[derive(Clone, Copy, PartialEq, Eq, Debug)]
+pub enum Answer {
+    /// Number and count of start and request.
+    Pair(u64, u64),
+    /// The answer word of observe and store-asset.
+    Word(u64),
+    /// The place of a body; (0, 0) for any empty part.
+    Part(u64, u64),
+}
+
+impl Answer {
+    /// The refusal's number, 0 for an accepted call. A body's empty part has no number.
+    pub fn refusal(self) -> u64 {
+        match self {
+            Answer::Pair(number, _) => number,
+            Answer::Word(word) => word.saturating_sub(1 << 63),
+            Answer::Part(..) => 0,
+        }
+    }
+
+    pub fn is_refused(self) -> bool {
+        self.refusal() != 0 || self == Answer::Part(0, 0)
+    }
+}
+
+impl fmt::Debug for Call {
+    fn fmt(&self, f: &mut fmt::Formatter<'_>) -> fmt::Result {
+        match self {
+            Call::Observe { item, time, host, value } => {
+                write!(f, "observe item {item} time {time} host {host} value {value:#x}")
+            }
+            Call::StoreAsset { id, body, host } => {
+                write!(f, "store-asset {} body of {} host {host}", id.escape_ascii(), body.len())
+            }
+            Call::Request { text, reply } => {
+                write!(f, "request {} reply of {}", text.escape_ascii(), reply.len())
+            }
+            Call::Body { id } => write!(f, "body {}", id.escape_ascii()),
+        }
+    }
+}
+
+impl fmt::Debug for Start {
+    fn fmt(&self, f: &mut fmt::Formatter<'_>) -> fmt::Result {
+        let Start { model, names, n, a, b, host, observations, assets } = self;
+        write!(
+            f,
+            "start model {model:?} names {} n {n} a {a} b {b} host {host} lengths {} {}",
+            names.escape_ascii(),
+            observations.len(),
+            assets.len()
+        )
+    }
+}

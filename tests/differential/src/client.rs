@@ -1,0 +1,107 @@
+//! A client that polls with one path, each time from the next number of the poll before. What it
+//! was handed over, joined, has to be the machine's matching observations, each once, in order.
+
+use crate::call::Answer;
+use crate::rng::Rng;
+use reference::{Clean, FaultSet, Machine};
+
+pub struct Client {
+    path: Option<Vec<u8>>,
+    selected: u64,
+    count: Option<u64>,
+    /// The first number of the stretch and the next number to ask for.
+    stretch: Option<(u64, u64)>,
+    rows: Vec<[u64; 3]>,
+    /// Stretches checked.
+    pub windows: u64,
+}
+
+impl Client {
+    pub fn new(path: Option<Vec<u8>>, selected: u64, count: Option<u64>) -> Client {
+        Client { path, selected, count, stretch: None, rows: Vec::new(), windows: 0 }
+    }
+
+    /// The text of the next poll. The count may change from poll to poll, the path not.
+    pub fn text(&mut self, rng: &mut Rng) -> Vec<u8> {
+        let mut parts = Vec::new();
+        if let Some((_, next)) = self.stretch {
+            parts.push(format!("from={next}").into_bytes());
+        }
+        if let Some(count) = self.count {
+            let count = if rng.percent(20) { rng.between(1, count) } else { count };
+            parts.push(format!("count={count}").into_bytes());
+        }
+        if let Some(path) = &self.path {
+            parts.push([b"path=", &path[..]].concat());
+        }
+        rng.shuffle(&mut parts);
+        let mut text = b"/sample".to_vec();
+        for (index, part) in parts.into_iter().enumerate() {
+            text.push(if index == 0 { b'?' } else { b'&' });
+            text.extend(part);
+        }
+        text
+    }
+
+    /// Takes the answer of a poll. A refused one hands nothing over and ends the stretch only where
+    /// the next number has been written over or cannot be asked for.
+    pub fn take<F: FaultSet>(
+        &mut self,
+        answer: Answer,
+        reply: &[u64],
+        machine: &Machine<F>,
+    ) -> Result<(), String> {
+        match answer {
+            Answer::Pair(0, k) => self.accept(k as usize, reply, machine),
+            Answer::Pair(15, _) => Ok(()),
+            _ => {
+                self.finish(machine)?;
+                self.stretch = None;
+                Ok(())
+            }
+        }
+    }
+
+    fn accept<F: FaultSet>(&mut self, k: usize, reply: &[u64], machine: &Machine<F>) -> Result<(), String> {
+        let (sizes, rest) = reply.split_at(4);
+        if sizes[0] != k as u64 {
+            return Err(format!("{k} rows answered, {} written", sizes[0]));
+        }
+        let begun = self.stretch.map_or(sizes[1], |(begun, _)| begun);
+        for row in 0..k {
+            self.rows.push([rest[row], rest[k + 2 * row], rest[k + 2 * row + 1]]);
+        }
+        self.stretch = Some((begun, sizes[3]));
+        if machine.last() < sizes[3] {
+            // Level with the machine: a good moment to check.
+            return self.compare(machine);
+        }
+        Ok(())
+    }
+
+    /// Checks the stretch and forgets its rows.
+    pub fn finish<F: FaultSet>(&mut self, machine: &Machine<F>) -> Result<(), String> {
+        self.compare(machine)?;
+        self.windows += u64::from(self.stretch.is_some());
+        self.rows.clear();
+        Ok(())
+    }
+
+    fn compare<F: FaultSet>(&self, machine: &Machine<F>) -> Result<(), String> {
+        let Some((begun, next)) = self.stretch else {
+            return Ok(());
+        };
+        let mut expected = machine
+            .history()
+            .iter()
+            .filter(|row| (begun..next).contains(&row.number) && self.selected >> row.item & 1 == 1)
+            .map(|row| [row.number, row.time, row.value.packed(row.item as u64, Clean)]);
+        let joined = self.rows.iter().copied().eq(expected.by_ref());
+        if !joined {
+            return Err(format!(
+                "windows from {begun} up to {next} do not join to the matching observations"
+            ));
+        }
+        Ok(())
+    }
+}

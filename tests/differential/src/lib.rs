@@ -1,0 +1,109 @@
+//! Differential tests of the agent core: the same calls to the core under test, the reference's
+//! store layer and the machine that forgets nothing, compared call by call.
+
+pub mod call;
+pub mod client;
+pub mod damaged;
+#[cfg(target_os = "linux")]
+pub mod fenced;
+pub mod fixture;
+pub mod guard;
+pub mod hidden;
+pub mod lists;
+pub mod pair;
+pub mod rng;
+pub mod session;
+pub mod settings;
+pub mod texts;
+pub mod trespass;
+pub mod under_test;
+pub mod windows;
+pub mod worlds;
+
+use call::{Answer, Call};
+use std::fmt;
+
+/// Where two implementations part.
+#[derive(Clone, Debug)]
+pub struct Difference {
+    pub seed: u64,
+    pub place: String,
+    pub what: String,
+}
+
+impl fmt::Display for Difference {
+    fn fmt(&self, f: &mut fmt::Formatter<'_>) -> fmt::Result {
+        writeln!(f, "{}", self.what)?;
+        writeln!(f, "  {}", self.place)?;
+        write!(f, "  again: {}={:#x}", settings::ONE_LIST, self.seed)
+    }
+}
+
+/// What was met, so that a test can tell that its lists reach every case.
+#[derive(Clone, Default, Debug)]
+pub struct Counts {
+    pub calls: u64,
+    /// Answers by refusal number, 0 for accepted ones.
+    pub starts: [u64; 16],
+    pub observes: [u64; 16],
+    pub stores: [u64; 16],
+    pub requests: [u64; 16],
+    pub bodies: [u64; 2],
+    pub same: u64,
+    pub rows: u64,
+    /// Stretches of clients whose windows were joined and checked.
+    pub windows: u64,
+}
+
+impl Counts {
+    pub fn start(&mut self, refusal: u64) {
+        self.calls += 1;
+        self.starts[refusal as usize] += 1;
+    }
+
+    pub fn call(&mut self, call: &Call, answer: Answer) {
+        self.calls += 1;
+        let refusal = answer.refusal() as usize;
+        match call {
+            Call::Observe { .. } => self.observes[refusal] += 1,
+            Call::StoreAsset { .. } => self.stores[refusal] += 1,
+            Call::Request { .. } => self.requests[refusal] += 1,
+            Call::Body { .. } => self.bodies[usize::from(answer.is_refused())] += 1,
+        }
+        match (call, answer) {
+            (Call::Observe { .. }, Answer::Word(0)) => self.same += 1,
+            (_, Answer::Pair(0, k)) => self.rows += k,
+            _ => {}
+        }
+    }
+
+    pub fn add(&mut self, other: &Counts) {
+        self.calls += other.calls;
+        self.same += other.same;
+        self.rows += other.rows;
+        self.windows += other.windows;
+        let tables = [
+            (&mut self.starts[..], &other.starts[..]),
+            (&mut self.observes, &other.observes),
+            (&mut self.stores, &other.stores),
+            (&mut self.requests, &other.requests),
+            (&mut self.bodies, &other.bodies),
+        ];
+        for (mine, others) in tables {
+            mine.iter_mut().zip(others).for_each(|(a, b)| *a += b);
+        }
+    }
+}
+
+impl fmt::Display for Counts {
+    fn fmt(&self, f: &mut fmt::Formatter<'_>) -> fmt::Result {
+        let Counts { calls, same, rows, windows, .. } = self;
+        writeln!(f, "{calls} calls, {same} Same, {rows} rows, {windows} joined stretches")?;
+        writeln!(f, "  answers by refusal number, 0 accepted:")?;
+        writeln!(f, "  start       {:?}", self.starts)?;
+        writeln!(f, "  observe     {:?}", self.observes)?;
+        writeln!(f, "  store-asset {:?}", self.stores)?;
+        writeln!(f, "  request     {:?}", self.requests)?;
+        write!(f, "  body        {:?}", self.bodies)
+    }
+}

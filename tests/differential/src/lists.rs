@@ -1,0 +1,283 @@
+//! Random lists of calls after a start, with clients that poll among them.
+
+use crate::call::{Answer, Call};
+use crate::client::Client;
+use crate::rng::Rng;
+use crate::session::Session;
+use crate::texts::{self, Scene};
+use crate::windows::Windows;
+use crate::{settings, worlds, Counts, Difference};
+use reference::model::Model;
+use reference::{Clean, Core, FaultSet};
+
+/// What the calls of one list draw from.
+struct Script {
+    rng: Rng,
+    clock: u64,
+    categories: Vec<u32>,
+    component_types: Vec<Vec<u8>>,
+    item_types: Vec<Vec<u8>>,
+    ids: Vec<Vec<u8>>,
+    clients: Vec<Client>,
+}
+
+/// Runs the list of a seed. The machine takes the faults given; in earnest it has none.
+pub fn run<C: Core, F: FaultSet>(
+    core: &C,
+    faults: F,
+    seed: u64,
+    counts: &mut Counts,
+) -> Result<(), Difference> {
+    let mut rng = Rng::new(seed);
+    let fail = |place: String, what: String| Difference { seed, place, what };
+    for _ in 0..rng.weighted(&[80, 10, 10]) {
+        let mut start = worlds::start(&mut rng);
+        worlds::spoil(&mut rng, &mut start);
+        let begun = Session::start(core, &start, faults).map_err(|what| fail(format!("{start:?}"), what))?;
+        counts.start(begun.err().unwrap_or(0));
+    }
+    let start = worlds::start(&mut rng);
+    let begun = Session::start(core, &start, faults).map_err(|what| fail(format!("{start:?}"), what))?;
+    let mut session = begun.map_err(|number| fail(format!("{start:?}"), format!("refused with {number}")))?;
+    counts.start(0);
+    let tracing = settings::tracing();
+    if tracing {
+        println!("{start:?}");
+    }
+    let mut script = Script::new(&session, rng);
+    let length =
+        if script.rng.percent(94) { script.rng.between(20, 240) } else { script.rng.between(300, 900) };
+    let mut windows = Windows::default();
+    for index in 0..length {
+        let (call, client) = script.next(&session);
+        let place = |call: &Call| format!("call {index} after {start:?}: {call:?}");
+        let answer = session.call(&call).map_err(|what| fail(place(&call), what))?;
+        counts.call(&call, answer);
+        if tracing {
+            println!("{index}: {call:?}: {answer:?}");
+        }
+        if let Call::Request { text, .. } = &call {
+            windows.take(text, answer, &session.pair.reply);
+        }
+        if let Some(client) = client {
+            let reply = &session.pair.reply;
+            script.clients[client]
+                .take(answer, reply, &session.machine)
+                .map_err(|what| fail(place(&call), what))?;
+        }
+        if index % 32 == 0 {
+            session.compare_contents().map_err(|what| fail(place(&call), what))?;
+        }
+    }
+    session.compare_contents().map_err(|what| fail("at the end".into(), what))?;
+    let joined = windows.check(&mut script.rng, &session.pair, &session.machine);
+    counts.windows += joined.map_err(|what| fail("at the end".into(), what))?;
+    for client in &mut script.clients {
+        client.finish(&session.machine).map_err(|what| fail("at the end".into(), what))?;
+        counts.windows += client.windows;
+    }
+    Ok(())
+}
+
+impl Script {
+    fn new<C: Core, F: FaultSet>(session: &Session<C, F>, mut rng: Rng) -> Script {
+        let (words, names) = (&session.pair.expected_model, &session.pair.expected_names);
+        let model = Model::check(words, names, Clean).expect("the start was accepted");
+        let items = 0..model.items();
+        let ids = ids(&mut rng, session.machine.cells());
+        let mut script = Script {
+            clock: rng.between(1000, 2000),
+            categories: items.clone().map(|item| model.category(item)).collect(),
+            component_types: (0..model.components()).map(|c| model.component_type(c).to_vec()).collect(),
+            item_types: items.map(|item| model.item_type(item).to_vec()).collect(),
+            ids,
+            clients: Vec::new(),
+            rng,
+        };
+        for _ in 0..script.rng.between(0, 4) {
+            let client = script.client(&model, session.machine.places());
+            script.clients.push(client);
+        }
+        script
+    }
+
+    fn client(&mut self, model: &Model, n: u64) -> Client {
+        let component = self.rng.pick(&self.component_types).clone();
+        let item = self.rng.pick(&self.item_types).clone();
+        let path = match self.rng.below(4) {
+            0 => None,
+            1 => Some([b"//", &component[..]].concat()),
+            _ => Some([b"//", &component[..], b"//DataItem[@type=\"", &item, b"\"]"].concat()),
+        };
+        let selected = reference::path::select(model, path.as_deref(), Clean);
+        let count = self.rng.percent(80).then(|| self.rng.between(1, n));
+        // A path that selects nothing is refused; such a client asks for all.
+        let path = path.filter(|_| selected.is_some());
+        Client::new(path, selected.unwrap_or(u64::MAX), count)
+    }
+
+    /// The next call, and the client whose poll it is.
+    fn next<C: Core, F: FaultSet>(&mut self, session: &Session<C, F>) -> (Call, Option<usize>) {
+        let polls = if self.clients.is_empty() { 0 } else { 20 };
+        match self.rng.weighted(&[45, 9, 30, 6, polls]) {
+            0 => (self.observe(), None),
+            1 => (self.store_asset(), None),
+            2 => (self.request(session), None),
+            3 => (self.body(), None),
+            _ => {
+                let client = self.rng.index(self.clients.len());
+                let text = self.clients[client].text(&mut self.rng);
+                let words = if self.rng.percent(95) { 4 + 3 * 130 } else { self.rng.between(0, 40) as usize };
+                (Call::Request { text, reply: worlds::garbage(&mut self.rng, words) }, Some(client))
+            }
+        }
+    }
+
+    /// Times rise, stand, fall, are missing, or are the largest.
+    fn time(&mut self) -> u64 {
+        match self.rng.weighted(&[50, 15, 15, 12, 4, 4]) {
+            0 => {
+                self.clock += self.rng.below(20);
+                self.clock
+            }
+            1 => self.clock,
+            2 => self.clock.saturating_sub(self.rng.below(300)),
+            3 => 0,
+            4 => u64::MAX,
+            _ => self.rng.word(),
+        }
+    }
+
+    fn observe(&mut self) -> Call {
+        let m = self.categories.len() as u64;
+        let item = match self.rng.weighted(&[95, 5]) {
+            0 => self.rng.below(m),
+            _ => *self.rng.pick(&[m, m + 1, 64, 255, 256, 1 << 32, 1 << 40, u64::MAX]),
+        };
+        let category = self.categories.get(item as usize).copied().unwrap_or(0);
+        let value = value(&mut self.rng, category);
+        Call::Observe { item, time: self.time(), host: self.time(), value }
+    }
+
+    fn store_asset(&mut self) -> Call {
+        let mut id = self.rng.pick(&self.ids).clone();
+        if self.rng.percent(8) {
+            spoil_id(&mut self.rng, &mut id);
+        }
+        let length = match self.rng.weighted(&[60, 20, 12, 8]) {
+            0 => self.rng.between(1, 12),
+            1 => self.rng.between(1, 510),
+            2 => *self.rng.pick(&[1, 2, 255, 256, 257, 509, 510]),
+            _ => *self.rng.pick(&[0, 511, 512, 513, 766, 1000]),
+        };
+        let body =
+            worlds::garbage(&mut self.rng, length as usize).into_iter().map(|word| word as u8).collect();
+        Call::StoreAsset { id, body, host: self.time() }
+    }
+
+    fn body(&mut self) -> Call {
+        let mut id = self.rng.pick(&self.ids).clone();
+        if self.rng.percent(20) {
+            spoil_id(&mut self.rng, &mut id);
+        }
+        Call::Body { id }
+    }
+
+    fn request<C: Core, F: FaultSet>(&mut self, session: &Session<C, F>) -> Call {
+        let machine = &session.machine;
+        let scene = Scene {
+            first: machine.first(),
+            last: machine.last(),
+            origin: machine.origin(),
+            n: machine.places(),
+            component_types: &self.component_types,
+            item_types: &self.item_types,
+            ids: &self.ids,
+        };
+        let text = texts::text(&mut self.rng, &scene);
+        let words = match self.rng.weighted(&[60, 25, 15]) {
+            0 => 4 + 3 * 130,
+            1 => {
+                let (model, names) = (&session.pair.expected_model, &session.pair.expected_names);
+                let exact = machine.reply_words(model, names, &text).map_or(4, |words| words.len());
+                *self.rng.pick(&[exact - 1, exact, exact, exact + 1])
+            }
+            _ => *self.rng.pick(&[0, 1, 3, 4, 5, 6, 7, 10, 64]),
+        };
+        Call::Request { text, reply: worlds::garbage(&mut self.rng, words) }
+    }
+}
+
+/// Ids that are prefixes of each other, of every length, with the lowest and highest bytes.
+pub fn ids(rng: &mut Rng, cells: usize) -> Vec<Vec<u8>> {
+    let mut ids: Vec<Vec<u8>> =
+        [&b"T"[..], b"T1", b"T12", b"!", b"~", b"=&[@\"", b"t"].map(<[u8]>::to_vec).into();
+    ids.push(vec![b'L'; 32]);
+    ids.push(vec![b'L'; 31]);
+    rng.shuffle(&mut ids);
+    ids.truncate(rng.between(1, 9) as usize);
+    for tool in 0..cells.saturating_sub(3) {
+        ids.push(format!("tool.{tool}").into_bytes());
+    }
+    ids
+}
+
+pub fn spoil_id(rng: &mut Rng, id: &mut Vec<u8>) {
+    match rng.below(5) {
+        0 => id.clear(),
+        1 => id.push(*rng.pick(b"\x00\x20\x7f;/?\x80\xff")),
+        2 => id.resize(*rng.pick(&[32, 33, 34, 64]), b'L'),
+        3 => id.push(0),
+        _ => {
+            let at = rng.index(id.len());
+            id[at] = *rng.pick(b"\x00\x20\x21\x7e\x7f;/?\x80");
+        }
+    }
+}
+
+/// A value's word: few different ones, so that Same is met; edges; other kinds; no value at all.
+pub fn value(rng: &mut Rng, category: u32) -> u64 {
+    let kind = match rng.weighted(&[80, 12, 6, 2]) {
+        0 if category == 3 => rng.below(3),
+        0 => u64::from(category) + 1,
+        1 => 0,
+        2 => rng.below(4),
+        _ => {
+            return *rng.pick(&[
+                1,
+                4 << 32,
+                (3 << 32) + (3 << 24),
+                (3 << 32) + u64::from(u32::MAX),
+                u64::MAX,
+                1 << 40,
+                (1 << 63) + (1 << 32),
+            ])
+        }
+    };
+    let low = match kind {
+        0 => 0,
+        1 => *rng.pick(&[
+            0,
+            1,
+            2,
+            3,
+            5000,
+            u64::from(u32::MAX),
+            1 << 31,
+            (1 << 31) - 1,
+            u64::from(u32::MAX) - 1,
+        ]),
+        2 => *rng.pick(&[0, 0, 1, 1, 2, 3, u64::from(u32::MAX), 1 << 24]),
+        _ => {
+            let level = rng.below(3);
+            let code = *rng.pick(&[0, 0, 0, 1, 2, (1 << 24) - 1]);
+            (level << 24) + if level == 0 && rng.percent(70) { 0 } else { code }
+        }
+    };
+    (kind << 32) + low
+}
+
+/// An answer that hands rows over.
+pub fn accepted(answer: Answer) -> bool {
+    matches!(answer, Answer::Pair(0, _))
+}

@@ -1,0 +1,83 @@
+//! A list of calls after a start: core, store layer and machine answer each call.
+
+use crate::call::{Answer, Call, Start};
+use crate::pair::{same, Pair};
+use reference::value::Value;
+use reference::{Core, FaultSet, Machine};
+
+pub struct Session<'c, C: Core, F: FaultSet> {
+    pub pair: Pair<'c, C>,
+    pub machine: Machine<F>,
+    items: usize,
+    scratch: Vec<u64>,
+}
+
+impl<'c, C: Core, F: FaultSet> Session<'c, C, F> {
+    /// The session after an accepted start, or the refusal's number.
+    pub fn start(core: &'c C, start: &Start, faults: F) -> Result<Result<Session<'c, C, F>, u64>, String> {
+        let (pair, answer) = Pair::start(core, start)?;
+        let Start { model, names, n, a, b, host, observations, assets } = start;
+        let machine =
+            Machine::start(model, names, observations.len(), assets.len(), *n, *a, *b, *host, faults);
+        let expected = machine.as_ref().map_or_else(|refusal| refusal.number(), |_| 0);
+        if answer != Answer::Pair(expected, 0) {
+            return Err(format!("answer {answer:?}, the machine gives {expected}"));
+        }
+        let Ok(machine) = machine else {
+            return Ok(Err(expected));
+        };
+        let session = Session { pair, machine, items: model[1] as usize, scratch: Vec::new() };
+        session.compare_contents()?;
+        Ok(Ok(session))
+    }
+
+    pub fn items(&self) -> usize {
+        self.items
+    }
+
+    /// Runs a call on all three and compares.
+    pub fn call(&mut self, call: &Call) -> Result<Answer, String> {
+        let answer = self.pair.call(call)?;
+        let (model, names) = (&self.pair.expected_model, &self.pair.expected_names);
+        let expected = match call {
+            Call::Observe { item, time, host, value } => {
+                let value = Value::decode(*value);
+                Answer::Word(self.machine.observe(model, names, *item, *time, *host, value).word())
+            }
+            Call::StoreAsset { id, body, host } => {
+                Answer::Word(self.machine.store_asset(model, names, id, body, *host).word())
+            }
+            Call::Request { text, reply } => {
+                self.scratch.clear();
+                self.scratch.extend_from_slice(reply);
+                let (number, k) = self.machine.request(model, names, text, &mut self.scratch).pair();
+                same("reply word", &self.pair.reply, &self.scratch)?;
+                Answer::Pair(number, k)
+            }
+            Call::Body { id } => return self.compare_body(answer, id),
+        };
+        if answer != expected {
+            return Err(format!("answer {answer:?}, the machine gives {expected:?}"));
+        }
+        Ok(answer)
+    }
+
+    /// The bytes returned are the machine's.
+    fn compare_body(&self, answer: Answer, id: &[u8]) -> Result<Answer, String> {
+        let Answer::Part(start, length) = answer else {
+            return Err(format!("answer {answer:?} to a body"));
+        };
+        let part = self.pair.expected_assets.get(start as usize..(start + length) as usize);
+        if part != Some(self.machine.body(id)) {
+            return Err(format!("body {part:?}, the machine gives {:?}", self.machine.body(id)));
+        }
+        Ok(answer)
+    }
+
+    /// The stores hold exactly what the machine's record says, word for word.
+    pub fn compare_contents(&self) -> Result<(), String> {
+        let words = self.machine.observation_store(self.items);
+        same("observation store word by the record", &self.pair.expected_observations, &words)?;
+        same("asset store byte by the record", &self.pair.expected_assets, &self.machine.asset_store())
+    }
+}

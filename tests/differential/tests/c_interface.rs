@@ -1,0 +1,101 @@
+//! What only the archive's C interface can show: pointers of empty slices, and the wrapper's
+//! enums over the interface's words.
+#![cfg(feature = "archive")]
+
+use differential::fixture::{names, plain_model};
+use differential::rng::Rng;
+use differential::{lists, settings};
+use mtcore::ffi::raw;
+use mtcore::{Level, Observed, Refusal, Sizes, Value};
+use std::ptr::{null, null_mut, NonNull};
+
+const END: u64 = 1 << 63;
+
+/// An empty slice is NULL and 0, or any pointer and 0.
+#[test]
+fn pointers_of_empty_slices() {
+    let words: [*const u32; 2] = [null(), NonNull::dangling().as_ptr()];
+    let bytes: [*const u8; 2] = [null(), NonNull::dangling().as_ptr()];
+    let ring: [*mut u64; 2] = [null_mut(), NonNull::dangling().as_ptr()];
+    let cells: [*mut u8; 2] = [null_mut(), NonNull::dangling().as_ptr()];
+    for kind in 0..2 {
+        let (w, b, r, c) = (words[kind], bytes[kind], ring[kind], cells[kind]);
+        // SAFETY: every length is 0.
+        unsafe {
+            let answer = raw::mtcore_start(w, 0, b, 0, r, 0, c, 0, 1, 1, 1, 1);
+            assert_eq!((answer.number, answer.count), (1, 0));
+            assert_eq!(raw::mtcore_observe(w, 0, b, 0, r, 0, 0, 1, 1, 0), END + 1);
+            assert_eq!(raw::mtcore_store_asset(w, 0, b, 0, r, 0, c, 0, b, 0, b, 0, 1), END + 1);
+            let answer = raw::mtcore_request(w, 0, b, 0, r, 0, c, 0, b, 0, r, 0);
+            assert_eq!((answer.number, answer.count), (1, 0));
+            assert_eq!(raw::mtcore_body(c, 0, b, 0).length, 0);
+        }
+    }
+}
+
+/// The same with a sound model, so that the later slices are reached.
+#[test]
+fn empty_stores_texts_and_replies() {
+    let (model, names) = (plain_model(2, true), names(&["Device"]));
+    let mut observations = vec![0; mtcore::observation_words(2, 2)];
+    let mut assets = vec![0; mtcore::asset_bytes(1)];
+    let sizes = Sizes { places: 2, cells: 1, origin: 1 };
+    assert_eq!(mtcore::start(&model, &names, &mut [], &mut [], sizes, 1), Err(Refusal::Size));
+    mtcore::start(&model, &names, &mut observations, &mut assets, sizes, 1).unwrap();
+    let observed = mtcore::observe(&model, &names, &mut [], 0, 1, 1, Value::Unavailable);
+    assert_eq!(observed, Err(Refusal::Store));
+    let ask =
+        |text: &[u8], reply: &mut [u64]| mtcore::request(&model, &names, &observations, &assets, text, reply);
+    assert_eq!(ask(b"", &mut [0; 9]), Err(Refusal::InvalidUri));
+    assert_eq!(ask(b"/assets", &mut []), Err(Refusal::Space));
+    assert_eq!(mtcore::body(&assets, b""), None);
+    assert_eq!(mtcore::body(&[], b"T"), None);
+    let stored = mtcore::store_asset(&model, &names, &mut observations, &mut assets, b"", b"", 1);
+    assert_eq!(stored, Err(Refusal::Asset));
+}
+
+/// The wrapper's results say what the words say.
+#[test]
+fn results_and_words_agree() {
+    let (model, names) = (plain_model(4, true), names(&["Device"]));
+    let mut observations = vec![0; mtcore::observation_words(3, 4)];
+    let mut assets = vec![0; mtcore::asset_bytes(2)];
+    let sizes = Sizes { places: 3, cells: 2, origin: 1 };
+    mtcore::start(&model, &names, &mut observations, &mut assets, sizes, 1).unwrap();
+    let mut rng = Rng::new(settings::seed());
+    for step in 0..20_000 {
+        let item = rng.below(5);
+        let word = lists::value(&mut rng, (item % 3) as u32);
+        let Some(value) = Value::from_word(word) else {
+            continue;
+        };
+        assert_eq!(value.word(), word);
+        let mut copy = observations.clone();
+        let raw = mtcore::ffi::observe(&model, &names, &mut copy, item, step, step, word);
+        let result = mtcore::observe(&model, &names, &mut observations, item, step, step, value);
+        let expected = match raw {
+            0 => Ok(Observed::Same),
+            word if word < END => Ok(Observed::Recorded(word)),
+            word => Err(Refusal::from_number(word - END).unwrap()),
+        };
+        assert_eq!((result, &observations), (expected, &copy));
+    }
+}
+
+/// A native code that does not fit cannot pass for another level.
+#[test]
+fn wide_native_codes_are_refused() {
+    let (model, names) = ([1, 1, 0, 2 * 65_536], names(&["SYSTEM"]));
+    let mut observations = vec![0; mtcore::observation_words(3, 1)];
+    let mut assets = vec![0; mtcore::asset_bytes(1)];
+    let sizes = Sizes { places: 3, cells: 1, origin: 1 };
+    mtcore::start(&model, &names, &mut observations, &mut assets, sizes, 1).unwrap();
+    let mut observe = |value| mtcore::observe(&model, &names, &mut observations, 0, 1, 1, value);
+    for level in [Level::Normal, Level::Warning, Level::Fault] {
+        for code in [1 << 24, 2 << 24, (1 << 24) + 1, u32::MAX] {
+            assert_eq!(observe(Value::Condition(level, code)), Err(Refusal::Kind));
+        }
+    }
+    assert_eq!(observe(Value::Condition(Level::Normal, 1)), Err(Refusal::Kind));
+    assert_eq!(observe(Value::Condition(Level::Warning, (1 << 24) - 1)), Ok(Observed::Recorded(2)));
+}

@@ -1,0 +1,387 @@
+//! Damaged stores, case by case, with the answers laid down by name. A store that start did not
+//! make is taken as it stands: what a call does not read, it does not test.
+
+use differential::call::{Answer, Call, Start};
+use differential::fixture::{core, names, start};
+use differential::pair::Pair;
+use differential::under_test::UnderTest;
+use reference::{Clean, Value};
+
+const END: u64 = 1 << 63;
+const STORE: u64 = END + 2;
+const SPENT: u64 = END + 6;
+
+/// Item 0 an event, item 1 a sample; item 2 takes asset changes.
+const MODEL: [u32; 6] = [1, 3, 0, 65_536 + 1, 2, 3 * 65_536 + 3];
+/// The same without asset changes.
+const NO_ASSET_ITEM: [u32; 6] = [1, 3, 0, 65_536 + 1, 2, 3];
+
+/// Places of the store's words, with N = 4 and m = 3.
+const N: usize = 4;
+const M: usize = 3;
+const RING_PACKED: usize = 4 + N;
+const LATEST: usize = 4 + 2 * N;
+const CHECKPOINT: usize = LATEST + 3 * M;
+
+/// Places of the store's bytes, with A = 2.
+const ID: usize = 2;
+const BODY: usize = 2 + 32 * 2;
+
+/// A full ring: numbers 1 to 3 by start, 4 to 6 samples of item 1. Held are 3 to 6; 3 stands at
+/// place 2, 4 at 3, 5 at 0, 6 at 1. Assets T and U.
+fn sound(model: &[u32]) -> Start {
+    let core = core();
+    let names = names(&["Device", "EXECUTION", "POSITION", "ASSET_CHANGED"]);
+    let mut begin = start(model, &names, [N as u64, 2, 1], 1000);
+    let (mut pair, answer) = Pair::start(&core, &begin).unwrap();
+    assert_eq!(answer, Answer::Pair(0, 0));
+    for number in 4..=6 {
+        let value = (1 << 32) + number;
+        let call = Call::Observe { item: 1, time: 1000 + number, host: 1, value };
+        assert_eq!(pair.call(&call), Ok(Answer::Word(number)));
+    }
+    begin.observations = pair.expected_observations.clone();
+    begin.assets = pair.expected_assets.clone();
+    put_asset(&mut begin.assets, 0, b"T", 5);
+    put_asset(&mut begin.assets, 1, b"U", 6);
+    begin.assets[1] = 2;
+    begin
+}
+
+fn put_asset(bytes: &mut [u8], cell: usize, id: &[u8], length: u16) {
+    bytes[ID + 32 * cell..][..32].fill(0);
+    bytes[ID + 32 * cell..][..id.len()].copy_from_slice(id);
+    bytes[BODY + 512 * cell..][..2].copy_from_slice(&length.to_be_bytes());
+    bytes[BODY + 512 * cell + 2..][..510].fill(b'a' + cell as u8);
+}
+
+/// The calls over a store changed by hand.
+struct Damaged {
+    core: UnderTest,
+    start: Start,
+}
+
+impl Damaged {
+    fn new(change: impl FnOnce(&mut Start)) -> Damaged {
+        Damaged::of(&MODEL, change)
+    }
+
+    fn of(model: &[u32], change: impl FnOnce(&mut Start)) -> Damaged {
+        let mut start = sound(model);
+        change(&mut start);
+        Damaged { core: core(), start }
+    }
+
+    /// One call over a fresh copy: its answer and what it left.
+    fn run(&self, call: &Call) -> (Answer, Start, Vec<u64>) {
+        let mut pair = Pair::over(&self.core, self.start.clone());
+        let answer = pair.call(call).unwrap_or_else(|what| panic!("{call:?}: {what}"));
+        let left = Start {
+            observations: pair.expected_observations.clone(),
+            assets: pair.expected_assets.clone(),
+            ..self.start.clone()
+        };
+        if answer.is_refused() {
+            assert!(left.observations == self.start.observations && left.assets == self.start.assets);
+        }
+        (answer, left, pair.reply)
+    }
+
+    fn observe(&self, item: u64, value: Value) -> u64 {
+        let value = (value.kind() << 32) + value.low(Clean);
+        match self.run(&Call::Observe { item, time: 7, host: 8, value }).0 {
+            Answer::Word(word) => word,
+            other => panic!("{other:?}"),
+        }
+    }
+
+    fn store(&self, id: &[u8]) -> (u64, Start) {
+        match self.run(&Call::StoreAsset { id: id.to_vec(), body: b"new".to_vec(), host: 9 }) {
+            (Answer::Word(word), left, _) => (word, left),
+            other => panic!("{:?}", other.0),
+        }
+    }
+
+    /// The reply's words, or the refusal's number.
+    fn ask_into(&self, text: &str, words: usize) -> Result<Vec<u64>, u64> {
+        let (answer, _, reply) = self.run(&Call::Request { text: text.into(), reply: vec![0; words] });
+        match answer {
+            Answer::Pair(0, _) => Ok(reply),
+            other => Err(other.refusal()),
+        }
+    }
+
+    fn ask(&self, text: &str) -> Result<Vec<u64>, u64> {
+        self.ask_into(text, 40)
+    }
+
+    fn body(&self, id: &[u8]) -> (u64, u64) {
+        match self.run(&Call::Body { id: id.to_vec() }).0 {
+            Answer::Part(start, length) => (start, length),
+            other => panic!("{other:?}"),
+        }
+    }
+}
+
+#[test]
+fn heads_of_the_observation_store() {
+    let last = 6;
+    let m = M as u64;
+    let cases: [(usize, u64, u64); 19] = [
+        // N.
+        (0, 0, STORE),
+        (0, 3, STORE),
+        (0, 5, STORE),
+        (0, 131_073, STORE),
+        (0, 4 + (1 << 32), STORE),
+        (0, 4 + END, STORE),
+        (0, u64::MAX, STORE),
+        // m.
+        (1, 2, STORE),
+        (1, 4, STORE),
+        (1, 3 + (1 << 32), STORE),
+        // B: at least 1, and B + m - 1 at most last, without wrapping.
+        (2, 0, STORE),
+        (2, last - m + 1, last + 1),
+        (2, last - m + 2, STORE),
+        (2, u64::MAX, STORE),
+        (2, u64::MAX - 1, STORE),
+        // last.
+        (3, m, m + 1),
+        (3, m - 1, STORE),
+        (3, END - 1, SPENT),
+        (3, END, STORE),
+    ];
+    for (word, value, expected) in cases {
+        let damaged = Damaged::new(|start| start.observations[word] = value);
+        assert_eq!(damaged.observe(0, Value::Event(1)), expected, "word {word} is {value}");
+        if expected == STORE {
+            assert_eq!(damaged.ask("/current"), Err(2), "word {word} is {value}");
+            assert_eq!(damaged.ask(""), Err(2), "word {word} is {value}");
+            assert_eq!(damaged.store(b"").0, STORE, "word {word} is {value}");
+        }
+    }
+}
+
+#[test]
+fn lengths_of_the_stores() {
+    for change in [-1isize, 1] {
+        let longer = |length: usize| (length as isize + change) as usize;
+        let damaged = Damaged::new(|start| start.observations.resize(longer(start.observations.len()), 0));
+        assert_eq!(damaged.observe(9, Value::Event(1)), STORE);
+        assert_eq!(damaged.ask("/assets"), Err(2));
+        assert_eq!(damaged.body(b"T").1, 5);
+        let damaged = Damaged::new(|start| start.assets.resize(longer(start.assets.len()), 0));
+        assert_eq!(damaged.observe(9, Value::Event(1)), END + 4);
+        assert_eq!(damaged.ask("/sample"), Err(2));
+        assert_eq!(damaged.store(b"T").0, STORE);
+        assert_eq!(damaged.body(b"T").1, 0);
+    }
+}
+
+#[test]
+fn the_model_comes_before_the_heads() {
+    let damaged = Damaged::new(|start| {
+        start.model[5] = 4 * 65_536;
+        start.observations[0] = 0;
+    });
+    assert_eq!(damaged.observe(9, Value::Event(1)), END + 1);
+    assert_eq!(damaged.ask(""), Err(1));
+    assert_eq!(damaged.store(b"").0, END + 1);
+    // Body takes no model.
+    assert_eq!(damaged.body(b"T").1, 5);
+}
+
+/// The entry about to be overwritten is tested, all 24 bits of its item, and no other.
+#[test]
+fn the_entry_about_to_be_overwritten() {
+    let oldest = RING_PACKED + 2;
+    for item in [3, 64, 256, 1 << 16, (1 << 24) - 1] {
+        let damaged = Damaged::new(|start| start.observations[oldest] = item << 40);
+        assert_eq!(damaged.observe(0, Value::Event(1)), STORE);
+        assert_eq!(damaged.store(b"T").0, STORE);
+        // Same, an item, a kind: all before it.
+        assert_eq!(damaged.observe(1, Value::Sample(6)), 0);
+        assert_eq!(damaged.observe(3, Value::Event(1)), END + 4);
+        assert_eq!(damaged.observe(0, Value::Sample(1)), END + 5);
+        for place in [0, 1, 3] {
+            let damaged = Damaged::new(|start| start.observations[RING_PACKED + place] = item << 40);
+            assert_eq!(damaged.observe(0, Value::Event(1)), 7);
+        }
+    }
+    // Kind and low bits are not tested.
+    let damaged = Damaged::new(|start| start.observations[oldest] = (1 << 40) + (255 << 32) + 5);
+    assert_eq!(damaged.observe(0, Value::Event(1)), 7);
+    // Spent comes before it. With last at its end, the oldest stands at place (2^63 - 1) mod 4.
+    let damaged = Damaged::new(|start| {
+        start.observations[3] = END - 1;
+        start.observations[RING_PACKED..RING_PACKED + N].fill(u64::MAX);
+    });
+    assert_eq!(damaged.observe(0, Value::Event(1)), SPENT);
+}
+
+/// Before the ring is full, the place to be written is not read.
+#[test]
+fn an_unused_place_is_not_read() {
+    let damaged = Damaged::new(|start| {
+        start.observations[3] = 3;
+        start.observations[RING_PACKED + 3] = u64::MAX;
+    });
+    assert_eq!(damaged.observe(0, Value::Event(1)), 4);
+}
+
+/// Without an asset-change item the ring is neither tested nor written, the head still tested.
+#[test]
+fn store_asset_without_its_item() {
+    let damaged = Damaged::of(&NO_ASSET_ITEM, |start| {
+        start.observations[RING_PACKED..RING_PACKED + N].fill(u64::MAX);
+        start.observations[3] = END - 1;
+    });
+    let (cell, left) = damaged.store(b"V");
+    assert_eq!(cell, 1);
+    assert_eq!(left.observations, damaged.start.observations);
+    let damaged = Damaged::of(&NO_ASSET_ITEM, |start| start.observations[3] = END);
+    assert_eq!(damaged.store(b"V").0, STORE);
+}
+
+/// Each number considered is tested, selected or not; no other; before the space.
+#[test]
+fn a_sample_tests_the_numbers_considered() {
+    // Number 4 stands at place 3.
+    let damaged = Damaged::new(|start| start.observations[RING_PACKED + 3] = 3 << 40);
+    assert_eq!(damaged.ask("/sample"), Err(2));
+    assert_eq!(damaged.ask("/sample?from=4&count=1"), Err(2));
+    assert_eq!(damaged.ask("/sample?path=//Device//DataItem[@type=\"EXECUTION\"]"), Err(2));
+    assert_eq!(damaged.ask_into("/sample", 0), Err(2));
+    assert_eq!(damaged.ask("/sample?from=2"), Err(12));
+    assert!(damaged.ask("/sample?from=3&count=1").is_ok());
+    assert!(damaged.ask("/sample?from=5").is_ok());
+    assert_eq!(damaged.ask_into("/sample?from=5", 9), Err(15));
+    assert!(damaged.ask("/sample?from=7").is_ok());
+    assert!(damaged.ask("/current").is_ok());
+}
+
+#[test]
+fn at_tests_what_it_passes() {
+    let damaged = Damaged::new(|start| start.observations[RING_PACKED + 3] = 3 << 40);
+    assert!(damaged.ask("/current?at=3").is_ok());
+    for at in 4..=6 {
+        assert_eq!(damaged.ask(&format!("/current?at={at}")), Err(2));
+        assert_eq!(damaged.ask_into(&format!("/current?at={at}"), 0), Err(2));
+    }
+    assert_eq!(damaged.ask("/current?at=7"), Err(12));
+}
+
+/// Kind, level and low bits of stored words are handed over as they stand.
+#[test]
+fn odd_words_are_handed_over() {
+    let odd = (1 << 40) + (255 << 32) + 0xdead_beef;
+    let damaged = Damaged::new(|start| start.observations[RING_PACKED] = odd);
+    assert_eq!(damaged.ask("/sample?from=5&count=1").unwrap()[..7], [1, 3, 6, 6, 5, 1005, odd]);
+}
+
+/// Latest words are copied untested, and Same compares them whole.
+#[test]
+fn latest_words_stand() {
+    let damaged = Damaged::new(|start| {
+        start.observations[LATEST] = 0;
+        start.observations[LATEST + M] = 77;
+        start.observations[LATEST + 2 * M] = u64::MAX;
+    });
+    let reply = damaged.ask("/current?path=//Device//DataItem[@type=\"EXECUTION\"]").unwrap();
+    assert_eq!(reply[..7], [1, 3, 6, 7, 0, 77, u64::MAX]);
+    let event = Value::Event(9);
+    let damaged = Damaged::new(|start| start.observations[LATEST + 2 * M] = event.packed(0, Clean));
+    assert_eq!(damaged.observe(0, event), 0);
+    // The right value under another item's number is not the same word.
+    let damaged = Damaged::new(|start| start.observations[LATEST + 2 * M] = event.packed(1, Clean));
+    assert_eq!(damaged.observe(0, event), 7);
+}
+
+/// A checkpoint whose number isn't 0 stands as it is, also above `at`; one whose number is 0 is none.
+#[test]
+fn checkpoints_stand() {
+    let execution = "/current?at=3&path=//Device//DataItem[@type=\"EXECUTION\"]";
+    let damaged = Damaged::new(|start| {
+        start.observations[CHECKPOINT] = 1_000_000;
+        start.observations[CHECKPOINT + M] = 77;
+        start.observations[CHECKPOINT + 2 * M] = u64::MAX;
+    });
+    assert_eq!(damaged.ask(execution).unwrap()[..7], [1, 3, 6, 7, 1_000_000, 77, u64::MAX]);
+    let damaged = Damaged::new(|start| start.observations[CHECKPOINT] = 0);
+    assert_eq!(damaged.ask(execution).unwrap()[..4], [0, 3, 6, 7]);
+    // An entry of the ring wins.
+    let damaged = Damaged::new(|start| start.observations[CHECKPOINT + 1] = 1_000_000);
+    let position = "/current?at=4&path=//Device//DataItem[@type=\"POSITION\"]";
+    assert_eq!(damaged.ask(position).unwrap()[..5], [1, 3, 6, 7, 4]);
+}
+
+#[test]
+fn heads_of_the_asset_store() {
+    for (byte, value) in [(0, 0), (0, 1), (0, 3), (0, 129), (0, 255), (1, 3), (1, 255)] {
+        let damaged = Damaged::new(|start| start.assets[byte] = value);
+        assert_eq!(damaged.store(b"T").0, STORE, "byte {byte} is {value}");
+        assert_eq!(damaged.ask("/sample"), Err(2), "byte {byte} is {value}");
+        assert_eq!(damaged.body(b"T").1, 0, "byte {byte} is {value}");
+        assert_eq!(damaged.observe(0, Value::Event(1)), 7, "byte {byte} is {value}");
+    }
+}
+
+/// Only the lengths of the cells named are read, after all ids; `/assets` reads those in use.
+#[test]
+fn stored_lengths() {
+    for length in [0u16, 511, 512, 65_535] {
+        let damaged = Damaged::new(|start| put_asset(&mut start.assets, 1, b"U", length));
+        assert_eq!(damaged.ask("/asset/T").unwrap()[..6], [1, 2, 2, 0, 0, 5]);
+        assert_eq!(damaged.ask("/asset/U"), Err(2));
+        assert_eq!(damaged.ask("/asset/T;U"), Err(2));
+        assert_eq!(damaged.ask("/asset/U;none"), Err(13));
+        assert_eq!(damaged.ask("/assets"), Err(2));
+        assert_eq!(damaged.ask_into("/assets", 0), Err(2));
+        assert_eq!(damaged.body(b"U").1, 0);
+        assert_eq!(damaged.body(b"T").1, 5);
+        // Store-asset reads no length: the damaged cell moves down as it is.
+        let (cell, left) = damaged.store(b"T");
+        assert_eq!(cell, 1);
+        assert_eq!(left.assets[BODY..BODY + 2], length.to_be_bytes());
+        // Above u it is not read.
+        let damaged = Damaged::new(|start| {
+            put_asset(&mut start.assets, 1, b"U", length);
+            start.assets[1] = 1;
+        });
+        assert_eq!(damaged.ask("/assets").unwrap()[..6], [1, 1, 2, 0, 0, 5]);
+        assert_eq!(damaged.ask("/asset/U"), Err(13));
+    }
+    let damaged = Damaged::new(|start| put_asset(&mut start.assets, 1, b"U", 510));
+    assert_eq!(damaged.ask("/asset/U").unwrap()[..6], [1, 2, 2, 0, 1, 510]);
+    assert_eq!(damaged.body(b"U"), ((BODY + 512 + 2) as u64, 510));
+}
+
+/// Of two cells with one id the lower is meant; storing removes that one only.
+#[test]
+fn two_cells_with_one_id() {
+    let damaged = Damaged::new(|start| put_asset(&mut start.assets, 1, b"T", 6));
+    assert_eq!(damaged.ask("/asset/T").unwrap()[..6], [1, 2, 2, 0, 0, 5]);
+    assert_eq!(damaged.body(b"T"), ((BODY + 2) as u64, 5));
+    let (cell, left) = damaged.store(b"T");
+    assert_eq!(cell, 1);
+    assert_eq!(left.assets[..2], [2, 2]);
+    assert_eq!(left.assets[BODY..BODY + 3], [0, 6, b'b']);
+    assert_eq!(left.assets[BODY + 512..BODY + 512 + 6], [0, 3, b'n', b'e', b'w', 0]);
+}
+
+/// A cell holds an id when the id and then zeros to its end stand there.
+#[test]
+fn id_cells() {
+    let damaged = Damaged::new(|start| start.assets[ID + 31] = b'x');
+    assert_eq!(damaged.ask("/asset/T"), Err(13));
+    assert_eq!(damaged.body(b"T").1, 0);
+    let damaged = Damaged::new(|_| {});
+    assert_eq!(damaged.body(b"T").1, 5);
+    // Ids that cannot be stored find nothing, though the padded cell begins with them.
+    for id in [&b"T\0"[..], b"", b"\0", b"T\0\0\0"] {
+        assert_eq!(damaged.body(id).1, 0);
+    }
+    let damaged = Damaged::new(|start| put_asset(&mut start.assets, 0, b"T x", 5));
+    assert_eq!(damaged.body(b"T x").1, 0);
+}

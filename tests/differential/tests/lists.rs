@@ -1,0 +1,64 @@
+//! Random lists after a start, and random calls over damaged contents.
+
+use differential::under_test::core;
+use differential::{damaged, lists, settings, Counts, Difference};
+use reference::Clean;
+
+/// Runs a list for each seed and stops at the first difference.
+fn all(lists: u64, run: impl Fn(u64, &mut Counts) -> Result<(), Difference>) -> Counts {
+    let mut counts = Counts::default();
+    for seed in settings::seeds(lists) {
+        if let Err(difference) = run(seed, &mut counts) {
+            panic!("{difference}");
+        }
+    }
+    println!("seed {:#x}: {counts}", settings::seed());
+    counts
+}
+
+#[test]
+fn lists_agree_call_by_call() {
+    let counts = all(7000, |seed, counts| lists::run(&core(), Clean, seed, counts));
+    if std::env::var_os(settings::ONE_LIST).is_none() {
+        every_answer_is_met(&counts);
+    }
+}
+
+/// The lists are worth nothing where they do not reach a case.
+fn every_answer_is_met(counts: &Counts) {
+    assert!(counts.calls >= 900_000, "{} calls", counts.calls);
+    for refusal in [0, 1, 3] {
+        assert!(counts.starts[refusal] > 0, "start never answers {refusal}");
+    }
+    for refusal in [0, 4, 5, 6] {
+        assert!(counts.observes[refusal] > 0, "observe never answers {refusal}");
+    }
+    for refusal in [0, 6, 14] {
+        assert!(counts.stores[refusal] > 0, "store-asset never answers {refusal}");
+    }
+    for refusal in [0, 7, 8, 9, 10, 11, 12, 13, 15] {
+        assert!(counts.requests[refusal] > 0, "request never answers {refusal}");
+    }
+    assert!(counts.same > 0 && counts.bodies.iter().all(|&met| met > 0));
+    // No list after an accepted start meets a damaged store.
+    assert_eq!((counts.observes[2], counts.stores[2], counts.requests[2]), (0, 0, 0));
+}
+
+#[test]
+fn damaged_contents_get_the_same_answers() {
+    let counts = all(4000, |seed, counts| damaged::run(&core(), seed, counts));
+    for table in [&counts.observes, &counts.stores, &counts.requests] {
+        assert!(table[1] > 0 && table[2] > 0, "damage is never noticed");
+    }
+}
+
+/// Fewer lists, with every slice against a page that may not be touched.
+#[cfg(target_os = "linux")]
+#[test]
+fn nothing_outside_a_slice_is_touched() {
+    let core = differential::fenced::Fenced::new(core());
+    all(600, |seed, counts| {
+        lists::run(&core, Clean, seed, counts)?;
+        damaged::run(&core, seed, counts)
+    });
+}

@@ -1,0 +1,57 @@
+//! The five calls in the shapes of the C interface, so that one list of calls runs against
+//! everything that offers them.
+
+/// Slices in, words out, as `mtcore.h` has them.
+#[allow(clippy::too_many_arguments)]
+pub trait Core {
+    /// Number and count.
+    fn start(
+        &self,
+        model: &[u32],
+        names: &[u8],
+        observations: &mut [u64],
+        assets: &mut [u8],
+        n: u64,
+        a: u64,
+        b: u64,
+        host: u64,
+    ) -> (u64, u64);
+
+    /// The answer word. `value` is kind * 2^32 + low.
+    fn observe(
+        &self,
+        model: &[u32],
+        names: &[u8],
+        observations: &mut [u64],
+        item: u64,
+        time: u64,
+        host: u64,
+        value: u64,
+    ) -> u64;
+
+    /// The answer word.
+    fn store_asset(
+        &self,
+        model: &[u32],
+        names: &[u8],
+        observations: &mut [u64],
+        assets: &mut [u8],
+        id: &[u8],
+        body: &[u8],
+        host: u64,
+    ) -> u64;
+
+    /// Number and count.
+    fn request(
+        &self,
+        model: &[u32],
+        names: &[u8],
+        observations: &[u64],
+        assets: &[u8],
+        text: &[u8],
+        reply: &mut [u64],
+    ) -> (u64, u64);
+
+    /// Start and length of the body inside the asset store; length 0: refused.
+    fn body(&self, assets: &[u8], id: &[u8]) -> (u64, u64);
+}

@@ -1,0 +1,261 @@
+//! Planted faults: each a mistake somebody could make in the core. The tests are tested by
+//! checking that the same random lists of calls tell each of them apart.
+
+/// A set of planted faults. Generic, so that the clean set costs nothing at run time.
+pub trait FaultSet: Copy {
+    fn has(self, fault: Fault) -> bool;
+}
+
+/// No faults.
+#[derive(Clone, Copy, Default, Debug)]
+pub struct Clean;
+
+impl FaultSet for Clean {
+    #[inline(always)]
+    fn has(self, _: Fault) -> bool {
+        false
+    }
+}
+
+/// Some faults, one bit each.
+#[derive(Clone, Copy, Default, PartialEq, Eq, Debug)]
+pub struct Faults(u128);
+
+impl Faults {
+    pub fn none() -> Faults {
+        Faults(0)
+    }
+
+    pub fn with(self, fault: Fault) -> Faults {
+        Faults(self.0 | 1 << fault as u32)
+    }
+}
+
+impl From<Fault> for Faults {
+    fn from(fault: Fault) -> Faults {
+        Faults::none().with(fault)
+    }
+}
+
+impl FaultSet for Faults {
+    fn has(self, fault: Fault) -> bool {
+        self.0 >> (fault as u32) & 1 == 1
+    }
+}
+
+/// Where a fault is planted.
+#[derive(Clone, Copy, PartialEq, Eq, Debug)]
+pub enum Layer {
+    /// In the calls over the stores only: it concerns what only they hold, or shows only where a
+    /// store is damaged.
+    Stores,
+    /// In both layers, so that either one shows it up in the other.
+    Both,
+}
+
+macro_rules! faults {
+    ($($(#[$doc:meta])* $name:ident in $layer:ident,)*) => {
+        /// A planted fault.
+        #[derive(Clone, Copy, PartialEq, Eq, Debug)]
+        #[repr(u32)]
+        pub enum Fault { $($(#[$doc])* $name,)* }
+
+        impl Fault {
+            pub const ALL: &'static [Fault] = &[$(Fault::$name,)*];
+
+            pub fn layer(self) -> Layer {
+                match self { $(Fault::$name => Layer::$layer,)* }
+            }
+        }
+    };
+}
+
+faults! {
+    // Values and model.
+    /// A negative sample packed by its magnitude.
+    NegativeSampleAsMagnitude in Both,
+    /// Observe may make an asset-change item unavailable.
+    AssetItemTakesUnavailable in Both,
+    /// Normal may carry a native code.
+    NormalWithCode in Both,
+    /// More than one asset-change item is accepted.
+    ManyAssetItems in Stores,
+    /// An all-zero name cell is accepted.
+    SpareNameCells in Stores,
+    /// Bytes behind the first zero of a name cell are not looked at.
+    BytesBehindNames in Stores,
+
+    // Paths.
+    /// The second form of a path ignores the item type.
+    ItemTypeIgnored in Both,
+    /// The second form of a path may select nothing.
+    EmptySecondForm in Both,
+    /// The second form of a path may lack its closing bracket.
+    OpenBracket in Both,
+    /// Only the first component of the type named is taken.
+    FirstOfTypeOnly in Both,
+    /// A component type selects without what stands below it.
+    NoAncestors in Both,
+    /// A component type is compared up to the length given.
+    TypePrefix in Both,
+
+    // Request texts.
+    /// `/probe` with something behind it is an invalid request.
+    ProbeAloneOnly in Both,
+    /// A text of 256 bytes is refused.
+    ShortTexts in Both,
+    /// A space passes in a text.
+    SpacesInTexts in Both,
+    /// A trailing `&` is overlooked.
+    TrailingAmpersand in Both,
+    /// A repeated parameter replaces the earlier one.
+    RepeatsAccepted in Both,
+    /// The text of `interval` need not be a number.
+    IntervalUnread in Both,
+    /// `interval` with `at` is unsupported where it is invalid.
+    IntervalWithAtUnsupported in Both,
+    /// A leading zero does not count among the 19 digits.
+    LeadingZeroUncounted in Both,
+    /// Numbers above 2^63 - 1 are read.
+    NumbersBeyondRange in Both,
+    /// An id of more than 32 bytes in an asset request is malformed.
+    LongIdMalformed in Both,
+
+    // Sample.
+    /// A sample's next number follows the last row rather than the last number considered.
+    NextFromLastMatch in Both,
+    /// A sample's next number is from + count, whatever is there.
+    NextBeyondLast in Both,
+    /// Count limits the rows rather than the numbers considered.
+    CountLimitsRows in Both,
+    /// Rows are put in the order of their times.
+    OrderByTime in Both,
+    /// An absent count of 100 is refused where the ring is smaller.
+    DefaultCountRefused in Both,
+    /// A count above N is accepted.
+    CountAboveNAccepted in Both,
+    /// A start that has been overwritten is moved up to first.
+    OverwrittenStartMoved in Both,
+    /// A sample from last + 1 is refused.
+    EmptyTailRefused in Both,
+    /// `from=0` is taken as the number 0.
+    FromZeroTaken in Both,
+    /// The path is looked at before the count.
+    PathBeforeCount in Both,
+    /// The range is looked at before the path.
+    RangeBeforePath in Both,
+
+    // Current.
+    /// `at` sees only what the ring holds.
+    AtFromRingOnly in Both,
+    /// `at` leaves out the number itself.
+    AtExclusive in Both,
+    /// `at` at last + 1 is accepted.
+    AtBeyondLast in Both,
+    /// Current sees only what the ring holds.
+    CurrentFromRingOnly in Both,
+    /// The next number of `at` follows `at`.
+    NextFromAt in Both,
+
+    // Recording.
+    /// Same is looked at before the kind.
+    SameBeforeKind in Both,
+    /// The last number is looked at before Same.
+    SpentBeforeSame in Both,
+    /// Same after any equal earlier value that is still held.
+    SameAfterAnyEqual in Both,
+    /// Same compares low words without the kind.
+    SameWithoutKind in Both,
+    /// Same never.
+    NeverSame in Both,
+    /// The last number is taken for spent one early.
+    SpentTooEarly in Both,
+    /// A missing time stays 0.
+    MissingTimeKept in Both,
+    /// A time below the newest one is lifted to it.
+    TimesMadeToRise in Both,
+    /// Same renews the time of the latest value.
+    SameRenewsTime in Stores,
+    /// What leaves the ring does not reach the checkpoint.
+    CheckpointNotUpdated in Stores,
+    /// A checkpoint is written once and never again.
+    CheckpointWrittenOnce in Stores,
+    /// What leaves the ring reaches the checkpoint of the new value's item.
+    CheckpointOfNewItem in Stores,
+    /// A checkpoint gets the number of the value that pushed it out.
+    CheckpointWithNewNumber in Stores,
+    /// The ring place is one off once the ring has wrapped.
+    RingPlaceAfterWrap in Stores,
+    /// Ring places are counted from number 1 rather than from B.
+    RingPlaceFromOne in Stores,
+    /// first is one too low.
+    FirstTooLow in Both,
+    /// first is one too high.
+    FirstTooHigh in Both,
+    /// Start writes no checkpoint where the ring is smaller than the number of items.
+    StartWithoutCheckpoint in Stores,
+    /// Start leaves what stood in unused places.
+    StartKeepsOldWords in Stores,
+
+    // Assets.
+    /// Ids are compared up to the length given.
+    IdPrefix in Both,
+    /// The newest asset makes way rather than the oldest.
+    NewestEvicted in Both,
+    /// A replaced asset keeps its cell.
+    ReplacedKeepsCell in Both,
+    /// A replaced asset takes another's place with it when the cells are full.
+    ReplacedEvictsToo in Both,
+    /// No event where its code equals the latest one.
+    EqualEventDropped in Both,
+    /// The event's code is the cell that held the asset before.
+    EventCodeBeforeMove in Both,
+    /// The asset is stored although its event finds no number.
+    StoredThoughSpent in Stores,
+    /// What stood behind a shorter body stays.
+    StaleBodyBytes in Stores,
+    /// `/assets` begins with the oldest.
+    AssetsOldestFirst in Both,
+    /// A repeated id is answered once.
+    RepeatedIdsDropped in Both,
+    /// A body of 510 bytes is refused.
+    LongestBodyRefused in Both,
+    /// A body is found by an id with a zero byte behind it.
+    BodyByPaddedId in Stores,
+
+    // Replies.
+    /// A reply buffer with exactly its words is refused.
+    ExactSpaceRefused in Both,
+    /// The words behind the reply are cleared.
+    TailCleared in Both,
+    /// A refused request clears the sizes.
+    RefusalClearsSizes in Both,
+
+    // Damaged stores.
+    /// The head's sum B + m - 1 wraps.
+    HeadSumWraps in Stores,
+    /// The head's m is not compared with the model's.
+    ItemsUncompared in Stores,
+    /// The number of used cells is not compared with the number of cells.
+    UsedUncompared in Stores,
+    /// Store lengths may be longer than needed.
+    LongerStores in Stores,
+    /// The considered ring entries are not tested.
+    RingUntested in Stores,
+    /// The entry to be overwritten is not tested.
+    OverwrittenUntested in Stores,
+    /// An unused ring place is tested before it is written.
+    UnusedPlaceTested in Stores,
+    /// The item of a packed value is its low eight bits only.
+    ItemCutShort in Stores,
+    /// The ring's refusal comes after the space.
+    SpaceBeforeRing in Stores,
+    /// A stored asset length is looked at before all ids are.
+    LengthBeforeIds in Stores,
+    /// A stored asset length of 511 or 512 passes.
+    LengthUntested in Stores,
+    /// Of two cells with one id the higher is meant.
+    HigherCellMeant in Stores,
+    /// `at` tests a checkpoint's number against `at`.
+    CheckpointCompared in Stores,
+}

@@ -1,0 +1,116 @@
+//! The model words and the name cells, checked whole and then read.
+
+use crate::faults::{Fault, FaultSet};
+
+/// Bytes of a name cell.
+pub const NAME: usize = 24;
+const MOST_NAMES: usize = 256;
+const MOST_PARTS: u32 = 64;
+
+/// A checked model.
+#[derive(Clone, Copy)]
+pub struct Model<'a> {
+    components: &'a [u32],
+    items: &'a [u32],
+    names: &'a [u8],
+}
+
+impl<'a> Model<'a> {
+    /// The model, if words and names keep their rules.
+    pub fn check<F: FaultSet>(words: &'a [u32], names: &'a [u8], faults: F) -> Option<Model<'a>> {
+        let (&[c, m], rest) = words.split_first_chunk::<2>()?;
+        if !(1..=MOST_PARTS).contains(&c) || !(1..=MOST_PARTS).contains(&m) {
+            return None;
+        }
+        if rest.len() != (c + m) as usize {
+            return None;
+        }
+        let (components, items) = rest.split_at(c as usize);
+        let model = Model { components, items, names };
+        (names_valid(names, faults) && model.components_valid() && model.items_valid(faults)).then_some(model)
+    }
+
+    fn components_valid(&self) -> bool {
+        let cells = (self.names.len() / NAME) as u32;
+        self.components.iter().enumerate().all(|(index, &word)| {
+            let (parent, name) = (word / 256, word % 256);
+            let placed = if index == 0 { parent == 0 } else { parent < index as u32 };
+            placed && name < cells
+        })
+    }
+
+    fn items_valid<F: FaultSet>(&self, faults: F) -> bool {
+        let cells = (self.names.len() / NAME) as u32;
+        let c = self.components.len() as u32;
+        let each =
+            self.items.iter().all(|&word| category(word) <= 3 && word / 256 % 256 < c && word % 256 < cells);
+        let asset_items = self.items.iter().filter(|&&word| category(word) == 3).count();
+        each && (asset_items <= 1 || faults.has(Fault::ManyAssetItems))
+    }
+
+    /// How many items there are.
+    pub fn items(&self) -> usize {
+        self.items.len()
+    }
+
+    pub fn components(&self) -> usize {
+        self.components.len()
+    }
+
+    pub fn category(&self, item: usize) -> u32 {
+        category(self.items[item])
+    }
+
+    /// The component an item stands at.
+    pub fn component(&self, item: usize) -> usize {
+        (self.items[item] / 256 % 256) as usize
+    }
+
+    /// The type name of an item.
+    pub fn item_type(&self, item: usize) -> &'a [u8] {
+        self.name(self.items[item] % 256)
+    }
+
+    pub fn parent(&self, component: usize) -> usize {
+        (self.components[component] / 256) as usize
+    }
+
+    /// The type name of a component.
+    pub fn component_type(&self, component: usize) -> &'a [u8] {
+        self.name(self.components[component] % 256)
+    }
+
+    /// The item that store-asset writes its events for.
+    pub fn asset_item(&self) -> Option<usize> {
+        self.items.iter().position(|&word| category(word) == 3)
+    }
+
+    fn name(&self, index: u32) -> &'a [u8] {
+        let at = index as usize * NAME;
+        let cell = &self.names[at..at + NAME];
+        let used = cell.iter().position(|&byte| byte == 0).unwrap_or(NAME);
+        &cell[..used]
+    }
+}
+
+fn category(word: u32) -> u32 {
+    word / 65_536
+}
+
+fn names_valid<F: FaultSet>(names: &[u8], faults: F) -> bool {
+    let whole = names.len().is_multiple_of(NAME);
+    let count = names.len() / NAME;
+    whole
+        && (1..=MOST_NAMES).contains(&count)
+        && names.chunks_exact(NAME).all(|cell| name_valid(cell, faults))
+}
+
+/// 1 to 24 letters, digits or `_`, then zeros to the end of the cell.
+fn name_valid<F: FaultSet>(cell: &[u8], faults: F) -> bool {
+    let used = cell.iter().position(|&byte| byte == 0).unwrap_or(NAME);
+    let (name, padding) = cell.split_at(used);
+    let filled = used > 0 || faults.has(Fault::SpareNameCells);
+    filled
+        && name.iter().all(|&byte| byte.is_ascii_alphanumeric() || byte == b'_')
+        && (padding.iter().all(|&byte| byte == 0) || faults.has(Fault::BytesBehindNames))
+}

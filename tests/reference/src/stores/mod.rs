@@ -1,0 +1,285 @@
+//! The five calls over their stores, as the C interface takes them: any words, any lengths.
+//!
+//! Every call checks all it takes and changes nothing before its last check.
+
+mod assets;
+mod observations;
+mod request;
+
+use crate::answer::{Done, Observed, Refusal, Stored};
+use crate::calls::Core;
+use crate::faults::{Clean, Fault, FaultSet};
+use crate::model::Model;
+use crate::value::{Value, EVENT_KIND};
+use crate::{LARGEST, MOST_CELLS, MOST_PLACES};
+use assets::Cells;
+use observations::Head;
+use request::View;
+
+/// The calls over stores, with their planted faults.
+#[derive(Clone, Copy, Default, Debug)]
+pub struct Stores<F: FaultSet = Clean> {
+    pub faults: F,
+}
+
+/// Words of an observation store.
+pub fn observation_words(n: usize, m: usize) -> usize {
+    observations::HEAD + 2 * n + 6 * m
+}
+
+/// Bytes of an asset store.
+pub fn asset_bytes(a: usize) -> usize {
+    assets::length(a)
+}
+
+#[allow(clippy::too_many_arguments)]
+impl<F: FaultSet> Stores<F> {
+    pub fn new(faults: F) -> Stores<F> {
+        Stores { faults }
+    }
+
+    pub fn start(
+        &self,
+        model: &[u32],
+        names: &[u8],
+        observations: &mut [u64],
+        assets: &mut [u8],
+        n: u64,
+        a: u64,
+        b: u64,
+        host: u64,
+    ) -> Done {
+        self.try_start(model, names, observations, assets, [n, a, b], host).into()
+    }
+
+    fn try_start(
+        &self,
+        model: &[u32],
+        names: &[u8],
+        observations: &mut [u64],
+        assets: &mut [u8],
+        [n, a, b]: [u64; 3],
+        host: u64,
+    ) -> Result<u64, Refusal> {
+        let model = self.model(model, names)?;
+        let m = model.items();
+        if !(1..=MOST_PLACES).contains(&n) || !(1..=MOST_CELLS).contains(&a) {
+            return Err(Refusal::Size);
+        }
+        if b == 0 || b > LARGEST - m as u64 + 1 {
+            return Err(Refusal::Size);
+        }
+        if observations.len() != observation_words(n as usize, m) || assets.len() != asset_bytes(a as usize) {
+            return Err(Refusal::Size);
+        }
+        observations::start(observations, n as usize, m, b, host, self.faults);
+        assets::start(assets, a as u8, self.faults);
+        Ok(0)
+    }
+
+    pub fn observe(
+        &self,
+        model: &[u32],
+        names: &[u8],
+        observations: &mut [u64],
+        item: u64,
+        time: u64,
+        host: u64,
+        value: Value,
+    ) -> Observed {
+        self.try_observe(model, names, observations, item, time, host, value).into()
+    }
+
+    fn try_observe(
+        &self,
+        model: &[u32],
+        names: &[u8],
+        words: &mut [u64],
+        item: u64,
+        time: u64,
+        host: u64,
+        value: Value,
+    ) -> Result<Option<u64>, Refusal> {
+        let model = self.model(model, names)?;
+        let head = Head::check(words, model.items(), self.faults).ok_or(Refusal::Store)?;
+        if item >= model.items() as u64 {
+            return Err(Refusal::Item);
+        }
+        let item = item as usize;
+        let same_first = self.faults.has(Fault::SameBeforeKind) && value != Value::NONE;
+        if same_first && head.is_latest(words, item, value.packed(item as u64, self.faults), self.faults) {
+            return Ok(None);
+        }
+        if !value.allowed(model.category(item), self.faults) {
+            return Err(Refusal::Kind);
+        }
+        if self.faults.has(Fault::SpentBeforeSame) {
+            head.not_spent(self.faults)?;
+        }
+        let missing = time == 0 && !self.faults.has(Fault::MissingTimeKept);
+        let time = if missing { host } else { time };
+        let packed = value.packed(item as u64, self.faults);
+        if head.is_latest(words, item, packed, self.faults) {
+            if self.faults.has(Fault::SameRenewsTime) {
+                head.renew(words, item, time);
+            }
+            return Ok(None);
+        }
+        head.can_record(words, self.faults)?;
+        Ok(Some(head.record(words, item, time, packed, self.faults)))
+    }
+
+    pub fn store_asset(
+        &self,
+        model: &[u32],
+        names: &[u8],
+        observations: &mut [u64],
+        assets: &mut [u8],
+        id: &[u8],
+        body: &[u8],
+        host: u64,
+    ) -> Stored {
+        self.try_store_asset(model, names, observations, assets, id, body, host).into()
+    }
+
+    fn try_store_asset(
+        &self,
+        model: &[u32],
+        names: &[u8],
+        words: &mut [u64],
+        bytes: &mut [u8],
+        id: &[u8],
+        body: &[u8],
+        host: u64,
+    ) -> Result<u64, Refusal> {
+        let model = self.model(model, names)?;
+        let head = Head::check(words, model.items(), self.faults).ok_or(Refusal::Store)?;
+        let cells = Cells::check(bytes, self.faults).ok_or(Refusal::Store)?;
+        let longest = if self.faults.has(Fault::LongestBodyRefused) { 509 } else { assets::LONGEST };
+        if !assets::id_valid(id) || !(1..=longest).contains(&body.len()) {
+            return Err(Refusal::Asset);
+        }
+        let event_for = model.asset_item();
+        if event_for.is_some() {
+            let free = head.can_record(words, self.faults);
+            if free.is_err() && self.faults.has(Fault::StoredThoughSpent) {
+                cells.store(bytes, id, body, self.faults);
+            }
+            free?;
+        }
+        let before = cells.find(bytes, id, self.faults);
+        let cell = cells.store(bytes, id, body, self.faults) as u64;
+        if let Some(item) = event_for {
+            let moved_from = before.filter(|_| self.faults.has(Fault::EventCodeBeforeMove));
+            let code = moved_from.map_or(cell, |at| at as u64);
+            let packed = ((item as u64) << 40) + (EVENT_KIND << 32) + code;
+            let equal = head.is_latest(words, item, packed, Clean);
+            if !(equal && self.faults.has(Fault::EqualEventDropped)) {
+                head.record(words, item, host, packed, self.faults);
+            }
+        }
+        Ok(cell)
+    }
+
+    pub fn request(
+        &self,
+        model: &[u32],
+        names: &[u8],
+        observations: &[u64],
+        assets: &[u8],
+        text: &[u8],
+        reply: &mut [u64],
+    ) -> Done {
+        let answer = View::check(model, names, observations, assets, self.faults)
+            .and_then(|view| view.answer(text, reply));
+        if self.faults.has(Fault::RefusalClearsSizes) && answer.is_err() {
+            reply.iter_mut().take(4).for_each(|word| *word = 0);
+        }
+        if let (true, Ok(written)) = (self.faults.has(Fault::TailCleared), &answer) {
+            reply[written.words..].fill(0);
+        }
+        answer.map(|written| written.rows).into()
+    }
+
+    /// The place of an asset's body in its store: start and length.
+    pub fn body_place(&self, bytes: &[u8], id: &[u8]) -> Option<(usize, usize)> {
+        let cells = Cells::check(bytes, self.faults)?;
+        let padded = self.faults.has(Fault::BodyByPaddedId) && id.len() <= 32 && !id.is_empty();
+        if !assets::id_valid(id) && !padded {
+            return None;
+        }
+        let cell = cells.find(bytes, id, self.faults)?;
+        let length = cells.length_of(bytes, cell, self.faults).ok()?;
+        Some((cells.body_at(cell) + 2, length))
+    }
+
+    /// An asset's body, a part of its store; empty where there is none.
+    pub fn body<'a>(&self, assets: &'a [u8], id: &[u8]) -> &'a [u8] {
+        let Some((start, length)) = self.body_place(assets, id) else {
+            return &[];
+        };
+        assets.get(start..start + length).unwrap_or(&[])
+    }
+
+    fn model<'a>(&self, words: &'a [u32], names: &'a [u8]) -> Result<Model<'a>, Refusal> {
+        Model::check(words, names, self.faults).ok_or(Refusal::Model)
+    }
+}
+
+impl<F: FaultSet> Core for Stores<F> {
+    fn start(
+        &self,
+        model: &[u32],
+        names: &[u8],
+        observations: &mut [u64],
+        assets: &mut [u8],
+        n: u64,
+        a: u64,
+        b: u64,
+        host: u64,
+    ) -> (u64, u64) {
+        Stores::start(self, model, names, observations, assets, n, a, b, host).pair()
+    }
+
+    fn observe(
+        &self,
+        model: &[u32],
+        names: &[u8],
+        observations: &mut [u64],
+        item: u64,
+        time: u64,
+        host: u64,
+        value: u64,
+    ) -> u64 {
+        Stores::observe(self, model, names, observations, item, time, host, Value::decode(value)).word()
+    }
+
+    fn store_asset(
+        &self,
+        model: &[u32],
+        names: &[u8],
+        observations: &mut [u64],
+        assets: &mut [u8],
+        id: &[u8],
+        body: &[u8],
+        host: u64,
+    ) -> u64 {
+        Stores::store_asset(self, model, names, observations, assets, id, body, host).word()
+    }
+
+    fn request(
+        &self,
+        model: &[u32],
+        names: &[u8],
+        observations: &[u64],
+        assets: &[u8],
+        text: &[u8],
+        reply: &mut [u64],
+    ) -> (u64, u64) {
+        Stores::request(self, model, names, observations, assets, text, reply).pair()
+    }
+
+    fn body(&self, assets: &[u8], id: &[u8]) -> (u64, u64) {
+        self.body_place(assets, id).map_or((0, 0), |(start, length)| (start as u64, length as u64))
+    }
+}
