@@ -23,7 +23,7 @@ static uint64_t reply[MTCORE_REPLY_WORDS(ROWS)];
 #define COUNT(x) (sizeof(x) / sizeof((x)[0]))
 #define MODEL model, COUNT(model), names[0], sizeof names
 
-/* host time: seven o'clock, and so many milliseconds */
+/* 2026-09-13T07:00:00Z */
 static const uint64_t seven = UINT64_C(1789282800000);
 
 static void observe(const char *what, uint64_t item, uint64_t ms, uint64_t value) {
@@ -39,7 +39,23 @@ static void observe(const char *what, uint64_t item, uint64_t ms, uint64_t value
 static void store(const char *id, const char *body) {
     uint64_t word = mtcore_store_asset(MODEL, observations, COUNT(observations), assets, sizeof assets,
                                        (const uint8_t *)id, strlen(id), (const uint8_t *)body, strlen(body), seven + 400);
-    printf("store   %-20s cell %" PRIu64 "\n", id, word);
+    if (mtcore_refusal_of(word) != 0)
+        printf("store   %-20s refused: %u\n", id, mtcore_refusal_of(word));
+    else
+        printf("store   %-20s cell %" PRIu64 "\n", id, word);
+}
+
+/* item * 2^40 + kind * 2^32 + low */
+static void print_packed(uint64_t packed) {
+    static const char *const levels[] = {"normal", "warning", "fault"};
+    uint32_t low = (uint32_t)packed, level = low >> 24;
+    printf("%-14.24s ", (const char *)names[model[2 + COMPONENTS + (packed >> 40)] & 255]);
+    switch (packed >> 32 & 255) {
+    case 0: printf("unavailable\n"); break;
+    case 1: printf("%.3f\n", (int32_t)low / 1000.0); break;
+    case 2: printf("code %" PRIu32 "\n", low); break;
+    case 3: printf("%s %" PRIu32 "\n", level < COUNT(levels) ? levels[level] : "?", low & 0xffffff); break;
+    }
 }
 
 static void ask(const char *text) {
@@ -53,9 +69,8 @@ static void ask(const char *text) {
     printf("  first %" PRIu64 ", last %" PRIu64 ", next %" PRIu64 "\n", reply[1], reply[2], reply[3]);
     for (uint64_t i = 0; i < r.count; i++) {
         const uint64_t *pair = reply + 4 + r.count + 2 * i;
-        unsigned item = (unsigned)(pair[1] >> 40), kind = (unsigned)(pair[1] >> 32 & 255);
-        printf("  number %" PRIu64 " at 07:00:00.%03u item %u kind %u value %" PRId32 "\n",
-               reply[4 + i], (unsigned)(pair[0] - seven), item, kind, (int32_t)(uint32_t)pair[1]);
+        printf("  %3" PRIu64 "  07:00:00.%03u  ", reply[4 + i], (unsigned)(pair[0] - seven));
+        print_packed(pair[1]);
     }
 }
 

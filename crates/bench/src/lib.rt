@@ -70,3 +70,17 @@ pub fn word_count(answer: Answer, reply: &[u64; 64]) -> usize
         Answer::Done(k) => words_of(reply[3], k) as usize,
     }
 }
+
+// The answer of one request behind the bench case's calls, and its reply.
+pub fn ask(text: &[u8], reply: &mut [u64; 64]) -> Answer
+    ensures { λ r. ⌜ r ≡ benchRequest (now (text .entry)) (now (reply .entry)) .answer ⌝ }
+    ensures { λ r. ⌜ now (reply .exit) ≡ benchRequest (now (text .entry)) (now (reply .entry)) .reply ⌝ }
+    ensures { λ r. ⌜ replyLength r (now (reply .exit)) ≤ 64 ⌝ }
+{
+    let model = model();
+    let names = names();
+    let mut observations = [0u64; 22];
+    let mut assets = [0u8; 546];
+    prepare(&model, &names, &mut observations, &mut assets);
+    agent::request(&model, &names, &observations, &assets, text, reply)
+}

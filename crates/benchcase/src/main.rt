@@ -68,11 +68,21 @@ fn print_answer(number: u64, k: u64) {
     line_feed();
 }
 
+// Asks the bench case, and prints the answer and the reply.
+fn answer(text: &[u8]) {
+    let mut reply = [0u64; 64];
+    let answer = bench::ask(text, &mut reply);
+    print_answer(
+        answers::answer_number(answer),
+        answers::answer_count(answer),
+    );
+    let n = bench::word_count(answer, &reply);
+    print_words(&reply, n);
+}
+
 fn main() {
     // one byte more than a request may have, so that a longer line is noticed
     let mut line = [0u8; 257];
     let n = read_line(&mut line);
-    print_answer(n as u64, 0);
-    let reply = [0u64; 64];
-    print_words(&reply, 0);
+    answer(&line[..n]);
 }

@@ -92,6 +92,24 @@ pub extern "C" fn mtcore_store_asset(
     answers::store_word(answer)
 }
 
+// A request's text, answered into the reply: agent's request.
+#[no_mangle]
+pub extern "C" fn mtcore_request(
+    model: &[u32],
+    names: &[u8],
+    observations: &[u64],
+    assets: &[u8],
+    text: &[u8],
+    reply: &mut [u64],
+) -> Outcome
+    ensures { λ r. ⌜ r .number ≡ answerNumber (calls.request (now (model .entry)) (now (names .entry)) (now (observations .entry)) (now (assets .entry)) (now (text .entry)) (now (reply .entry)) .answer) ⌝ }
+    ensures { λ r. ⌜ r .count ≡ answerCount (calls.request (now (model .entry)) (now (names .entry)) (now (observations .entry)) (now (assets .entry)) (now (text .entry)) (now (reply .entry)) .answer) ⌝ }
+    ensures { λ r. ⌜ now (reply .exit) ≡ calls.request (now (model .entry)) (now (names .entry)) (now (observations .entry)) (now (assets .entry)) (now (text .entry)) (now (reply .entry)) .reply ⌝ }
+{
+    let answer = agent::request(model, names, observations, assets, text, reply);
+    outcome_of(answer)
+}
+
 // Where the body of the asset stands in the asset store; length 0 on any fault or missing id.
 #[no_mangle]
 pub extern "C" fn mtcore_body(assets: &[u8], id: &[u8]) -> Part
