@@ -1,7 +1,8 @@
 //! One table: what each call costs in the core and in the reference's store layer, on the same
 //! inputs, in one run. Printed as Markdown.
 //!
-//! `bench [ROUNDS]`: each row is the best of so many rounds, 40 unless given.
+//! `bench [ROUNDS [WORDS]]`: each row is the best of so many rounds, 40 unless given. With words,
+//! only the calls that have them in their name, and not how their cost grows.
 
 mod calls;
 mod clock;
@@ -12,16 +13,22 @@ mod stack;
 mod stage;
 mod table;
 
+use calls::Call;
+use row::Row;
 use stage::{Shape, Stage};
 use std::env;
 
 const ROUNDS: usize = 40;
 
 fn main() {
-    let rounds = env::args().nth(1).map_or(ROUNDS, |word| word.parse().expect("usage: bench [ROUNDS]"));
+    let mut words = env::args().skip(1);
+    let rounds = words.next().map_or(ROUNDS, |word| word.parse().expect("usage: bench [ROUNDS [WORDS]]"));
+    let wanted = words.next();
     println!("{}\n", about(rounds));
-    table::print_calls(&calls_of_a_full_box(rounds));
-    growth::print(rounds);
+    table::print_calls(&calls_of_a_full_box(rounds, wanted.as_deref().unwrap_or("")));
+    if wanted.is_none() {
+        growth::print(rounds);
+    }
 }
 
 /// What the figures are.
@@ -39,25 +46,40 @@ fn about(rounds: usize) -> String {
 }
 
 /// Every call on the largest stores.
-fn calls_of_a_full_box(rounds: usize) -> Vec<row::Row> {
-    let mut rows = Vec::new();
+fn calls_of_a_full_box(rounds: usize, wanted: &str) -> Vec<Row> {
+    let mut rows = Rows { rounds, wanted, rows: Vec::new() };
     for cells in [16, 256] {
         let stage = Stage::new(Shape { cells, ..Shape::LARGEST });
-        rows.push(row::measure(&calls::observe_changed(&stage), &stage, rounds));
-        rows.push(row::measure(&calls::observe_same(&stage), &stage, rounds));
+        rows.add(&calls::observe_changed(&stage), &stage);
+        rows.add(&calls::observe_same(&stage), &stage);
     }
     let stage = Stage::new(Shape::LARGEST);
-    rows.push(row::measure(&calls::sample(&stage), &stage, rounds));
-    rows.push(row::measure(&calls::sample_by_path(&stage), &stage, rounds));
-    rows.push(row::measure(&calls::current(&stage), &stage, rounds));
-    rows.push(row::measure(&calls::current_at(&stage), &stage, rounds));
-    rows.push(row::measure(&calls::named_assets(), &stage, rounds));
-    rows.push(row::measure(&calls::all_assets(), &stage, rounds));
-    rows.push(row::measure(&calls::refused_text(), &stage, rounds));
-    rows.push(row::measure(&calls::replace(), &stage, rounds));
-    rows.push(row::measure(&calls::evict(), &stage, rounds));
-    rows.push(row::measure(&calls::append(), &stage, rounds));
-    rows.push(row::measure(&calls::body(), &stage, rounds));
-    rows.push(row::measure(&calls::start(), &stage, rounds));
-    rows
+    rows.add(&calls::sample(&stage), &stage);
+    rows.add(&calls::sample_by_path(&stage), &stage);
+    rows.add(&calls::current(&stage), &stage);
+    rows.add(&calls::current_at(&stage), &stage);
+    rows.add(&calls::named_assets(), &stage);
+    rows.add(&calls::all_assets(), &stage);
+    rows.add(&calls::refused_text(), &stage);
+    rows.add(&calls::replace(), &stage);
+    rows.add(&calls::evict(), &stage);
+    rows.add(&calls::append(), &stage);
+    rows.add(&calls::body(), &stage);
+    rows.add(&calls::start(), &stage);
+    rows.rows
+}
+
+/// The rows of the calls that are wanted.
+struct Rows<'a> {
+    rounds: usize,
+    wanted: &'a str,
+    rows: Vec<Row>,
+}
+
+impl Rows<'_> {
+    fn add(&mut self, call: &impl Call, stage: &Stage) {
+        if call.name().contains(self.wanted) {
+            self.rows.push(row::measure(call, stage, self.rounds));
+        }
+    }
 }
