@@ -21,4 +21,5 @@ pub mod Windows
 pub mod History
 pub mod Never
 pub mod Bench
+pub mod Examples
 pub mod Refusals

@@ -42,7 +42,7 @@ benchStores =
     let r = Calls.start benchModel benchNames (replicate 22 0) (replicate 546 0) 3 1 1 1000 in
     storesAfter benchModel benchNames (record { observations = r .observations; assets = r .assets }) benchObserves
 
--- what the bench case gives for one request: what program benchcase prints
+-- what the bench case gives for one request: the answer and the whole buffer, of which program benchcase prints the reply's words
 unfoldable pub benchRequest : List ℕ → List ℕ → Replied
 benchRequest text reply = Calls.request benchModel benchNames (benchStores .observations) (benchStores .assets) text reply
 
