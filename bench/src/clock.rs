@@ -2,8 +2,9 @@
 
 use std::time::{Duration, Instant};
 
-/// Long against the clock's step, short against a scheduler's.
-const BATCH: Duration = Duration::from_micros(500);
+/// Long against the clock's step, short against a scheduler's: many short batches find the moments
+/// in which nothing else runs.
+const BATCH: Duration = Duration::from_micros(100);
 
 /// Runs so many turns.
 pub type Batch<'a> = &'a mut dyn FnMut(usize);

@@ -1,7 +1,7 @@
 //! One table: what each call costs in the core and in the reference's store layer, on the same
 //! inputs, in one run. Printed as Markdown.
 //!
-//! `bench [ROUNDS [WORDS]]`: each row is the best of so many rounds, 40 unless given. With words,
+//! `bench [ROUNDS [WORDS]]`: each row is the best of so many rounds, 200 unless given. With words,
 //! only the calls that have them in their name, and not how their cost grows.
 
 mod calls;
@@ -18,7 +18,7 @@ use row::Row;
 use stage::{Shape, Stage};
 use std::env;
 
-const ROUNDS: usize = 40;
+const ROUNDS: usize = 200;
 
 fn main() {
     let mut words = env::args().skip(1);

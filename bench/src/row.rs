@@ -82,6 +82,7 @@ fn passes<'a>(words: &'a [u64], ranges: &'a [Range<usize>]) -> impl FnMut(usize)
     }
 }
 
+#[inline(never)]
 fn sum(words: &[u64]) -> u64 {
     words.iter().copied().fold(0, u64::wrapping_add)
 }
