@@ -33,7 +33,9 @@ loop-less : tie.Need-loop-less Inv-loop μ-loop
 loop-less c = search needs
 
 loop-again : tie.Need-loop-again Inv-loop μ-loop
-loop-again c = falling-more (c .before .loop .inv) (c .loop-test .taken) (c .before .before .pre .0)
+loop-again c =
+    let s = c .before .before in
+    falling-more (c .before .loop .inv) (c .loop-test .taken) (s .pre .0)
 
 returns : tie.Need-returns Inv-loop μ-loop
 returns c = falling-end (c .before .loop .inv) (c .loop-test .left)

@@ -20,7 +20,9 @@ wide-requires : tie.Need-wide-requires Inv-loop μ-loop
 wide-requires c κs = search needs
 
 loop-holds : tie.Need-loop-holds Inv-loop μ-loop
-loop-holds c = let s = c .before .before .before .before in finding-none _ _ _ _ (s .pre .1 .0 .0) (s .pre .1 .1 .1) (s .pre .1 .1 .0)
+loop-holds c =
+    let s = c .before .before .before .before in
+    finding-none _ _ _ _ (s .pre .1 .0 .0) (s .pre .1 .1 .1) (s .pre .1 .1 .0)
 
 id-end-requires : tie.Need-id-end-requires Inv-loop μ-loop
 id-end-requires c κs = search needs
@@ -38,19 +40,36 @@ find-requires : tie.Need-find-requires Inv-loop μ-loop
 find-requires c κs = search needs
 
 returns : tie.Need-returns Inv-loop μ-loop
-returns c = let s = c .before .before .before .before .before .before .before .before .before in let e = c .before .before .before .before .before .wide .ensures in finding-missing _ _ _ _ (c .before .before .before .id-end .ensures .0) (c .before .before .before .before .loop .inv) (s .pre .1 .0 .1) (c .before .before .before .id-end .ensures .1 .1) (c .before .find .ensures .0) (omega (arith, c .if1 .taken))
+returns c =
+    let ie = c .before .before .before in
+    let loop = ie .before in
+    let wide = loop .before in
+    let s = wide .before .before .before .before in
+    let e = wide .wide .ensures in
+    finding-missing _ _ _ _ (ie .id-end .ensures .0) (loop .loop .inv) (s .pre .1 .0 .1) (ie .id-end .ensures .1 .1) (c .before .find .ensures .0) (omega (arith, c .if1 .taken))
 
 mul-cells : tie.Need-mul-cells Inv-loop μ-loop
 mul-cells c = search needs
 
 element-write-cells : tie.Need-element-write-cells Inv-loop μ-loop
-element-write-cells c = let s = c .before .before .before .before .before .before .before .before .before in finding-room _ _ _ _ (c .before .before .before .id-end .ensures .0) (c .before .before .before .before .loop .inv) (s .pre .1 .0 .1) (c .before .before .before .id-end .ensures .1 .1) (c .before .find .ensures .0)
+element-write-cells c =
+    let ie = c .before .before .before in
+    let loop = ie .before in
+    let s = loop .before .before .before .before .before in
+    finding-room _ _ _ _ (ie .id-end .ensures .0) (loop .loop .inv) (s .pre .1 .0 .1) (ie .id-end .ensures .1 .1) (c .before .find .ensures .0)
 
 add-k : tie.Need-add-k Inv-loop μ-loop
 add-k c = search needs
 
 returns-2 : tie.Need-returns-2 Inv-loop μ-loop
-returns-2 c = let s = c .before .before .before .before .before .before .before .before .before .before in let e = c .before .before .before .before .before .before .wide .ensures in finding-last _ _ _ _ (c .before .before .before .before .id-end .ensures .0) (c .before .before .before .before .before .loop .inv) (s .pre .1 .0 .1) (c .before .before .before .before .id-end .ensures .1 .1) (c .before .before .find .ensures .0) (omega (arith, c .before .if1 .left)) (c .if2 .taken)
+returns-2 c =
+    let find = c .before .before in
+    let ie = find .before .before in
+    let loop = ie .before in
+    let wide = loop .before in
+    let s = wide .before .before .before .before in
+    let e = wide .wide .ensures in
+    finding-last _ _ _ _ (ie .id-end .ensures .0) (loop .loop .inv) (s .pre .1 .0 .1) (ie .id-end .ensures .1 .1) (find .find .ensures .0) (omega (arith, c .before .if1 .left)) (c .if2 .taken)
 
 add-at : tie.Need-add-at Inv-loop μ-loop
 add-at c = search needs
@@ -59,7 +78,14 @@ loop-less : tie.Need-loop-less Inv-loop μ-loop
 loop-less c = search needs
 
 loop-again : tie.Need-loop-again Inv-loop μ-loop
-loop-again c = let s = c .before .before .before .before .before .before .before .before .before .before in let e = c .before .before .before .before .before .before .wide .ensures in finding-more _ _ _ _ (c .before .before .before .before .id-end .ensures .0) (c .before .before .before .before .before .loop .inv) (s .pre .1 .0 .1) (c .before .before .before .before .id-end .ensures .1 .1) (c .before .before .find .ensures .0) (omega (arith, c .before .if1 .left)) (c .if2 .left)
+loop-again c =
+    let find = c .before .before in
+    let ie = find .before .before in
+    let loop = ie .before in
+    let wide = loop .before in
+    let s = wide .before .before .before .before in
+    let e = wide .wide .ensures in
+    finding-more _ _ _ _ (ie .id-end .ensures .0) (loop .loop .inv) (s .pre .1 .0 .1) (ie .id-end .ensures .1 .1) (find .find .ensures .0) (omega (arith, c .before .if1 .left)) (c .if2 .left)
 
 pub find-all-spec : {M : Type 1} → statement M
 find-all-spec =

@@ -27,13 +27,22 @@ element-copy-out-length-at : tie.Need-element-copy-out-length-at Inv-loop μ-loo
 element-copy-out-length-at c = search needs
 
 length-at-requires : tie.Need-length-at-requires Inv-loop μ-loop
-length-at-requires c κs = let s = c .before .before .before .before in let b = s .pre .1 .below (c .before .before .loop .i) (c .before .loop-test .taken) in (s .pre .0, omega (arith, s .pre .0 .u-max))
+length-at-requires c κs =
+    let loop = c .before .before in
+    let s = loop .before .before in
+    let b = s .pre .1 .below (loop .loop .i) (c .before .loop-test .taken) in
+    (s .pre .0, omega (arith, s .pre .0 .u-max))
 
 length-ok-requires : tie.Need-length-ok-requires Inv-loop μ-loop
 length-ok-requires c κs = search needs
 
 returns : tie.Need-returns Inv-loop μ-loop
-returns c = let s = c .before .before .before .before .before .before .before in test-no _ _ _ (s .pre .1) _ _ _ (c .before .before .before .before .before .loop .inv .1) (c .before .before .before .before .loop-test .taken) (sym (c .before .length-ok .ensures ∙ ap lengthOk (c .before .before .length-at .ensures .0)) ∙ not-true _ (c .if1 .taken))
+returns c =
+    let la = c .before .before in
+    let lt = la .before .before in
+    let loop = lt .before in
+    let s = loop .before .before in
+    test-no _ _ _ (s .pre .1) _ _ _ (loop .loop .inv .1) (lt .loop-test .taken) (sym (c .before .length-ok .ensures ∙ ap lengthOk (la .length-at .ensures .0)) ∙ not-true _ (c .if1 .taken))
 
 add-i : tie.Need-add-i Inv-loop μ-loop
 add-i c = search needs
@@ -42,10 +51,17 @@ loop-less : tie.Need-loop-less Inv-loop μ-loop
 loop-less c = search needs
 
 loop-again : tie.Need-loop-again Inv-loop μ-loop
-loop-again c = let s = c .before .before .before .before .before .before .before in (omega arith, test-yes _ _ _ (s .pre .1) _ _ _ (c .before .before .before .before .before .loop .inv .1) (c .before .before .before .before .loop-test .taken) (sym (c .before .length-ok .ensures ∙ ap lengthOk (c .before .before .length-at .ensures .0)) ∙ not-false _ (c .if1 .left)))
+loop-again c =
+    let la = c .before .before in
+    let lt = la .before .before in
+    let loop = lt .before in
+    let s = loop .before .before in
+    (omega arith, test-yes _ _ _ (s .pre .1) _ _ _ (loop .loop .inv .1) (lt .loop-test .taken) (sym (c .before .length-ok .ensures ∙ ap lengthOk (la .length-at .ensures .0)) ∙ not-false _ (c .if1 .left)))
 
 returns-2 : tie.Need-returns-2 Inv-loop μ-loop
-returns-2 c = test-end _ _ _ (c .before .before .before .pre .1) _ _ _ (c .before .loop .inv .1) (c .loop-test .left)
+returns-2 c =
+    let s = c .before .before .before in
+    test-end _ _ _ (s .pre .1) _ _ _ (c .before .loop .inv .1) (c .loop-test .left)
 
 pub lengths-ok-spec : {M : Type 1} → statement M
 lengths-ok-spec =

@@ -17,16 +17,28 @@ wide-requires : tie.Need-wide-requires
 wide-requires c κs = search needs
 
 fill-down-requires : tie.Need-fill-down-requires
-fill-down-requires c κs = (omega (arith, c .before .before .before .before .before .pre .a-max, c .before .before .before .before .before .pre .u-max, c .before .wide .ensures), length-replicate {A = ℕ} 128 0)
+fill-down-requires c κs =
+    let s = c .before .before .before .before .before in
+    (omega (arith, s .pre .a-max, s .pre .u-max, c .before .wide .ensures), length-replicate {A = ℕ} 128 0)
 
 reply-cells-requires : tie.Need-reply-cells-requires
-reply-cells-requires c κs = let s = c .before .before .before .before .before .before .before .before in let e = c .before .before .before .before .wide .ensures in (s .pre, down-cells _ _ _ e (omega (arith, s .pre .a-max, s .pre .u-max)) (c .before .before .fill-down .ensures))
+reply-cells-requires c κs =
+    let fd = c .before .before in
+    let wide = fd .before .before in
+    let s = wide .before .before .before .before in
+    let e = wide .wide .ensures in
+    (s .pre, down-cells _ _ _ e (omega (arith, s .pre .a-max, s .pre .u-max)) (fd .fill-down .ensures))
 
 same-length : tie.Need-same-length
 same-length c = search needs
 
 returns : tie.Need-returns
-returns c = let s = c .before .before .before .before .before .before .before .before .before .before .before in passed _ _ (ap (λ (l : List ℕ). cellsReply (s .args .assets .now) l (s .args .reply .now)) (c .before .before .before .before .before .fill-down .ensures ∙ ap downFrom (c .before .before .before .before .before .before .before .wide .ensures))) (c .before .before .reply-cells .ensures)
+returns c =
+    let rc = c .before .before in
+    let fd = rc .before .before .before in
+    let wide = fd .before .before in
+    let s = wide .before .before .before .before in
+    passed _ _ (ap (λ (l : List ℕ). cellsReply (s .args .assets .now) l (s .args .reply .now)) (fd .fill-down .ensures ∙ ap downFrom (wide .wide .ensures))) (rc .reply-cells .ensures)
 
 pub reply-all-spec : {M : Type 1} → statement M
 reply-all-spec =

@@ -9,7 +9,9 @@ lengths-ok-requires : tie.Need-lengths-ok-requires
 lengths-ok-requires c κs = search needs
 
 returns : tie.Need-returns
-returns c = let s = c .before .before .before .before in both _ (cells-wrong (s .args .assets .now) (s .args .cells .now) (s .args .reply .now) _ (s .pre .1) _ (c .before .lengths-ok .ensures) (not-true _ (c .if1 .taken)))
+returns c =
+    let s = c .before .before .before .before in
+    both _ (cells-wrong (s .args .assets .now) (s .args .cells .now) (s .args .reply .now) _ (s .pre .1) _ (c .before .lengths-ok .ensures) (not-true _ (c .if1 .taken)))
 
 mul-if2 : tie.Need-mul-if2
 mul-if2 c = search needs
@@ -18,7 +20,10 @@ add-if2 : tie.Need-add-if2
 add-if2 c = search needs
 
 returns-2 : tie.Need-returns-2
-returns-2 c = let s = c .before .before .before .before .before in both _ (cells-short (s .args .assets .now) (s .args .cells .now) (s .args .reply .now) _ (s .pre .1) _ (c .before .before .lengths-ok .ensures) (not-false _ (c .before .if1 .left)) (c .if2 .taken))
+returns-2 c =
+    let lo = c .before .before in
+    let s = lo .before .before .before in
+    both _ (cells-short (s .args .assets .now) (s .args .cells .now) (s .args .reply .now) _ (s .pre .1) _ (lo .lengths-ok .ensures) (not-false _ (c .before .if1 .left)) (c .if2 .taken))
 
 shared-slice-read-wide : tie.Need-shared-slice-read-wide
 shared-slice-read-wide c = search needs
@@ -45,13 +50,26 @@ part-write-cells-end : tie.Need-part-write-cells-end
 part-write-cells-end c = search needs
 
 write-cells-requires : tie.Need-write-cells-requires
-write-cells-requires c κs = let s = c .before .before .before .before .before .before .before .before .before .before .before .before .before .before in (s .pre .0, (s .pre .1, lent-room (s .args .reply .now) _ _ _ _ _ (c .before .before .before .write-sizes .ensures) _ (c .before .before .before .before .before .before .before .before .before .if2 .left)))
+write-cells-requires c κs =
+    let ws = c .before .before .before in
+    let if2 = ws .before .before .before .before .before .before in
+    let s = if2 .before .before .before .before .before in
+    (s .pre .0, (s .pre .1, lent-room (s .args .reply .now) _ _ _ _ _ (ws .write-sizes .ensures) _ (if2 .if2 .left)))
 
 same-length : tie.Need-same-length
 same-length c = search needs
 
 returns-3 : tie.Need-returns-3
-returns-3 c = let s = c .before .before .before .before .before .before .before .before .before .before .before .before .before .before .before .before .before in both _ (cells-whole (s .args .assets .now) (s .args .cells .now) (s .args .reply .now) _ (s .pre .1) _ (c .before .before .before .before .before .before .before .before .before .before .before .before .before .before .lengths-ok .ensures) _ _ _ _ (not-false _ (c .before .before .before .before .before .before .before .before .before .before .before .before .before .if1 .left)) (c .before .before .before .before .before .before .before .before .before .before .before .before .if2 .left) (c .before .before .before .before .before .before .before .before .before .wide .ensures) (c .before .before .before .before .before .before .before .wide2 .ensures) (c .before .before .before .before .before .before .write-sizes .ensures) (c .before .before .write-cells .ensures))
+returns-3 c =
+    let wc = c .before .before in
+    let ws = wc .before .before .before .before in
+    let wide2 = ws .before in
+    let wide = wide2 .before .before in
+    let if2 = wide .before .before .before in
+    let if1 = if2 .before in
+    let lo = if1 .before in
+    let s = lo .before .before .before in
+    both _ (cells-whole (s .args .assets .now) (s .args .cells .now) (s .args .reply .now) _ (s .pre .1) _ (lo .lengths-ok .ensures) _ _ _ _ (not-false _ (if1 .if1 .left)) (if2 .if2 .left) (wide .wide .ensures) (wide2 .wide2 .ensures) (ws .write-sizes .ensures) (wc .write-cells .ensures))
 
 pub reply-cells-spec : {M : Type 1} → statement M
 reply-cells-spec =

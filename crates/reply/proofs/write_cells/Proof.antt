@@ -29,7 +29,11 @@ slice-write-out : tie.Need-slice-write-out Inv-loop μ-loop
 slice-write-out c = omega (arith, c .before .before .loop .inv .size)
 
 length-at-requires : tie.Need-length-at-requires Inv-loop μ-loop
-length-at-requires c κs = let s = c .before .before .before .before .before in let b = s .pre .1 .0 .below (c .before .before .loop .i) (c .before .loop-test .taken) in (s .pre .0, omega (arith, s .pre .0 .u-max))
+length-at-requires c κs =
+    let loop = c .before .before in
+    let s = loop .before .before .before in
+    let b = s .pre .1 .0 .below (loop .loop .i) (c .before .loop-test .taken) in
+    (s .pre .0, omega (arith, s .pre .0 .u-max))
 
 add-out : tie.Need-add-out Inv-loop μ-loop
 add-out c = search needs
@@ -47,13 +51,19 @@ loop-less : tie.Need-loop-less Inv-loop μ-loop
 loop-less c = search needs
 
 loop-again : tie.Need-loop-again Inv-loop μ-loop
-loop-again c = writing-more (c .before .before .before .loop .inv) (c .before .before .before .before .before .before .pre .1 .0) (c .before .before .loop-test .taken) _ (c .length-at .ensures .0)
+loop-again c =
+    let lt = c .before .before in
+    let loop = lt .before in
+    let s = loop .before .before .before in
+    writing-more (loop .loop .inv) (s .pre .1 .0) (lt .loop-test .taken) _ (c .length-at .ensures .0)
 
 same-length : tie.Need-same-length Inv-loop μ-loop
 same-length c = c .before .loop .inv .size
 
 returns : tie.Need-returns Inv-loop μ-loop
-returns c = writing-end (c .before .loop .inv) (c .before .before .before .before .pre .1 .0) (c .loop-test .left)
+returns c =
+    let s = c .before .before .before .before in
+    writing-end (c .before .loop .inv) (s .pre .1 .0) (c .loop-test .left)
 
 pub write-cells-spec : {M : Type 1} → statement M
 write-cells-spec =
