@@ -6,6 +6,7 @@
 
 mod calls;
 mod clock;
+mod floor;
 mod growth;
 mod row;
 mod sides;
@@ -25,7 +26,9 @@ fn main() {
     let rounds = words.next().map_or(ROUNDS, |word| word.parse().expect("usage: bench [ROUNDS [WORDS]]"));
     let wanted = words.next();
     println!("{}\n", about(rounds));
-    table::print_calls(&calls_of_a_full_box(rounds, wanted.as_deref().unwrap_or("")));
+    let rows = calls_of_a_full_box(rounds, wanted.as_deref().unwrap_or(""));
+    table::print_calls(&rows);
+    table::print_floors(&rows);
     if wanted.is_none() {
         growth::print(rounds);
     }

@@ -2,6 +2,7 @@
 
 use crate::calls::{Answer, Call};
 use crate::clock;
+use crate::floor::{self, Floor};
 use crate::sides;
 use crate::stack;
 use crate::stage::Stage;
@@ -14,8 +15,8 @@ pub struct Row {
     pub name: String,
     pub core: f64,
     pub reference: f64,
-    /// A plain pass over the ring words that the call has to read.
-    pub floor: Option<f64>,
+    /// Where the call has to read ring words.
+    pub floor: Option<Floor>,
     pub core_stack: usize,
     pub reference_stack: usize,
 }
@@ -32,14 +33,16 @@ pub fn measure(call: &impl Call, stage: &Stage, rounds: usize) -> Row {
     let mut batches: Vec<clock::Batch> = Vec::new();
     let mut core_batch = repeat(call, &core, &mut left);
     let mut reference_batch = repeat(call, &reference, &mut right);
-    let mut floor_batch = passes(&stage.observations, call.ring_words());
+    let mut plain_batch = passes(floor::plain, &stage.observations, call.ring_words());
+    let mut vector_batch = passes(floor::vector, &stage.observations, call.ring_words());
     batches.push(&mut core_batch);
     batches.push(&mut reference_batch);
     if !call.ring_words().is_empty() {
-        batches.push(&mut floor_batch);
+        batches.push(&mut plain_batch);
+        batches.push(&mut vector_batch);
     }
     let best = clock::best(&mut batches, rounds);
-    let floor = best.get(2).copied();
+    let floor = best.get(2..4).map(|passes| Floor { plain: passes[0], vector: passes[1] });
     Row { name: call.name().into(), core: best[0], reference: best[1], floor, core_stack, reference_stack }
 }
 
@@ -71,18 +74,16 @@ fn depth<C: Core>(call: &impl Call, core: &C, stage: &mut Stage) -> usize {
     stack::depth(&mut || answer = call.run(core, stage, 0))
 }
 
-/// The floor: every word is read and added up.
-fn passes<'a>(words: &'a [u64], ranges: &'a [Range<usize>]) -> impl FnMut(usize) + 'a {
+fn passes<'a>(
+    pass: fn(&[u64]) -> u64,
+    words: &'a [u64],
+    ranges: &'a [Range<usize>],
+) -> impl FnMut(usize) + 'a {
     move |turns| {
         for _ in 0..turns {
             let words = black_box(words);
-            let sums = ranges.iter().map(|range| sum(&words[range.clone()]));
+            let sums = ranges.iter().map(|range| pass(&words[range.clone()]));
             black_box(sums.fold(0, u64::wrapping_add));
         }
     }
-}
-
-#[inline(never)]
-fn sum(words: &[u64]) -> u64 {
-    words.iter().copied().fold(0, u64::wrapping_add)
 }

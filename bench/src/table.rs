@@ -3,19 +3,35 @@
 use crate::row::Row;
 
 pub fn print_calls(rows: &[Row]) {
-    println!("| call | core ns | reference ns | core / reference | plain pass ns | core / pass | core stack | reference stack |");
-    println!("|---|---:|---:|---:|---:|---:|---:|---:|");
+    println!("| call | core ns | reference ns | core / reference | core stack | reference stack |");
+    println!("|---|---:|---:|---:|---:|---:|");
     for row in rows {
-        let floor = row.floor.map_or(String::new(), nanoseconds);
-        let over_floor = row.floor.map_or(String::new(), |floor| ratio(row.core, floor));
         println!(
-            "| {} | {} | {} | {} | {floor} | {over_floor} | {} | {} |",
+            "| {} | {} | {} | {} | {} | {} |",
             row.name,
             nanoseconds(row.core),
             nanoseconds(row.reference),
             ratio(row.core, row.reference),
-            row.core_stack,
-            row.reference_stack,
+            thousands(row.core_stack as u64),
+            thousands(row.reference_stack as u64),
+        );
+    }
+}
+
+/// The calls that read the ring beside a pass over the same words.
+pub fn print_floors(rows: &[Row]) {
+    println!("\n| call | core ns | plain pass ns | core / plain | vector pass ns | core / vector |");
+    println!("|---|---:|---:|---:|---:|---:|");
+    for row in rows {
+        let Some(floor) = &row.floor else { continue };
+        println!(
+            "| {} | {} | {} | {} | {} | {} |",
+            row.name,
+            nanoseconds(row.core),
+            nanoseconds(floor.plain),
+            ratio(row.core, floor.plain),
+            nanoseconds(floor.vector),
+            ratio(row.core, floor.vector),
         );
     }
 }
