@@ -6,12 +6,15 @@ use std::time::{Duration, Instant};
 /// in which nothing else runs.
 const BATCH: Duration = Duration::from_micros(100);
 
+/// Tries at a number of turns.
+const TRIES: usize = 5;
+
 /// Runs so many turns.
 pub type Batch<'a> = &'a mut dyn FnMut(usize);
 
 /// Nanoseconds for one turn of each batch.
 pub fn best(batches: &mut [Batch], rounds: usize) -> Vec<f64> {
-    let turns: Vec<usize> = batches.iter_mut().map(|batch| turns(batch)).collect();
+    let turns: Vec<usize> = batches.iter_mut().map(turns).collect();
     let mut best = vec![f64::INFINITY; batches.len()];
     for round in 0..rounds {
         for step in 0..batches.len() {
@@ -24,13 +27,17 @@ pub fn best(batches: &mut [Batch], rounds: usize) -> Vec<f64> {
     best
 }
 
-/// As many turns as make a batch.
+/// As many turns as make a batch. A try that was interrupted looks long: the shortest counts.
 fn turns(batch: &mut Batch) -> usize {
     let mut turns = 1;
-    while time(batch, turns) < BATCH {
+    while shortest(batch, turns) < BATCH {
         turns *= 2;
     }
     turns
+}
+
+fn shortest(batch: &mut Batch, turns: usize) -> Duration {
+    (0..TRIES).map(|_| time(batch, turns)).min().unwrap_or_default()
 }
 
 fn time(batch: &mut dyn FnMut(usize), turns: usize) -> Duration {
