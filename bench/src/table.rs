@@ -20,6 +20,9 @@ pub fn print_calls(rows: &[Row]) {
 
 /// The calls that read the ring beside a pass over the same words.
 pub fn print_floors(rows: &[Row]) {
+    if rows.iter().all(|row| row.floor.is_none()) {
+        return;
+    }
     println!("\n| call | core ns | plain pass ns | core / plain | vector pass ns | core / vector |");
     println!("|---|---:|---:|---:|---:|---:|");
     for row in rows {
