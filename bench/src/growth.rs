@@ -10,6 +10,7 @@ pub fn print(rounds: usize) {
     let rings = [1024, 4096, 16_384, 65_536, 131_072].map(|n| (n, Shape { n, ..shape }));
     let items = [8, 16, 32, 64].map(|m| (m, Shape { m, ..shape }));
     let cells = [16, 32, 64, 128, 256].map(|cells| (cells, Shape { cells, ..shape }));
+    println!("\nHow cost grows, the other sizes as above; the ratio is core / reference:");
     table::print_growth("N", &grow(&rings, rounds));
     table::print_growth("m", &grow(&items, rounds));
     table::print_growth("name cells", &grow(&cells, rounds));

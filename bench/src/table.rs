@@ -23,7 +23,8 @@ pub fn print_floors(rows: &[Row]) {
     if rows.iter().all(|row| row.floor.is_none()) {
         return;
     }
-    println!("\n| call | core ns | plain pass ns | core / plain | vector pass ns | core / vector |");
+    println!("\nBeside a pass over the ring words that the call has to read:\n");
+    println!("| call | core ns | plain pass ns | core / plain | vector pass ns | core / vector |");
     println!("|---|---:|---:|---:|---:|---:|");
     for row in rows {
         let Some(floor) = &row.floor else { continue };
