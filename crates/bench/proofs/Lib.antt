@@ -1,0 +1,3 @@
+-- The laws that the proofs of the bench case cite.
+pub mod Laws
+pub mod Lengths

@@ -1,0 +1,113 @@
+// The C interface: every exported function, thin over the calls of `agent`. include/mtcore.h declares the same.
+ghost use mathlib.Core.Path.{_≡_};
+ghost use lib.ListN.{take, drop};
+ghost use Rattle.spec.specs.Answers.{answerNumber, answerCount, observeWord, storeWord};
+ghost use Rattle.spec.specs.Value.{decode};
+ghost use Rattle.spec.specs.Assets.{bodyPlace};
+ghost use Rattle.spec.specs.Calls as calls;
+ghost use Rattle.mtcore.specs.Part.{placeStart, placeLength};
+use spec::Answer;
+use spec::Place;
+
+// The answer of start and request: 0 and k, or the refusal's number and 0.
+#[repr(C)]
+pub struct Outcome {
+    pub number: u64,
+    pub count: u64,
+}
+
+// A part of the asset store; length 0 where it was refused.
+#[repr(C)]
+pub struct Part {
+    pub start: u64,
+    pub length: u64,
+}
+
+// The answer's number and count.
+fn outcome_of(answer: Answer) -> Outcome
+    ensures { λ r. ⌜ r .number ≡ answerNumber answer ⌝ }
+    ensures { λ r. ⌜ r .count ≡ answerCount answer ⌝ }
+{
+    let number = answers::answer_number(answer);
+    let count = answers::answer_count(answer);
+    Outcome { number, count }
+}
+
+// Both stores anew: agent's start.
+#[no_mangle]
+pub extern "C" fn mtcore_start(
+    model: &[u32],
+    names: &[u8],
+    observations: &mut [u64],
+    assets: &mut [u8],
+    n: u64,
+    a: u64,
+    b: u64,
+    host: u64,
+) -> Outcome
+    ensures { λ r. ⌜ r .number ≡ answerNumber (calls.start (now (model .entry)) (now (names .entry)) (now (observations .entry)) (now (assets .entry)) n a b host .answer) ⌝ }
+    ensures { λ r. ⌜ r .count ≡ answerCount (calls.start (now (model .entry)) (now (names .entry)) (now (observations .entry)) (now (assets .entry)) n a b host .answer) ⌝ }
+    ensures { λ r. ⌜ now (observations .exit) ≡ calls.start (now (model .entry)) (now (names .entry)) (now (observations .entry)) (now (assets .entry)) n a b host .observations ⌝ }
+    ensures { λ r. ⌜ now (assets .exit) ≡ calls.start (now (model .entry)) (now (names .entry)) (now (observations .entry)) (now (assets .entry)) n a b host .assets ⌝ }
+{
+    let answer = agent::start(model, names, observations, assets, n, a, b, host);
+    outcome_of(answer)
+}
+
+// An observation of an item, its value given as a word: agent's observe.
+#[no_mangle]
+pub extern "C" fn mtcore_observe(
+    model: &[u32],
+    names: &[u8],
+    observations: &mut [u64],
+    item: u64,
+    time: u64,
+    host: u64,
+    value: u64,
+) -> u64
+    ensures { λ r. ⌜ r ≡ observeWord (calls.observe (now (model .entry)) (now (names .entry)) (now (observations .entry)) item time host (decode value) .answer) ⌝ }
+    ensures { λ r. ⌜ now (observations .exit) ≡ calls.observe (now (model .entry)) (now (names .entry)) (now (observations .entry)) item time host (decode value) .observations ⌝ }
+{
+    let v = value::decode(value);
+    let answer = agent::observe(model, names, observations, item, time, host, v);
+    answers::observe_word(answer)
+}
+
+// An asset's id and body: agent's store_asset.
+#[no_mangle]
+pub extern "C" fn mtcore_store_asset(
+    model: &[u32],
+    names: &[u8],
+    observations: &mut [u64],
+    assets: &mut [u8],
+    id: &[u8],
+    body: &[u8],
+    host: u64,
+) -> u64
+    ensures { λ r. ⌜ r ≡ storeWord (calls.storeAsset (now (model .entry)) (now (names .entry)) (now (observations .entry)) (now (assets .entry)) (now (id .entry)) (now (body .entry)) host .answer) ⌝ }
+    ensures { λ r. ⌜ now (observations .exit) ≡ calls.storeAsset (now (model .entry)) (now (names .entry)) (now (observations .entry)) (now (assets .entry)) (now (id .entry)) (now (body .entry)) host .observations ⌝ }
+    ensures { λ r. ⌜ now (assets .exit) ≡ calls.storeAsset (now (model .entry)) (now (names .entry)) (now (observations .entry)) (now (assets .entry)) (now (id .entry)) (now (body .entry)) host .assets ⌝ }
+{
+    let answer = agent::store_asset(model, names, observations, assets, id, body, host);
+    answers::store_word(answer)
+}
+
+// Where the body of the asset stands in the asset store; length 0 on any fault or missing id.
+#[no_mangle]
+pub extern "C" fn mtcore_body(assets: &[u8], id: &[u8]) -> Part
+    ensures { λ r. ⌜ r .start ≡ placeStart (bodyPlace (now (assets .entry)) (now (id .entry))) ⌝ }
+    ensures { λ r. ⌜ r .length ≡ placeLength (bodyPlace (now (assets .entry)) (now (id .entry))) ⌝ }
+    ensures { λ r. ⌜ take (r .length) (drop (r .start) (now (assets .entry))) ≡ calls.body (now (assets .entry)) (now (id .entry)) ⌝ }
+{
+    let place = assets::body_place(assets, id);
+    match place {
+        Place::At(start, length) => Part {
+            start: start as u64,
+            length: length as u64,
+        },
+        Place::Nothing => Part {
+            start: 0,
+            length: 0,
+        },
+    }
+}

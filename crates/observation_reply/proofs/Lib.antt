@@ -1,0 +1,2 @@
+-- What is proved of the replies of observations.
+pub mod Laws

@@ -1,0 +1,102 @@
+-- The rows that were counted are written behind the sizes.
+use mathlib.Core.Path.{sym, _∙_}
+use native.Mathlib.Omega.{arith}
+use borrow.Author.Tests.{not-true, not-false}
+use borrow.Author.Needs.{needs}
+use Rattle.rows.proofs.Laws.{counted-count, counted-few}
+use Rattle.reply.proofs.Laws.{both}
+use Rattle.observation_reply.proofs.Laws.{in-ring, behind, lends, sample-broken, sample-short, sample-whole}
+use Rattle.observation_reply.proofs.reply_sample.Statement.{statement}
+use Rattle.observation_reply.proofs.reply_sample.Tie as tie
+
+count-rows-requires : tie.Need-count-rows-requires
+count-rows-requires c κs =
+    let s = c .before .before in
+    let r = in-ring (s .args .st .now) (s .args .f) (s .args .e) (s .pre .1 .1 .0) (s .pre .1 .1 .1 .1) in
+    (s .pre .0, ((s .pre .1 .0, r .0), (s .pre .1 .1 .1 .0, r .1)))
+
+enum-known-k : tie.Need-enum-known-k
+enum-known-k c = search needs
+
+enum-told : tie.Need-enum-told
+enum-told c = search needs
+
+returns : tie.Need-returns
+returns c =
+    let cr = c .before .before in
+    let s = cr .before .before .before in
+    both _ (sample-broken (s .args .m) (s .args .st .now) (s .args .selection) (s .args .f) (s .args .e) (s .args .reply .now) (sym (c .enum-told .given .1) ∙ cr .count-rows .ensures))
+
+fit-sizes-requires : tie.Need-fit-sizes-requires
+fit-sizes-requires c κs =
+    let k = c .before .before in
+    let cr = k .before .before in
+    let s = cr .before .before .before in
+    let r = in-ring (s .args .st .now) (s .args .f) (s .args .e) (s .pre .1 .1 .0) (s .pre .1 .1 .1 .1) in
+    let n = counted-few (s .args .m) (s .args .st .now) (s .args .selection) (s .args .f) (s .args .e) (sym (k .k .given .1) ∙ cr .count-rows .ensures) in
+    (s .pre .0, omega (arith, s .pre .0 .n-max))
+
+same-length : tie.Need-same-length
+same-length c = search needs
+
+returns-2 : tie.Need-returns-2
+returns-2 c =
+    let fs = c .before .before .before in
+    let k = fs .before .before .before in
+    let cr = k .before .before in
+    let s = cr .before .before .before in
+    both _ (sample-short (s .args .m) (s .args .st .now) (s .args .selection) (s .args .f) (s .args .e) (s .args .reply .now) (sym (k .k .given .1) ∙ cr .count-rows .ensures) (fs .fit-sizes .ensures) (not-true _ (c .if1 .taken)))
+
+sub-write-rows : tie.Need-sub-write-rows
+sub-write-rows c =
+    let fs = c .before .before .before in
+    behind (fs .fit-sizes .ensures) (not-false _ (c .if1 .left))
+
+part-write-rows-start : tie.Need-part-write-rows-start
+part-write-rows-start c =
+    let fs = c .before .before .before in
+    behind (fs .fit-sizes .ensures) (not-false _ (c .if1 .left))
+
+part-write-rows-end : tie.Need-part-write-rows-end
+part-write-rows-end c = search needs
+
+write-rows-requires : tie.Need-write-rows-requires
+write-rows-requires c κs =
+    let fs = c .before .before .before .before in
+    let k = fs .before .before .before in
+    let cr = k .before .before in
+    let s = cr .before .before .before in
+    let r = in-ring (s .args .st .now) (s .args .f) (s .args .e) (s .pre .1 .1 .0) (s .pre .1 .1 .1 .1) in
+    let g = counted-count (s .args .m) (s .args .st .now) (s .args .selection) (s .args .f) (s .args .e) (sym (k .k .given .1) ∙ cr .count-rows .ensures) in
+    (s .pre .0, ((s .pre .1 .0, r .0), ((s .pre .1 .1 .1 .0, r .1), (g .0, (g .1, lends (fs .fit-sizes .ensures) (not-false _ (c .before .if1 .left)))))))
+
+same-length-2 : tie.Need-same-length-2
+same-length-2 c = search needs
+
+returns-3 : tie.Need-returns-3
+returns-3 c =
+    let wr = c .before .before in
+    let if1 = wr .before .before in
+    let fs = if1 .before .before .before in
+    let k = fs .before .before .before in
+    let cr = k .before .before in
+    let s = cr .before .before .before in
+    both _ (sample-whole (s .args .m) (s .args .st .now) (s .args .selection) (s .args .f) (s .args .e) (s .args .reply .now) (sym (k .k .given .1) ∙ cr .count-rows .ensures) (fs .fit-sizes .ensures) _ (not-false _ (if1 .if1 .left)) (wr .write-rows .ensures))
+
+pub reply-sample-spec : {M : Type 1} → statement M
+reply-sample-spec =
+    tie.close
+    (tie.spec
+    count-rows-requires
+    enum-known-k
+    enum-told
+    returns
+    fit-sizes-requires
+    same-length
+    returns-2
+    sub-write-rows
+    part-write-rows-start
+    part-write-rows-end
+    write-rows-requires
+    same-length-2
+    returns-3)

@@ -1,0 +1,2 @@
+-- The laws that the proofs of the stages cite.
+pub mod Laws

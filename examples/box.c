@@ -1,0 +1,80 @@
+/* A box around the core: a lathe with one axis, a few observations, a tool, and what three clients ask. */
+#include <inttypes.h>
+#include <stdio.h>
+#include <string.h>
+
+#include "mtcore.h"
+
+enum { N = 4, A = 2, COMPONENTS = 2, ITEMS = 4, ROWS = 16 };
+
+static const uint8_t names[][MTCORE_NAME] = {"Device", "Axes", "AVAILABILITY", "POSITION", "OVERTRAVEL", "ASSET_CHANGED"};
+
+static const uint32_t model[2 + COMPONENTS + ITEMS] = {
+    COMPONENTS, ITEMS,
+    MTCORE_COMPONENT(0, 0), MTCORE_COMPONENT(0, 1),
+    MTCORE_DATA_ITEM(MTCORE_CATEGORY_EVENT, 0, 2), MTCORE_DATA_ITEM(MTCORE_CATEGORY_SAMPLE, 1, 3),
+    MTCORE_DATA_ITEM(MTCORE_CATEGORY_CONDITION, 1, 4), MTCORE_DATA_ITEM(MTCORE_CATEGORY_ASSET_CHANGE, 0, 5),
+};
+
+static uint64_t observations[MTCORE_OBSERVATION_WORDS(N, ITEMS)];
+static uint8_t assets[MTCORE_ASSET_BYTES(A)];
+static uint64_t reply[MTCORE_REPLY_WORDS(ROWS)];
+
+#define COUNT(x) (sizeof(x) / sizeof((x)[0]))
+#define MODEL model, COUNT(model), names[0], sizeof names
+
+/* host time: seven o'clock, and so many milliseconds */
+static const uint64_t seven = UINT64_C(1789282800000);
+
+static void observe(const char *what, uint64_t item, uint64_t ms, uint64_t value) {
+    uint64_t word = mtcore_observe(MODEL, observations, COUNT(observations), item, seven + ms, seven + ms, value);
+    if (mtcore_refusal_of(word) != 0)
+        printf("observe %-20s refused: %u\n", what, mtcore_refusal_of(word));
+    else if (word == MTCORE_SAME)
+        printf("observe %-20s same as before\n", what);
+    else
+        printf("observe %-20s number %" PRIu64 "\n", what, word);
+}
+
+static void store(const char *id, const char *body) {
+    uint64_t word = mtcore_store_asset(MODEL, observations, COUNT(observations), assets, sizeof assets,
+                                       (const uint8_t *)id, strlen(id), (const uint8_t *)body, strlen(body), seven + 400);
+    printf("store   %-20s cell %" PRIu64 "\n", id, word);
+}
+
+static void ask(const char *text) {
+    mtcore_answer r = mtcore_request(MODEL, observations, COUNT(observations), assets, sizeof assets,
+                                     (const uint8_t *)text, strlen(text), reply, COUNT(reply));
+    printf("\n%s\n", text);
+    if (r.number != 0) {
+        printf("  refused: %" PRIu64 "\n", r.number);
+        return;
+    }
+    printf("  first %" PRIu64 ", last %" PRIu64 ", next %" PRIu64 "\n", reply[1], reply[2], reply[3]);
+    for (uint64_t i = 0; i < r.count; i++) {
+        const uint64_t *pair = reply + 4 + r.count + 2 * i;
+        unsigned item = (unsigned)(pair[1] >> 40), kind = (unsigned)(pair[1] >> 32 & 255);
+        printf("  number %" PRIu64 " at 07:00:00.%03u item %u kind %u value %" PRId32 "\n",
+               reply[4 + i], (unsigned)(pair[0] - seven), item, kind, (int32_t)(uint32_t)pair[1]);
+    }
+}
+
+int main(void) {
+    mtcore_answer r = mtcore_start(MODEL, observations, COUNT(observations), assets, sizeof assets, N, A, 1, seven);
+    printf("start   refusal %" PRIu64 "\n", r.number);
+    observe("available", 0, 100, mtcore_event(1));
+    observe("12.5 mm", 1, 200, mtcore_sample(12500));
+    observe("12.5 mm", 1, 250, mtcore_sample(12500));
+    observe("overtravel warning", 2, 300, mtcore_condition(MTCORE_WARNING, 77));
+    observe("an item too many", 9, 350, MTCORE_UNAVAILABLE);
+    store("T17", "drill, 8 mm, 412 parts left");
+    observe("-0.001 mm", 1, 500, mtcore_sample(-1));
+
+    ask("/sample?from=7&count=2");
+    ask("/current?path=//Axes//DataItem[@type=\"POSITION\"]");
+    ask("/sample?from=1");
+
+    mtcore_part p = mtcore_body(assets, sizeof assets, (const uint8_t *)"T17", 3);
+    printf("\nT17: %.*s\n", (int)p.length, (const char *)assets + p.start);
+    return 0;
+}
