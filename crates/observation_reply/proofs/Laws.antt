@@ -20,14 +20,10 @@ use Rattle.rows.specs.Rows.{itemsOk, sampled, counted, rowsInto}
 use Rattle.rows.specs.declared.Counted.the-variants.{Count, Broken}
 use Rattle.snapshots.specs.Snapshots.{seenFrom, noNumbers, heldFrom, presentIn}
 use Rattle.observation_reply.specs.Fitted.{Fitted}
+use Rattle.rows.proofs.Writing.{length-numbers, length-pairs}
 use Rattle.rows.proofs.Laws.{counted-count, counted-broken}
 use Rattle.snapshots.proofs.Laws.{current-count, at-rows}
-use Rattle.reply.proofs.Laws.{length-numbers, lent-room, lent-over, written-short, written-whole}
-
-length-pairs : (rows : List (List ℕ)) → length (pairs rows) ≡ 2 * length rows
-unfolding pairs
-length-pairs [] = refl
-length-pairs (r ∷ rows) = omega (arith, length-pairs rows)
+use Rattle.reply.proofs.Laws.{lent-room, lent-over, written-short, written-whole}
 
 -- the numbers from f up to e are at most a ring of them
 pub in-ring : (st : List ℕ) (f e : ℕ) → first st ≤ f → e ≤ suc (last st) → (base st ≤ f) × (e - f ≤ ringSize st)

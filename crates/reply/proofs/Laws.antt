@@ -7,7 +7,7 @@ use native.Mathlib.Numerals.{add-one}
 use native.Mathlib.Omega.{arith}
 use lib.Dec.{ltb, eqb}
 use lib.ListN.{length, getD, set, take, drop, length-set, length-append, length-take, length-drop, drop-of-length-le}
-use lib.Seq.{sets, set-comm, sets-eq, length-sets, take-all, take-at, drop-append-add, drop-drop, drop-cons, getD-take, length-take-le, take-suc-set, append-snoc, getD-set-same, getD-set-other}
+use lib.Seq.{sets, sets-eq, length-sets, take-all, take-at, drop-append-add, drop-drop, drop-cons, getD-take, length-take-le, take-suc-set, append-snoc, getD-set-same, getD-set-other}
 use borrow.Author.Tests.{le-leb, lt-leb, lt-ltb, le-ltb, leb-true, ltb-true, ltb-false, eqb-true, eqb-false}
 use Rattle.spec.specs.Bytes.{before, split}
 use Rattle.spec.specs.Text.{idText, idTexts}
@@ -20,6 +20,7 @@ use Rattle.spec.specs.declared.Answer.the-variants.{Done}
 use Rattle.spec.proofs.Words.{and-left, and-right}
 use Rattle.reply.specs.declared.Found.{Found}
 use Rattle.reply.specs.Cells.{Cells, FoundAll}
+use Rattle.rows.proofs.Writing.{sets-set, length-numbers}
 use Rattle.text.proofs.Laws.{split-at-more, split-at-last}
 use Rattle.reply.specs.declared.Found.the-variants as found
 
@@ -79,11 +80,6 @@ module _ (k : ℕ) (words reply : List ℕ) where
 
 -- ---- rows of cells
 
-pub length-numbers : (rows : List (List ℕ)) → length (numbers rows) ≡ length rows
-unfolding numbers
-length-numbers [] = refl
-length-numbers (r ∷ rows) = ap suc (length-numbers rows)
-
 length-lengths : (rows : List (List ℕ)) → length (lengths rows) ≡ length rows
 unfolding lengths
 length-lengths [] = refl
@@ -120,12 +116,6 @@ module _ (bs cells : List ℕ) (k : ℕ) (is : Cells bs cells k) where
     pub test-end : k ≤ i → true ≡ whole
     unfolding allCells
     test-end h = sym (rest ∙ rw (first-end i h))
-
--- words stored behind those of a run leave the run alone
-sets-set : (vs l : List ℕ) (i q x : ℕ) → i + length vs ≤ q → sets (set l q x) i vs ≡ set (sets l i vs) q x
-sets-set [] l i q x h = refl
-sets-set (v ∷ vs) l i q x h =
-    ap (λ (y : List ℕ). sets y (suc i) vs) (set-comm l q i x v (λ e. absurd (omega arith))) ∙ sets-set vs (set l i v) (suc i) q x (omega arith)
 
 -- two runs of words: what the first word of each leaves to store
 two-more : (l : List ℕ) (i q c x : ℕ) (C L : List ℕ) → suc i + length C ≤ q → sets (sets l i (c ∷ C)) q (x ∷ L) ≡ sets (sets (set (set l i c) q x) (i + 1) C) (q + 1) L

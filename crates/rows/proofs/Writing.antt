@@ -6,11 +6,11 @@ use mathlib.Core.Bool.{Bool, true, false}
 use mathlib.Core.List.{List, [], _∷_, _++_}
 use native.Mathlib.Numerals.{add-one}
 use native.Mathlib.Omega.{arith}
-use lib.ListN.{length, getD, set, drop, length-set, length-append, length-drop}
-use lib.Seq.{sets, set-comm, sets-eq, length-sets, take-at, drop-append-add, drop-drop}
+use lib.ListN.{length, getD, set, length-set, length-append}
+use lib.Seq.{sets, set-comm, length-sets}
 use Rattle.spec.specs.Words.{pickRows}
 use Rattle.spec.specs.Reply.{numbers, pairs}
-use Rattle.rows.specs.Rows.{rowsAt, rowsInto}
+use Rattle.rows.specs.Rows.{rowsAt}
 use Rattle.rows.proofs.Ranges.{rows-in, rows-out, rows-end}
 
 pub length-numbers : (rs : List (List ℕ)) → length (numbers rs) ≡ length rs
@@ -24,7 +24,7 @@ length-pairs [] = refl
 length-pairs (r ∷ rs) = omega (arith, length-pairs rs)
 
 -- a word behind those that are set
-sets-set : (vs l : List ℕ) (i q x : ℕ) → i + length vs ≤ q → sets (set l q x) i vs ≡ set (sets l i vs) q x
+pub sets-set : (vs l : List ℕ) (i q x : ℕ) → i + length vs ≤ q → sets (set l q x) i vs ≡ set (sets l i vs) q x
 sets-set [] l i q x h = refl
 sets-set (a ∷ vs) l i q x h =
     let n : q ≢ i = λ z. omega arith in
@@ -61,19 +61,6 @@ rows-append l c a (x ∷ xs) ys h =
 
 pub length-rows : (l : List ℕ) (c a : ℕ) (rs : List (List ℕ)) → length (rowsAt l c a rs) ≡ length l
 length-rows l c a rs = length-sets (sets l c (numbers rs)) a (pairs rs) ∙ length-sets l c (numbers rs)
-
--- k rows from the first word on: their words, then what stood behind them
-pub rows-over : (o : List ℕ) (k : ℕ) (rs : List (List ℕ)) → k ≡ length rs → 3 * k ≤ length o → rowsInto o k rs ≡ (numbers rs ++ pairs rs) ++ drop (3 * k) o
-rows-over o k rs ek h =
-    let n = length-numbers rs in
-    let p = length-pairs rs in
-    let e : sets o 0 (numbers rs) ≡ numbers rs ++ drop k o = sets-eq (numbers rs) o 0 (omega arith) ∙ rw (let q : 0 + length (numbers rs) ≡ k = omega arith in q) in
-    let l : length (numbers rs ++ drop k o) ≡ length o = omega (arith, length-append (numbers rs) (drop k o), length-drop k o) in
-    let z : k + length (pairs rs) ≡ length (numbers rs) + 2 * k = omega arith in
-    let y : k + 2 * k ≡ 3 * k = omega arith in
-    ap (λ (x : List ℕ). sets x k (pairs rs)) e
-    ∙ (sets-eq (pairs rs) (numbers rs ++ drop k o) k (omega arith)
-    ∙ rw (take-at (numbers rs) (drop k o) k (n ∙ sym ek), z, drop-append-add (numbers rs) (drop k o) (2 * k), drop-drop (2 * k) k o, y))
 
 -- ---- a loop that writes the rows of the numbers from f up to e, from word d and word z on: the next row goes to c and a, the next number is s
 pub record Writing (p : ℕ → Bool) (v : ℕ → List ℕ) (f e k d z : ℕ) (o l : List ℕ) (c a s : ℕ) : Type 0 where

@@ -1,0 +1,240 @@
+//! The calls that are measured.
+
+use crate::stage::{self, Stage, Step, BODY, HOST};
+use reference::Core;
+use std::hint::black_box;
+use std::ops::Range;
+
+/// An answer in two words.
+pub type Answer = [u64; 2];
+
+/// A call that can be repeated: every turn costs the same.
+pub trait Call {
+    fn name(&self) -> &str;
+
+    fn run<C: Core>(&self, core: &C, stage: &mut Stage, turn: usize) -> Answer;
+
+    /// Whether the answer is what the name says.
+    fn expects(&self, answer: Answer) -> bool;
+
+    /// Words of the observation store that no answer can do without.
+    fn ring_words(&self) -> &[Range<usize>] {
+        &[]
+    }
+}
+
+// Observe.
+
+pub struct Observe {
+    name: String,
+    steps: Vec<Step>,
+    changed: bool,
+}
+
+/// Many steps, so that an item's newest value is never the one that comes round again.
+const STEPS: usize = 4096;
+
+pub fn observe_changed(stage: &Stage) -> Observe {
+    let name = format!("observe, changed, {} name cells", stage.shape.cells);
+    Observe { name, steps: stage::steps(stage.shape, STEPS), changed: true }
+}
+
+pub fn observe_same(stage: &Stage) -> Observe {
+    let name = format!("observe, Same, {} name cells", stage.shape.cells);
+    let step = |item| Step { item: item as u64, value: stage.latest(item) };
+    Observe { name, steps: (0..stage.shape.m - 1).map(step).collect(), changed: false }
+}
+
+impl Call for Observe {
+    fn name(&self) -> &str {
+        &self.name
+    }
+
+    fn run<C: Core>(&self, core: &C, stage: &mut Stage, turn: usize) -> Answer {
+        let Step { item, value } = self.steps[turn % self.steps.len()];
+        let Stage { model, names, observations, .. } = black_box(stage);
+        [core.observe(model, names, observations, item, HOST, HOST, value), 0]
+    }
+
+    fn expects(&self, answer: Answer) -> bool {
+        if self.changed {
+            (1..1 << 63).contains(&answer[0])
+        } else {
+            answer[0] == 0
+        }
+    }
+}
+
+// Requests.
+
+pub struct Request {
+    name: String,
+    text: Vec<u8>,
+    number: u64,
+    rows: u64,
+    ring_words: Vec<Range<usize>>,
+}
+
+impl Request {
+    fn new(name: &str, text: String, number: u64, rows: u64) -> Request {
+        Request { name: name.into(), text: text.into_bytes(), number, rows, ring_words: Vec::new() }
+    }
+}
+
+pub fn sample(stage: &Stage) -> Request {
+    let from = stage.middle();
+    let text = format!("/sample?from={from}&count=100");
+    let ring_words = stage.entry_words(from..from + 100);
+    Request { ring_words, ..Request::new("sample of 100, all", text, 0, 100) }
+}
+
+const PATH: &str = "//Axes//DataItem[@type=\"POSITION\"]";
+
+pub fn sample_by_path(stage: &Stage) -> Request {
+    let from = stage.middle();
+    let text = format!("/sample?path={PATH}&from={from}&count=100");
+    let ring_words = stage.packed_words(from..from + 100);
+    Request { ring_words, ..Request::new("sample of 100, with a path", text, 0, SOME) }
+}
+
+/// As many rows as there are, but at least one.
+const SOME: u64 = u64::MAX;
+
+pub fn current(stage: &Stage) -> Request {
+    Request::new("current", "/current".into(), 0, stage.shape.m as u64)
+}
+
+pub fn current_at(stage: &Stage) -> Request {
+    let at = stage.middle();
+    let ring_words = stage.packed_words(stage.first()..at + 1);
+    let text = format!("/current?at={at}");
+    Request { ring_words, ..Request::new("current?at, middle of the ring", text, 0, SOME) }
+}
+
+pub fn named_assets() -> Request {
+    let ids: Vec<_> = [5, 64, 127].map(|number| String::from_utf8(stage::id(number)).expect("ASCII")).into();
+    Request::new("asset, three of 128", format!("/asset/{}", ids.join(";")), 0, 3)
+}
+
+pub fn all_assets() -> Request {
+    Request::new("assets, all 128", "/assets".into(), 0, 128)
+}
+
+pub fn refused_text() -> Request {
+    Request::new("a refused text", format!("/sample?path={PATH}&from=7&count=100&to=9"), 8, 0)
+}
+
+impl Call for Request {
+    fn name(&self) -> &str {
+        &self.name
+    }
+
+    fn run<C: Core>(&self, core: &C, stage: &mut Stage, _: usize) -> Answer {
+        let Stage { model, names, observations, assets, reply, .. } = black_box(stage);
+        let (number, count) = core.request(model, names, observations, assets, black_box(&self.text), reply);
+        [number, count]
+    }
+
+    fn expects(&self, [number, rows]: Answer) -> bool {
+        number == self.number && (rows == self.rows || (self.rows == SOME && rows > 0))
+    }
+
+    fn ring_words(&self) -> &[Range<usize>] {
+        &self.ring_words
+    }
+}
+
+// Assets.
+
+pub struct StoreAsset {
+    name: &'static str,
+    ids: Vec<Vec<u8>>,
+    /// Cells in use before each turn, where the turn changes their number.
+    used: Option<u8>,
+}
+
+/// The upper half of the ids in turn: each stands in the middle cell when its turn comes.
+pub fn replace() -> StoreAsset {
+    StoreAsset { name: "store-asset, replace in the middle", ids: ids(64..128), used: None }
+}
+
+/// Twice as many ids as cells in turn, those that are stored last: each has gone when its turn comes.
+pub fn evict() -> StoreAsset {
+    StoreAsset { name: "store-asset, evict", ids: ids(128..384), used: None }
+}
+
+pub fn append() -> StoreAsset {
+    StoreAsset { name: "store-asset, append as the 128th", ids: ids(128..384), used: Some(127) }
+}
+
+/// Other bytes than those stored at first.
+static NEW_BODY: [u8; BODY] = [9; BODY];
+
+fn ids(numbers: Range<usize>) -> Vec<Vec<u8>> {
+    numbers.map(stage::id).collect()
+}
+
+impl Call for StoreAsset {
+    fn name(&self) -> &str {
+        self.name
+    }
+
+    fn run<C: Core>(&self, core: &C, stage: &mut Stage, turn: usize) -> Answer {
+        let id = &self.ids[turn % self.ids.len()];
+        let Stage { model, names, observations, assets, .. } = black_box(stage);
+        if let Some(used) = self.used {
+            assets[1] = used;
+        }
+        [core.store_asset(model, names, observations, assets, id, black_box(&NEW_BODY), HOST), 0]
+    }
+
+    fn expects(&self, answer: Answer) -> bool {
+        answer[0] == 127
+    }
+}
+
+pub struct Body;
+
+pub fn body() -> Body {
+    Body
+}
+
+impl Call for Body {
+    fn name(&self) -> &str {
+        "body, in the middle cell"
+    }
+
+    fn run<C: Core>(&self, core: &C, stage: &mut Stage, _: usize) -> Answer {
+        let (start, length) = core.body(&black_box(stage).assets, black_box(b"CUTTER-00064"));
+        [start, length]
+    }
+
+    fn expects(&self, answer: Answer) -> bool {
+        answer[1] == BODY as u64
+    }
+}
+
+// Start.
+
+pub struct Start;
+
+pub fn start() -> Start {
+    Start
+}
+
+impl Call for Start {
+    fn name(&self) -> &str {
+        "start"
+    }
+
+    fn run<C: Core>(&self, core: &C, stage: &mut Stage, _: usize) -> Answer {
+        let Stage { shape, model, names, observations, assets, .. } = black_box(stage);
+        let (number, count) =
+            core.start(model, names, observations, assets, shape.n as u64, shape.a as u64, 1, HOST);
+        [number, count]
+    }
+
+    fn expects(&self, answer: Answer) -> bool {
+        answer == [0, 0]
+    }
+}

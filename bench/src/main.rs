@@ -1,0 +1,88 @@
+//! One table: what each call costs in the core and in the reference's store layer, on the same
+//! inputs, in one run. Printed as Markdown.
+//!
+//! `bench [ROUNDS [WORDS]]`: each row is the best of so many rounds, 200 unless given. With words,
+//! only the calls that have them in their name, and not how their cost grows.
+
+mod calls;
+mod clock;
+mod floor;
+mod growth;
+mod row;
+mod sides;
+mod stack;
+mod stage;
+mod table;
+
+use calls::Call;
+use row::Row;
+use stage::{Shape, Stage};
+use std::env;
+
+const ROUNDS: usize = 200;
+
+fn main() {
+    let mut words = env::args().skip(1);
+    let rounds = words.next().map_or(ROUNDS, |word| word.parse().expect("usage: bench [ROUNDS [WORDS]]"));
+    let wanted = words.next();
+    println!("{}\n", about(rounds));
+    let rows = calls_of_a_full_box(rounds, wanted.as_deref().unwrap_or(""));
+    table::print_calls(&rows);
+    table::print_floors(&rows);
+    if wanted.is_none() {
+        growth::print(rounds);
+    }
+}
+
+/// What the figures are.
+fn about(rounds: usize) -> String {
+    let core = if cfg!(feature = "archive") {
+        "libmtcore.a"
+    } else {
+        "the reference itself (no archive: the ratios say how steady the machine is)"
+    };
+    format!(
+        "Core: {core}. Nanoseconds for one call, the best of {rounds} rounds; core and reference take turns \
+         within each round. Caches are warm: a round repeats its call. Neither the stores nor the reply buffer \
+         are cleared between calls. Stack: bytes written below the caller's frame, the wrapper's frame included."
+    )
+}
+
+/// Every call on the largest stores.
+fn calls_of_a_full_box(rounds: usize, wanted: &str) -> Vec<Row> {
+    let mut rows = Rows { rounds, wanted, rows: Vec::new() };
+    for cells in [16, 256] {
+        let stage = Stage::new(Shape { cells, ..Shape::LARGEST });
+        rows.add(&calls::observe_changed(&stage), &stage);
+        rows.add(&calls::observe_same(&stage), &stage);
+    }
+    let stage = Stage::new(Shape::LARGEST);
+    rows.add(&calls::sample(&stage), &stage);
+    rows.add(&calls::sample_by_path(&stage), &stage);
+    rows.add(&calls::current(&stage), &stage);
+    rows.add(&calls::current_at(&stage), &stage);
+    rows.add(&calls::named_assets(), &stage);
+    rows.add(&calls::all_assets(), &stage);
+    rows.add(&calls::refused_text(), &stage);
+    rows.add(&calls::replace(), &stage);
+    rows.add(&calls::evict(), &stage);
+    rows.add(&calls::append(), &stage);
+    rows.add(&calls::body(), &stage);
+    rows.add(&calls::start(), &stage);
+    rows.rows
+}
+
+/// The rows of the calls that are wanted.
+struct Rows<'a> {
+    rounds: usize,
+    wanted: &'a str,
+    rows: Vec<Row>,
+}
+
+impl Rows<'_> {
+    fn add(&mut self, call: &impl Call, stage: &Stage) {
+        if call.name().contains(self.wanted) {
+            self.rows.push(row::measure(call, stage, self.rounds));
+        }
+    }
+}

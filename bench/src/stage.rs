@@ -1,0 +1,197 @@
+//! Model, names and stores that the calls are measured on.
+
+use crate::sides;
+use differential::rng::Rng;
+use differential::worlds::cell;
+use reference::stores::{asset_bytes, observation_words};
+use reference::Core;
+use std::ops::Range;
+
+pub const HOST: u64 = 1_700_000_000_000;
+/// Bytes of every stored body: the longest.
+pub const BODY: usize = 510;
+
+/// The sizes of a stage.
+#[derive(Clone, Copy, PartialEq)]
+pub struct Shape {
+    /// Ring places.
+    pub n: usize,
+    /// Data items.
+    pub m: usize,
+    /// Name cells.
+    pub cells: usize,
+    /// Asset cells.
+    pub a: usize,
+}
+
+impl Shape {
+    pub const LARGEST: Shape = Shape { n: 131_072, m: 64, cells: 16, a: 128 };
+}
+
+/// What a call works on. The ring is full and has wrapped; the asset cells are full.
+#[derive(Clone, PartialEq)]
+pub struct Stage {
+    pub shape: Shape,
+    pub model: Vec<u32>,
+    pub names: Vec<u8>,
+    pub observations: Vec<u64>,
+    pub assets: Vec<u8>,
+    pub reply: Vec<u64>,
+}
+
+/// One observe's item and value.
+#[derive(Clone, Copy)]
+pub struct Step {
+    pub item: u64,
+    pub value: u64,
+}
+
+impl Stage {
+    pub fn new(shape: Shape) -> Stage {
+        let mut stage = Stage {
+            shape,
+            model: model(shape),
+            names: names(shape.cells),
+            observations: vec![0; observation_words(shape.n, shape.m)],
+            assets: vec![0; asset_bytes(shape.a)],
+            reply: vec![0; 4 + 3 * 128],
+        };
+        stage.begin();
+        stage.fill_assets();
+        stage.fill_ring();
+        stage
+    }
+
+    fn begin(&mut self) {
+        let Shape { n, a, .. } = self.shape;
+        let Stage { model, names, observations, assets, .. } = self;
+        let begun = sides::reference().start(model, names, observations, assets, n as u64, a as u64, 1, HOST);
+        assert_eq!(begun, (0, 0));
+    }
+
+    fn fill_assets(&mut self) {
+        for number in 0..self.shape.a {
+            let Stage { model, names, observations, assets, .. } = self;
+            let id = id(number);
+            let stored =
+                sides::reference().store_asset(model, names, observations, assets, &id, &[7; BODY], HOST);
+            assert_eq!(stored, number as u64);
+        }
+    }
+
+    /// Seven quarters of the ring, so that the oldest half runs over the ring's end.
+    fn fill_ring(&mut self) {
+        for Step { item, value } in steps(self.shape, self.shape.n / 4 * 7) {
+            let Stage { model, names, observations, .. } = self;
+            let number = sides::reference().observe(model, names, observations, item, HOST, HOST, value);
+            assert!((1..1 << 63).contains(&number));
+        }
+    }
+
+    pub fn last(&self) -> u64 {
+        self.observations[3]
+    }
+
+    pub fn first(&self) -> u64 {
+        self.last() + 1 - self.shape.n as u64
+    }
+
+    /// The number in the middle of the ring.
+    pub fn middle(&self) -> u64 {
+        self.first() + self.shape.n as u64 / 2
+    }
+
+    /// Where the packed values of held numbers stand: one run of words or two.
+    pub fn packed_words(&self, numbers: Range<u64>) -> Vec<Range<usize>> {
+        let n = self.shape.n;
+        let base = 4 + n;
+        let place = |number: u64| ((number - self.observations[2]) % n as u64) as usize;
+        let start = place(numbers.start);
+        let count = (numbers.end - numbers.start) as usize;
+        let upper = count.min(n - start);
+        vec![base + start..base + start + upper, base..base + count - upper]
+    }
+
+    /// The same with their times.
+    pub fn entry_words(&self, numbers: Range<u64>) -> Vec<Range<usize>> {
+        let packed = self.packed_words(numbers);
+        let times: Vec<_> =
+            packed.iter().map(|run| run.start - self.shape.n..run.end - self.shape.n).collect();
+        [times, packed].concat()
+    }
+
+    /// The newest value of an item, as observe takes it.
+    pub fn latest(&self, item: usize) -> u64 {
+        let Shape { n, m, .. } = self.shape;
+        self.observations[4 + 2 * n + 2 * m + item] % (1 << 40)
+    }
+}
+
+/// Changing values for items in a mixed order; the asset-change item, the last, is left out.
+pub fn steps(shape: Shape, count: usize) -> Vec<Step> {
+    let mut rng = Rng::new(shape.m as u64);
+    let step = |index| {
+        let item = rng.below(shape.m as u64 - 1);
+        Step { item, value: value(item, index as u64 + 1) }
+    };
+    (0..count).map(step).collect()
+}
+
+/// A value of the item's category, by a running number.
+fn value(item: u64, number: u64) -> u64 {
+    let low = number % (1 << 24);
+    match item % 3 {
+        0 => (1 << 32) + low,
+        1 => (2 << 32) + low,
+        _ => (3 << 32) + (1 << 24) + low,
+    }
+}
+
+/// Ids of twelve bytes that differ in their last.
+pub fn id(number: usize) -> Vec<u8> {
+    format!("CUTTER-{number:05}").into_bytes()
+}
+
+/// A machine's components: device, axes with four below them, controller, path.
+const COMPONENTS: [u32; 8] = [0, 1, 256 + 2, 256 + 2, 256 + 2, 256 + 3, 4, 6 * 256 + 5];
+
+/// Component types come first; item types are those from the seventh on.
+const NAMES: [&str; 16] = [
+    "Device",
+    "Axes",
+    "Linear",
+    "Rotary",
+    "Controller",
+    "Path",
+    "AVAILABILITY",
+    "POSITION",
+    "EXECUTION",
+    "SPINDLE_SPEED",
+    "PATH_FEEDRATE",
+    "TEMPERATURE",
+    "LOAD",
+    "PROGRAM",
+    "SYSTEM",
+    "ASSET_CHANGED",
+];
+
+/// Samples, events and conditions in turn, the asset-change item last.
+fn model(shape: Shape) -> Vec<u32> {
+    let mut words = vec![COMPONENTS.len() as u32, shape.m as u32];
+    words.extend(COMPONENTS);
+    let names = NAMES.len() as u32;
+    for item in 0..shape.m as u32 {
+        let category = if item + 1 == shape.m as u32 { 3 } else { item % 3 };
+        words.push(category * 65_536 + item % 8 * 256 + 6 + item % (names - 6));
+    }
+    words
+}
+
+/// The names above, then with a number behind them.
+fn names(cells: usize) -> Vec<u8> {
+    let name = |index: usize| match index / NAMES.len() {
+        0 => NAMES[index].to_string(),
+        turn => format!("{}_{turn}", NAMES[index % NAMES.len()]),
+    };
+    (0..cells).flat_map(|index| cell(name(index).as_bytes())).collect()
+}
