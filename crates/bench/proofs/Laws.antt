@@ -1,16 +1,16 @@
--- The calls of the bench case, one behind the other, are its stores.
+-- The calls of the bench case, one behind the other, leave its stores, and a request behind them gives its reply.
 use Prim.Native.Nat.{ℕ, _≤_}
 use native.Mathlib.Omega.{arith}
-use mathlib.Core.Path.{_≡_, refl}
+use mathlib.Core.Path.{_≡_}
 use mathlib.Core.List.{List}
 use lib.IntN.{pos, negsuc}
 use lib.ListN.{length, replicate}
 use Rattle.spec.specs.Calls
 use Rattle.spec.specs.Bench.{benchModel, benchNames, storesAfter, benchStores, benchRequest}
 use Rattle.spec.specs.declared.Answer.{Answer}
+use Rattle.spec.specs.declared.Value.the-variants.{Sample}
 use Rattle.bench.specs.Print.{replyLength}
 use Rattle.bench.proofs.Lengths.{request-within}
-use Rattle.spec.specs.declared.Value.the-variants.{Sample}
 
 module _ {model names st bs : List ℕ} (em : model ≡ benchModel) (en : names ≡ benchNames) (es : st ≡ replicate 22 0) (eb : bs ≡ replicate 546 0) where
   pub bench-stores : {s₀ a₀ s₁ s₂ s₃ : List ℕ}
@@ -24,7 +24,15 @@ module _ {model names st bs : List ℕ} (em : model ≡ benchModel) (en : names 
   bench-stores e a e₁ e₂ e₃ = (rw (e₃, e₂, e₁, e, em, en, es, eb), rw (a, em, en, es, eb))
 
 -- a request behind them is the bench case's, and its words fit a buffer of 64
-pub bench-asked : (text b : List ℕ) {model names st bs e : List ℕ} {r : Answer} → model ≡ benchModel → names ≡ benchNames → st ≡ benchStores .observations → bs ≡ benchStores .assets → length b ≡ 64 → r ≡ Calls.request model names st bs text b .answer → e ≡ Calls.request model names st bs text b .reply → (r ≡ benchRequest text b .answer) × ((e ≡ benchRequest text b .reply) × (replyLength r e ≤ 64))
+pub bench-asked : (text b : List ℕ) {model names st bs e : List ℕ} {r : Answer}
+    → model ≡ benchModel
+    → names ≡ benchNames
+    → st ≡ benchStores .observations
+    → bs ≡ benchStores .assets
+    → length b ≡ 64
+    → r ≡ Calls.request model names st bs text b .answer
+    → e ≡ Calls.request model names st bs text b .reply
+    → (r ≡ benchRequest text b .answer) × ((e ≡ benchRequest text b .reply) × (replyLength r e ≤ 64))
 unfolding benchRequest
 bench-asked text b {model} {names} {st} {bs} em en es eb l er ee =
     let h = request-within model names st bs b text .fits in

@@ -1,13 +1,12 @@
--- A request's reply has exactly as many words as its length says, so that they fit the buffer.
-use Prim.Native.Nat.{ℕ, suc, _+_, _-_, _*_, _≤_, min}
+-- The words that a request's answer and reply count as the reply's are words of the buffer.
+use Prim.Native.Nat.{ℕ, suc, _+_, _-_, _*_, _≤_}
 use mathlib.Core.Path.{_≡_, refl, ap}
 use mathlib.Core.Bool.{Bool, true, false, cond, _&&_}
-use mathlib.Core.List.{List, [], _∷_, _++_}
-use native.Mathlib.Nat.{le-min}
+use mathlib.Core.List.{List, [], _∷_}
 use native.Mathlib.Omega.{arith}
 use lib.Dec.{leb, ltb, eqb}
 use lib.ListN.{length, length-append}
-use borrow.Author.Tests.{leb-true, eqb-true, eqb-false, eq-eqb, ne-eqb}
+use borrow.Author.Tests.{leb-true, eqb-false, eq-eqb, ne-eqb}
 use Rattle.spec.specs.Model.{items, modelOk}
 use Rattle.spec.specs.Text.{Request, Reading, readText}
 use Rattle.spec.specs.Text.Request.{sample, current, currentAt, assets, allAssets}
