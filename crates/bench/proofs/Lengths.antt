@@ -1,8 +1,8 @@
 -- The words that a request's answer and reply count as the reply's are words of the buffer.
 use Prim.Native.Nat.{ℕ, suc, _+_, _-_, _*_, _≤_}
-use mathlib.Core.Path.{_≡_, refl, ap}
+use mathlib.Core.Path.{_≡_}
 use mathlib.Core.Bool.{Bool, true, false, cond, _&&_}
-use mathlib.Core.List.{List, [], _∷_}
+use mathlib.Core.List.{List}
 use native.Mathlib.Omega.{arith}
 use lib.Dec.{leb, ltb, eqb}
 use lib.ListN.{length, length-append}
@@ -24,6 +24,7 @@ use Rattle.spec.specs.declared.Selection.{Selection}
 use Rattle.spec.specs.declared.Selection.the-variants.{Items, NotFound}
 use Rattle.spec.proofs.Words.{by-cond}
 use Rattle.bench.specs.Print.{wordsOf, replyLength}
+use Rattle.spec.proofs.Reply.{length-numbers, length-pairs, length-lengths}
 
 -- the words that are shown are words of the buffer
 pub record Within (b : List ℕ) (r : Replied) : Type 0 where
@@ -37,21 +38,6 @@ none x b = record { fits = omega arith }
 choice : {b : List ℕ} {x y : Replied} (t : Bool) → Within b x → Within b y → Within b (cond t x y)
 choice true h g = h
 choice false h g = g
-
-length-numbers : (rows : List (List ℕ)) → length (numbers rows) ≡ length rows
-unfolding numbers
-length-numbers [] = refl
-length-numbers (r ∷ rows) = ap suc (length-numbers rows)
-
-length-pairs : (rows : List (List ℕ)) → length (pairs rows) ≡ 2 * length rows
-unfolding pairs
-length-pairs [] = refl
-length-pairs (r ∷ rows) = let h = length-pairs rows in omega arith
-
-length-lengths : (rows : List (List ℕ)) → length (lengths rows) ≡ length rows
-unfolding lengths
-length-lengths [] = refl
-length-lengths (r ∷ rows) = ap suc (length-lengths rows)
 
 observations-within : (first last next : ℕ) (rows : List (List ℕ)) (b : List ℕ) → 1 ≤ next → Within b (observationReply first last next rows b)
 unfolding observationReply written observationWords

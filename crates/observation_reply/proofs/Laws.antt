@@ -20,7 +20,7 @@ use Rattle.rows.specs.Rows.{itemsOk, sampled, counted, rowsInto}
 use Rattle.rows.specs.declared.Counted.the-variants.{Count, Broken}
 use Rattle.snapshots.specs.Snapshots.{seenFrom, noNumbers, heldFrom, presentIn}
 use Rattle.observation_reply.specs.Fitted.{Fitted}
-use Rattle.rows.proofs.Writing.{length-numbers, length-pairs}
+use Rattle.spec.proofs.Reply.{length-numbers, length-pairs}
 use Rattle.rows.proofs.Laws.{counted-count, counted-broken}
 use Rattle.snapshots.proofs.Laws.{current-count, at-rows}
 use Rattle.reply.proofs.Laws.{lent-room, lent-over, written-short, written-whole}

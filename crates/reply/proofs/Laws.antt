@@ -20,7 +20,8 @@ use Rattle.spec.specs.declared.Answer.the-variants.{Done}
 use Rattle.spec.proofs.Words.{and-left, and-right}
 use Rattle.reply.specs.declared.Found.{Found}
 use Rattle.reply.specs.Cells.{Cells, FoundAll}
-use Rattle.rows.proofs.Writing.{sets-set, length-numbers}
+use Rattle.spec.proofs.Reply.{length-numbers, length-lengths}
+use Rattle.rows.proofs.Writing.{sets-set}
 use Rattle.text.proofs.Laws.{split-at-more, split-at-last}
 use Rattle.reply.specs.declared.Found.the-variants as found
 
@@ -79,11 +80,6 @@ module _ (k : ℕ) (words reply : List ℕ) where
   written-whole l h e = rw (le-leb _ _ h, e)
 
 -- ---- rows of cells
-
-length-lengths : (rows : List (List ℕ)) → length (lengths rows) ≡ length rows
-unfolding lengths
-length-lengths [] = refl
-length-lengths (r ∷ rows) = ap suc (length-lengths rows)
 
 length-rows : (bs cells : List ℕ) → length (cellRows bs cells) ≡ length cells
 unfolding cellRows

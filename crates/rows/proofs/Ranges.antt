@@ -75,14 +75,6 @@ module _ (p : ℕ → Bool) (v : ℕ → List ℕ) where
       go true h = omega arith
       go false h = omega arith
 
--- rows whose tests and values agree
-pub rows-ext : (p q : ℕ → Bool) (v w : ℕ → List ℕ) (n s : ℕ) → ((i : ℕ) → s ≤ i → i < s + n → (p i ≡ q i) × (v i ≡ w i)) → pickRows p v n s ≡ pickRows q w n s
-unfolding pickRows
-rows-ext p q v w zero s h = refl
-rows-ext p q v w (suc n) s h =
-    let a = h s (omega arith) (omega arith) in
-    rw (a .0, a .1, rows-ext p q v w n (suc s) (λ i l g. h i (omega arith) (omega arith)))
-
 -- ---- places in the ring
 
 place-next : (s b n p : ℕ) → b ≤ s → p ≡ (s - b) % n → (p + 1) % n ≡ (s + 1 - b) % n

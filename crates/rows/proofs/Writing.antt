@@ -12,16 +12,7 @@ use Rattle.spec.specs.Words.{pickRows}
 use Rattle.spec.specs.Reply.{numbers, pairs}
 use Rattle.rows.specs.Rows.{rowsAt}
 use Rattle.rows.proofs.Ranges.{rows-in, rows-out, rows-end}
-
-pub length-numbers : (rs : List (List ℕ)) → length (numbers rs) ≡ length rs
-unfolding numbers
-length-numbers [] = refl
-length-numbers (r ∷ rs) = ap suc (length-numbers rs)
-
-pub length-pairs : (rs : List (List ℕ)) → length (pairs rs) ≡ 2 * length rs
-unfolding pairs
-length-pairs [] = refl
-length-pairs (r ∷ rs) = omega (arith, length-pairs rs)
+use Rattle.spec.proofs.Reply.{length-numbers}
 
 -- a word behind those that are set
 pub sets-set : (vs l : List ℕ) (i q x : ℕ) → i + length vs ≤ q → sets (set l q x) i vs ≡ set (sets l i vs) q x

@@ -1,16 +1,14 @@
 -- Laws of what a path selects, as the code goes: names, the components under a type, the items, the forms.
-use Prim.Native.Nat.{ℕ, _+_, _-_, _*_, _/_, _%_, _^_, _<_, _≤_}
+use Prim.Native.Nat.{ℕ, _+_, _-_, _*_, _/_, _^_, _<_, _≤_}
 use mathlib.Core.Path.{_≡_, refl, sym, ap, _∙_}
 use mathlib.Core.Bool.{Bool, true, false, not, _&&_, _||_}
 use mathlib.Core.List.{List}
 use mathlib.Core.Option.{some}
-use native.Mathlib.Nat.{one-mul}
 use native.Mathlib.Omega.{arith}
 use borrow.Author.Tests.{eq-eqb, ne-eqb, not-true, not-false}
-use lib.Bits.{bitOr}
-use lib.Dec.{eqb, lit<}
+use lib.Dec.{eqb}
 use lib.ListN.{length, take, drop, length-take}
-use lib.Pow.{shl-exact, ones-split, ones-lt, high}
+use lib.Pow.{ones-split, ones-lt, high}
 use lib.Seq.{take-take}
 use Rattle.spec.specs.Words.{anyBelow, bit, setOf}
 use Rattle.spec.specs.Bytes.{same}
@@ -19,7 +17,7 @@ use Rattle.spec.specs.Path.{Form, subtree, typed, otherForm, formOf, isNamed, h
 use Rattle.spec.specs.declared.Selection.{Selection}
 use Rattle.spec.specs.declared.Selection.the-variants.{Items, NotFound}
 use Rattle.spec.proofs.Words.{by-cond}
-use Rattle.spec.proofs.Bits.{or-joins, set-lt, set-ext, set-all}
+use Rattle.spec.proofs.Bits.{set-lt, set-ext, set-all}
 use Rattle.spec.proofs.Path.{under-zero}
 use Rattle.path.specs.declared.PathForm.{PathForm}
 use Rattle.path.specs.declared.PathForm.the-variants.{Subtree, Typed}
@@ -27,11 +25,6 @@ use Rattle.path.specs.Forms.{meaning, NamesFit}
 use Rattle.select.specs.Choice.{taken, chosen, byNames, SelectionFits}
 
 -- ---- sets
-
--- a set of numbers below i, with the bit that is shifted to i
-pub or-shifted : (set i : ℕ) → i < 64 → set < 2 ^ i → bitOr set (1 * 2 ^ i % 2 ^ 64) ≡ 2 ^ i + set
-or-shifted set i h l =
-    ap (bitOr set) (shl-exact {a = 1} 1 i 64 (lit< tt) (omega arith) ∙ one-mul (2 ^ i)) ∙ or-joins set i l
 
 -- all ones of 64, less those above m
 pub all-shifted : (m : ℕ) → m ≤ 64 → (2 ^ 64 - 1) / 2 ^ (64 - m) ≡ setOf anyItem m

@@ -1,28 +1,26 @@
 -- Laws of the newest numbers by item, of an item's row, and of the set of items that have one.
-use Prim.Native.Nat.{ℕ, zero, suc, _+_, _-_, _*_, _/_, _%_, _^_, _≤_, _<_}
+use Prim.Native.Nat.{ℕ, zero, suc, _+_, _-_, _/_, _%_, _^_, _≤_, _<_}
 use mathlib.Core.Path.{_≡_, refl, sym, ap, _∙_}
 use mathlib.Core.Logic.{_≢_}
 use mathlib.Core.Bool.{Bool, true, false, cond, _&&_, not}
 use mathlib.Core.List.{List, [], _∷_}
-use native.Mathlib.Nat.{one-mul}
 use native.Mathlib.Numerals.{add-one}
 use native.Mathlib.Omega.{arith}
-use lib.Bits.{bitOr}
-use lib.Pow.{shl-exact}
 use lib.Count.{ones}
-use lib.Dec.{lit<, eqb}
+use lib.Dec.{eqb}
 use lib.ListN.{length, getD, set, length-set, length-replicate, getD-replicate}
 use lib.Seq.{getD-set-same, getD-set-other}
 use borrow.Author.Tests.{lt-ltb, le-ltb, ne-eqb, eqb-true, eqb-false}
 use Rattle.spec.specs.Words.{every, pickRows, bit, row}
 use Rattle.spec.specs.Value.{itemOf}
 use Rattle.spec.specs.Observations.{ringSize, base, place, itemAt, checkpointAt, latestAt, latestRow, ringOk, newestIn, heldRow, atRows, currentRows}
-use Rattle.spec.proofs.Bits.{or-joins, set-lt, set-bit, rows-ones}
+use Rattle.spec.proofs.Bits.{set-lt, set-bit, rows-ones}
 use Rattle.rows.specs.Rows.{itemsOk, rowsInto, Run}
-use Rattle.rows.proofs.Ranges.{rows-ext, run-next}
+use Rattle.rows.proofs.Ranges.{run-next}
 use Rattle.rows.proofs.Laws.{itemIn, numberedIn, wordAt, item-is, numbered-is, ok-step, ok-split}
 use Rattle.rows.proofs.Writing.{Writing, writing-start, writing-end}
 use Rattle.snapshots.specs.Snapshots.{newestNumbers, seenFrom, noNumbers, rowOf, rowFrom, hasRow, heldFrom, presentIn}
+use Rattle.spec.proofs.Words.{rows-ext}
 
 -- ---- the pass over the ring
 
@@ -121,10 +119,6 @@ module _ (s i x : ℕ) (b : (x ≡ s / 2 ^ i % 2) × (x ≤ 1)) where
   pub has-by : (r : List ℕ) {a y z : ℕ} → (x ≡ 0 → ⊥) → r ≡ a ∷ y ∷ z ∷ [] → not (eqb a 0) ≡ hasRow s i r
   unfolding hasRow
   has-by r n e = let o : x ≡ 1 = omega (arith, b .1) in rw (bit-yes o, e)
-
--- a set of numbers below i, with the bit that is shifted to i
-pub or-shifted : (set i : ℕ) → i < 64 → set < 2 ^ i → bitOr set (1 * 2 ^ i % 2 ^ 64) ≡ 2 ^ i + set
-or-shifted set i h l = ap (bitOr set) (shl-exact {a = 1} 1 i 64 (lit< tt) (omega arith) ∙ one-mul (2 ^ i)) ∙ or-joins set i l
 
 -- ---- the loop that writes the rows of m items
 

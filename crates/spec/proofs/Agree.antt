@@ -34,7 +34,7 @@ use Rattle.spec.specs.declared.StoreAnswer.the-variants.{Stored, Refused
 use Rattle.spec.specs.declared.Verdict.the-variants.{Fine, Refused as Against}
 use Rattle.spec.specs.declared.Selection.{Selection}
 use Rattle.spec.specs.declared.Selection.the-variants.{Items, NotFound}
-use Rattle.spec.proofs.Words.{and-left, and-right, and-both}
+use Rattle.spec.proofs.Words.{and-left, and-right, and-both, rows-ext, leb-not}
 use Rattle.spec.proofs.Packing.{Coded, taken-coded, compare-coded}
 use Rattle.spec.proofs.Model.{checked}
 use Rattle.spec.proofs.Observations.{head-ok}
@@ -77,13 +77,6 @@ module _ {A B : Type 0} (P : A → B → Type 0) where
   other-test false true e f g = g refl
   other-test false false e f g = absurd (false≢true e)
 
-leb-not : (a b : ℕ) → leb b a ≡ not (ltb a b)
-leb-not a b = go (ltb a b) refl
-  where
-    go : (t : Bool) → ltb a b ≡ t → leb b a ≡ not t
-    go true e = lt-leb b a (ltb-true a b e)
-    go false e = le-leb b a (ltb-false a b e)
-
 -- what holds of each observation, and of d, holds of the newest
 newest-of : (P : Observation → Type 0) (H : List Observation) (d : Observation) (i : ℕ) → P d
     → ((k : ℕ) → k < length H → P (getD H k nothing)) → P (newestOr d i H)
@@ -97,21 +90,10 @@ newest-of P (o ∷ H) d i hd h = newest-of P H (cond (eqb (o .item) i) o d) i (g
 
 -- ---- rows of items, from tables and from H
 
-pick-agree : (p q : ℕ → Bool) (v w : ℕ → List ℕ) (k i : ℕ) → ((j : ℕ) → i ≤ j → j < i + k → (p j ≡ q j) × (v j ≡ w j))
-    → pickRows p v k i ≡ pickRows q w k i
-unfolding pickRows
-pick-agree p q v w zero i h = refl
-pick-agree p q v w (suc k) i h =
-    rw (
-      h i (omega arith) (omega arith) .0,
-      h i (omega arith) (omega arith) .1,
-      pick-agree p q v w k (suc i) (λ j l m. h j (omega arith) (omega arith)),
-    )
-
 module _ (N m B : ℕ) (H : List Observation) (st : List ℕ) (R : Rep N m B H st) where
   current-rows : (sel : ℕ) → currentRows N m st sel ≡ pickRows (bit sel) (λ i. triple (newest i H)) m 0
   unfolding currentRows
-  current-rows sel = pick-agree (bit sel) (bit sel) _ _ m 0 (λ j l h. (refl, R .latest j (omega arith)))
+  current-rows sel = rows-ext (bit sel) (bit sel) _ _ m 0 (λ j l h. (refl, R .latest j (omega arith)))
 
   module _ (sel first a : ℕ) (e : first ≡ B + (length H - N)) (lo : first ≤ a) (hi : a < B + length H) where
     held-row : (i : ℕ) → i < m → heldRow N m B st (suc a - first) first i ≡ triple (newest i (within 0 (suc a) H))
@@ -123,7 +105,7 @@ module _ (N m B : ℕ) (H : List Observation) (st : List ℕ) (R : Rep N m B H s
     at-rows : atRows N m B st sel (suc a - first) first ≡ foundRows m sel (within 0 (suc a) H)
     unfolding atRows foundRows
     at-rows =
-        pick-agree _ _ _ _ m 0
+        rows-ext _ _ _ _ m 0
         (λ j l h. (ap (λ (r : List ℕ). bit sel j && not (eqb (getD r 0 0) 0)) (held-row j (omega arith)), held-row j (omega arith)))
 
 -- ---- replies agree where they are in range
@@ -247,7 +229,7 @@ module _ (model names : List ℕ) (p : State) (st : List ℕ) (G : Good model na
   unfolding Calls.observe observeItem observeAnswer
   observe-agree item time host v fv =
       rw (G .right, right-head, room-is)
-      (other-test (ObserveAgree item time host v) (ltb item (items model)) (leb (items model) item) (leb-not item (items model))
+      (other-test (ObserveAgree item time host v) (ltb item (items model)) (leb (items model) item) (leb-not (items model) item)
       (λ h.
       other-test (ObserveAgree item time host v) (takes (category model item) v) (not (takes (category model item) v)) refl
       (λ t.

@@ -21,7 +21,7 @@ use Rattle.spec.specs.declared.Answer.the-variants.{Done, Refused}
 use Rattle.spec.specs.declared.Refusal.{Refusal}
 use Rattle.spec.specs.declared.Refusal.the-variants.{Model, Size}
 use Rattle.spec.specs.declared.Value.the-variants.{Unavailable}
-use Rattle.spec.proofs.Words.{and-left, and-right}
+use Rattle.spec.proofs.Words.{and-left, and-right, leb-not}
 use Rattle.spec.proofs.Model.{checked}
 use Rattle.spec.proofs.Recorded.{newestOr-item}
 use Rattle.spec.proofs.Start.{start-rep}
@@ -29,13 +29,6 @@ use Rattle.spec.proofs.Encoding.{start-assets}
 use Rattle.spec.proofs.Agree.{Good, bytes}
 
 -- ---- refusal 3, told as what is right and as what is wrong
-
-leb-not : (a b : ℕ) → leb a b ≡ not (ltb b a)
-leb-not a b = go (ltb b a) refl
-  where
-    go : (t : Bool) → ltb b a ≡ t → leb a b ≡ not t
-    go true e = lt-leb a b (ltb-true b a e)
-    go false e = le-leb a b (ltb-false b a e)
 
 one-not : (b : ℕ) → leb 1 b ≡ not (eqb b 0)
 one-not b = go (eqb b 0) refl

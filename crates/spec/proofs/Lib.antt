@@ -11,6 +11,7 @@ pub mod Print
 pub mod Path
 pub mod Observations
 pub mod Assets
+pub mod Reply
 pub mod Recorded
 pub mod Kept
 pub mod Rows

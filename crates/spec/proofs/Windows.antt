@@ -32,6 +32,7 @@ use Rattle.spec.specs.declared.StoreAnswer.the-variants.{Stored, Refused
 use Rattle.spec.specs.declared.Selection.{Selection}
 use Rattle.spec.specs.declared.Selection.the-variants.{Items, NotFound}
 use Rattle.spec.proofs.Recorded.{Numbered, within-slice}
+use Rattle.spec.proofs.Reply.{length-numbers}
 
 -- ---- parts of H
 
@@ -75,11 +76,6 @@ matching-later sel H X B a b n n' h =
 
 -- ---- rows read back from a reply
 
-length-numbers : (os : List Observation) → length (numbers (map triple os)) ≡ length (map triple os)
-unfolding numbers
-length-numbers [] = refl
-length-numbers (o ∷ os) = ap suc (length-numbers os)
-
 read-rows : (os : List Observation) (X Y : List ℕ)
     → readRows (length (map triple os)) (numbers (map triple os) ++ X) (pairs (map triple os) ++ Y) ≡ map triple os
 unfolding readRows numbers pairs
@@ -92,7 +88,7 @@ unfolding observationWords
 rows-back first last next os tail =
     rw (
       append-assoc (numbers (map triple os)) (pairs (map triple os)) tail,
-      drop-at (numbers (map triple os)) (pairs (map triple os) ++ tail) (length (map triple os)) (length-numbers os),
+      drop-at (numbers (map triple os)) (pairs (map triple os) ++ tail) (length (map triple os)) (length-numbers (map triple os)),
     )
     (read-rows os (pairs (map triple os) ++ tail) tail)
 

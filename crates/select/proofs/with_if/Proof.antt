@@ -1,6 +1,6 @@
 -- The bit of i is above the set, so `
 -- ` adds it.
-use Rattle.select.proofs.Laws.{or-shifted}
+use Rattle.spec.proofs.Bits.{or-shifted}
 use Prim.Native.Nat.{_-_}
 use borrow.Author.Needs.{needs}
 use Rattle.select.proofs.with_if.Statement.{statement}

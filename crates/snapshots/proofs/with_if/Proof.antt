@@ -1,5 +1,5 @@
 -- The bit of i is above the set, so the or adds it.
-use Rattle.snapshots.proofs.Laws.{or-shifted}
+use Rattle.spec.proofs.Bits.{or-shifted}
 use borrow.Author.Needs.{needs}
 use Rattle.snapshots.proofs.with_if.Statement.{statement}
 use Rattle.snapshots.proofs.with_if.Tie as tie
