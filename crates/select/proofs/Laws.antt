@@ -1,22 +1,23 @@
 -- Laws of what a path selects, as the code goes: names, the components under a type, the items, the forms.
 use Prim.Native.Nat.{ℕ, _+_, _-_, _*_, _/_, _^_, _<_, _≤_}
 use mathlib.Core.Path.{_≡_, refl, sym, ap, _∙_}
-use mathlib.Core.Bool.{Bool, true, false, not, _&&_, _||_}
-use mathlib.Core.List.{List}
+use mathlib.Core.Bool.{Bool, true, false, not, _&&_, _||_, and-true, and-false}
+use mathlib.Core.List.{List, [], _∷_}
 use mathlib.Core.Option.{some}
 use native.Mathlib.Omega.{arith}
-use borrow.Author.Tests.{eq-eqb, ne-eqb, not-true, not-false}
+use borrow.Author.Tests.{eqb-true, eqb-false, eq-eqb, ne-eqb, not-true, not-false}
 use lib.Dec.{eqb}
 use lib.ListN.{length, take, drop, length-take}
 use lib.Pow.{ones-split, ones-lt, high}
-use lib.Seq.{take-take}
+use lib.Seq.{take-take, length-take-le}
 use Rattle.spec.specs.Words.{anyBelow, bit, setOf}
-use Rattle.spec.specs.Bytes.{same}
+use Rattle.spec.specs.Bytes.{nameByte, same}
 use Rattle.spec.specs.Model.{Checked, letters, nameCell, parentOf, nameOf, componentOf, components, items, componentWord, itemWord}
 use Rattle.spec.specs.Path.{Form, subtree, typed, otherForm, formOf, isNamed, hasType, under, inSubtree, inTyped, selectSubtree, selectTyped, selectForm, anyItem, select}
 use Rattle.spec.specs.declared.Selection.{Selection}
 use Rattle.spec.specs.declared.Selection.the-variants.{Items, NotFound}
 use Rattle.spec.proofs.Words.{by-cond}
+use Rattle.spec.proofs.Bytes.{same-ne}
 use Rattle.spec.proofs.Bits.{set-lt, set-ext, set-all}
 use Rattle.spec.proofs.Path.{under-zero}
 use Rattle.path.specs.declared.PathForm.{PathForm}
@@ -37,16 +38,44 @@ all-shifted m h =
 
 -- ---- names
 
--- the name's bytes, as the code takes them out of the cell
-pub named-is : (names : List ℕ) (k n : ℕ) (t : List ℕ) (r : Bool) → n ≡ letters (take (24 * k + 24 - 24 * k) (drop (24 * k) names))
-    → n ≤ length (take (24 * k + 24 - 24 * k) (drop (24 * k) names)) → r ≡ same (take (24 * k + n - 24 * k) (drop (24 * k) names)) t → r ≡ isNamed names k t
-unfolding isNamed
-named-is names k n t r en le er =
-    let a : 24 * k + 24 - 24 * k ≡ 24 = omega arith in
-    let b : 24 * k + n - 24 * k ≡ n = omega arith in
-    let l : n ≤ 24 = omega (arith, length-take (24 * k + 24 - 24 * k) (drop (24 * k) names)) in
-    let f : n ≡ letters (nameCell names k) = en ∙ rw a in
-    er ∙ rw (b, ← f, take-take n 24 (drop (24 * k) names) l)
+letters-max : (s : List ℕ) → letters s ≤ length s
+unfolding letters
+letters-max [] = omega arith
+letters-max (x ∷ xs) = by-cond (λ (r : ℕ). r ≤ length (x ∷ xs)) (nameByte x) _ _ (λ e. omega (arith, letters-max xs)) (λ e. omega arith)
+
+-- n bytes of c are t: they agree with t as far as t goes, and n is its length
+same-front : (c t : List ℕ) (n : ℕ) → n ≤ length c → same (take n c) t ≡ same (take (length t) c) t && eqb n (length t)
+same-front c t n h = go (eqb n (length t)) refl
+  where
+    go : (b : Bool) → eqb n (length t) ≡ b → same (take n c) t ≡ same (take (length t) c) t && b
+    go true e = ap (λ (m : ℕ). same (take m c) t) (eqb-true n (length t) e) ∙ sym (and-true (same (take (length t) c) t))
+    go false e = same-ne (take n c) t (λ q. eqb-false n (length t) e (sym (length-take-le n c h) ∙ ap length q)) ∙ sym (and-false (same (take (length t) c) t))
+
+module _ (names : List ℕ) (k : ℕ) (t : List ℕ) where
+  pub named-not-longer : 24 < length t → false ≡ isNamed names k t
+  unfolding isNamed
+  named-not-longer h =
+      let c : List ℕ = nameCell names k in
+      sym (same-ne (take (letters c) c) t (λ e. omega (arith, ap length e, length-take (letters c) c, length-take 24 (drop (24 * k) names))))
+
+  -- the front of the name's cell, as the code takes it, against t
+  module _ (h : length t ≤ 24) (b : Bool) (eb : b ≡ same (take (24 * k + length t - 24 * k) (drop (24 * k) names)) t) where
+    named-is : isNamed names k t ≡ b && eqb (letters (nameCell names k)) (length t)
+    unfolding isNamed
+    named-is =
+        let c : List ℕ = nameCell names k in
+        let a : 24 * k + length t - 24 * k ≡ length t = omega arith in
+        let f : same (take (length t) c) t ≡ b = rw (take-take (length t) 24 (drop (24 * k) names) h) (sym (rw a at eb)) in
+        same-front c t (letters c) (letters-max c) ∙ ap (λ (x : Bool). x && eqb (letters c) (length t)) f
+
+    pub named-other : b ≡ false → false ≡ isNamed names k t
+    named-other z = sym (named-is ∙ rw z)
+
+    pub named-so-far : b ≡ true → (n : ℕ) → n ≡ letters (take (24 * k + 24 - 24 * k) (drop (24 * k) names)) → eqb n (length t) ≡ isNamed names k t
+    named-so-far z n en =
+        let a : 24 * k + 24 - 24 * k ≡ 24 = omega arith in
+        let f : n ≡ letters (nameCell names k) = en ∙ rw a in
+        sym (named-is ∙ rw (z, ← f))
 
 -- ---- tests in a row
 pub or-yes : (t a b : Bool) → t ≡ a → t ≡ true → true ≡ a || b
@@ -90,10 +119,6 @@ unfolding chosen
 chosen-is model names set u y j w b ew eb = rw (eb, ew)
 
 -- ---- the selections
-and-true : (b : Bool) → b && true ≡ b
-and-true true = refl
-and-true false = refl
-
 module _ (model names t y : List ℕ) (set : ℕ) (e : set ≡ under model names t (components model)) where
   chosen-subtree : setOf (chosen model names set false y) (items model) ≡ setOf (inSubtree model names t) (items model)
   unfolding chosen taken inSubtree

@@ -46,15 +46,21 @@ fn with_if(taken: bool, set: u64, i: u64) -> u64
     set
 }
 
-// Whether name k is the text t.
+// Whether name k is the text t. Most names differ early: only a name that agrees so far is measured.
 fn is_named(names: &[u8], k: u64, t: &[u8]) -> bool
     requires { ⌜ 24 * k + 24 ≤ length (now names) ⌝ }
     ensures { λ r. ⌜ r ≡ isNamed (now (names .entry)) k (now (t .entry)) ⌝ }
 {
+    if 24 < t.len() {
+        return false;
+    }
     let at = 24 * (k as usize);
+    let stop = at + t.len();
+    if !scan::equal(&names[at..stop], t) {
+        return false;
+    }
     let end = at + 24;
-    let stop = at + model::name_length(&names[at..end]);
-    scan::equal(&names[at..stop], t)
+    model::name_length(&names[at..end]) == t.len()
 }
 
 // Whether a component, by its word, has type name t or a parent in the set.
