@@ -1,5 +1,5 @@
 -- The asset store's definitions, as the code reads and writes them.
-use Prim.Native.Nat.{ℕ, suc, _+_, _-_, _*_, _≤_, _<_}
+use Prim.Native.Nat.{ℕ, zero, suc, _+_, _-_, _*_, _≤_, _<_}
 use mathlib.Core.Path.{_≡_, sym, ap, _∙_}
 use mathlib.Core.Bool.{Bool, true, false, _&&_, false≢true}
 use mathlib.Core.List.{List, append-nil}
@@ -10,7 +10,8 @@ use lib.ListN.{length, getD, set, take, drop, replicate, length-replicate, lengt
 use lib.Seq.{sets, sets-eq, length-take-le}
 use Rattle.spec.specs.Bytes.{same, pad}
 use Rattle.spec.specs.Assets.{capacity, used, bodiesAt, assetHeadOk, storeBytes, startAssets, lengthAt, idsAt, cell, idCell, idOk, find, lengthOk, bodyPlace, AssetHead, bodyCell, renew, usedAfter, outFor, cellFor, storeCells}
-use Rattle.spec.proofs.Assets.{given-up-room, given-up-max, used-after-more, used-after-max}
+use Rattle.cells.proofs.Laws.{padded-length}
+use Rattle.spec.proofs.Assets.{id-max, given-up-room, given-up-max, used-after-more, used-after-max}
 use Rattle.assets.specs.Cells.{withAsset}
 use Rattle.spec.specs.declared.Place.the-variants.{At, Nothing}
 use Rattle.spec.specs.Words.{firstWhere}
@@ -44,37 +45,59 @@ length-is bs i b x y eb ex ey = rw (ex, ey, eb)
 abbrev pub holdsAt : List ℕ → List ℕ → ℕ → Bool
 holdsAt bs id i = same (cell 32 idsAt i bs) (idCell id)
 
--- the cells from i on decide
-pub record Searching (bs id : List ℕ) (u i : ℕ) : Type 0 where
+zeros-left : (w n : ℕ) → drop {A = ℕ} n (replicate w 0) ≡ replicate (w - n) 0
+zeros-left w zero = let q : w - 0 ≡ w = omega arith in rw q
+zeros-left zero (suc n) = let q : 0 - suc n ≡ 0 = omega arith in rw q
+zeros-left (suc w) (suc n) = let q : suc w - suc n ≡ w - n = omega arith in rw q (zeros-left w n)
+
+-- the id, written over the front of zeros
+key-of : (id key : List ℕ) → length id ≤ 32 → key ≡ sets (replicate 32 0) 0 id → key ≡ idCell id
+key-of id key h e =
+    let q : 0 + length id ≡ length id = omega arith in
+    e ∙ sets-eq id (replicate 32 0) 0 (omega (arith, length-replicate {A = ℕ} 32 0)) ∙ rw (q, zeros-left 32 (length id))
+
+-- the cells from i on decide, and each is compared with the key
+pub record Searching (bs id key : List ℕ) (u i : ℕ) : Type 0 where
   pub below : i ≤ u
   pub end : u ≡ used bs
   pub rest : find bs id ≡ firstWhere (holdsAt bs id) (u - i) i
+  pub key-is : key ≡ idCell id
+  pub key-length : length key ≡ 32
 
-pub searching-none : (bs id : List ℕ) (u : ℕ) → u ≡ used bs → idOk id ≡ true → Searching bs id u 0
+pub searching-none : (bs id key : List ℕ) (u : ℕ) → u ≡ used bs → idOk id ≡ true → key ≡ sets (replicate 32 0) 0 id → Searching bs id key u 0
 unfolding find
-searching-none bs id u e h = let q : u - 0 ≡ used bs = omega arith in record { below = omega arith; end = e; rest = rw (h, q) }
+searching-none bs id key u e h k =
+    let q : u - 0 ≡ used bs = omega arith in
+    let z = key-of id key (id-max id h) k in
+    record { below = omega arith; end = e; rest = rw (h, q); key-is = z; key-length = ap length z ∙ padded-length 32 id (id-max id h) }
 
--- what the code's part of the store is, and how long
-cell-is : (bs : List ℕ) (i : ℕ) → take (2 + i * 32 + 32 - (2 + i * 32)) (drop (2 + i * 32) bs) ≡ cell 32 idsAt i bs
+-- the code's part of the store, and what it is
+abbrev pub idPart : List ℕ → ℕ → List ℕ
+idPart bs i = take (2 + i * 32 + 32 - (2 + i * 32)) (drop (2 + i * 32) bs)
+
+cell-is : (bs : List ℕ) (i : ℕ) → idPart bs i ≡ cell 32 idsAt i bs
 cell-is bs i = let q : 2 + i * 32 + 32 - (2 + i * 32) ≡ 32 = omega arith in rw q
 
-pub cell-length : (bs : List ℕ) (i : ℕ) → 2 + i * 32 + 32 ≤ length bs → length (take (2 + i * 32 + 32 - (2 + i * 32)) (drop (2 + i * 32) bs)) ≡ 32
-cell-length bs i h =
-    let q : 2 + i * 32 + 32 - (2 + i * 32) ≡ 32 = omega arith in
-    rw q (length-take-le 32 (drop (2 + i * 32) bs) (omega (arith, length-drop (2 + i * 32) bs)))
+module _ {bs id key : List ℕ} {u i : ℕ} (r : Searching bs id key u i) where
+  holds-is : (t : Bool) → t ≡ same (idPart bs i) key → t ≡ holdsAt bs id i
+  holds-is t g = g ∙ rw (cell-is bs i, r .key-is)
 
-pub holds-is : (bs id s : List ℕ) (i : ℕ) (r : Bool) → s ≡ take (2 + i * 32 + 32 - (2 + i * 32)) (drop (2 + i * 32) bs) → 2 + i * 32 + 32 ≤ length bs
-    → r ≡ same s (pad (length s) id) → r ≡ holdsAt bs id i
-holds-is bs id s i r e h g =
-    g ∙ (let n : length s ≡ 32 = ap length e ∙ cell-length bs i h in rw (n, e, cell-is bs i))
+  pub searching-lengths : 2 + i * 32 + 32 ≤ length bs → length (idPart bs i) ≡ length key
+  searching-lengths h =
+      rw (cell-is bs i) (length-take-le 32 (drop (2 + i * 32) bs) (omega (arith, length-drop (2 + i * 32) bs)) ∙ sym (r .key-length))
 
-module _ {bs id : List ℕ} {u i : ℕ} (r : Searching bs id u i) where
-  pub searching-here : i < u → holdsAt bs id i ≡ true → i ≡ find bs id
-  searching-here h e = first-here (holdsAt bs id) (find bs id) i u (r .rest) h e
+  pub searching-here : i < u → (t : Bool) → t ≡ same (idPart bs i) key → t ≡ true → i ≡ find bs id
+  searching-here h t g e = first-here (holdsAt bs id) (find bs id) i u (r .rest) h (sym (holds-is t g) ∙ e)
 
-  pub searching-on : i < u → holdsAt bs id i ≡ false → Searching bs id u (i + 1)
-  searching-on h e =
-      record { below = omega arith; end = r .end; rest = first-on (holdsAt bs id) (find bs id) i u (r .rest) h e }
+  pub searching-on : i < u → (t : Bool) → t ≡ same (idPart bs i) key → t ≡ false → Searching bs id key u (i + 1)
+  searching-on h t g e =
+      record {
+        below = omega arith;
+        end = r .end;
+        rest = first-on (holdsAt bs id) (find bs id) i u (r .rest) h (sym (holds-is t g) ∙ e);
+        key-is = r .key-is;
+        key-length = r .key-length;
+      }
 
   pub searching-end : u ≤ i → i ≡ find bs id
   searching-end h = first-end (holdsAt bs id) (find bs id) i u (r .rest) h

@@ -66,7 +66,7 @@ pub fn asset_ok(id: &[u8], body: &[u8]) -> bool
     length_ok(body.len() as u64)
 }
 
-// The lowest used cell that holds the id; u where there is none, or the id is no id.
+// The lowest used cell that holds the id; u where there is none, or the id is no id. The id's own cell is made once.
 pub fn find(bs: &[u8], id: &[u8]) -> u64
     requires { ⌜ AssetHead (now bs) ⌝ }
     ensures { λ r. ⌜ r ≡ spec.find (now (bs .entry)) (now (id .entry)) ⌝ }
@@ -76,11 +76,13 @@ pub fn find(bs: &[u8], id: &[u8]) -> u64
     if !id_ok(id) {
         return u;
     }
+    let mut key = [0u8; 32];
+    cells::write(&mut key, 0, id);
     let mut i: u64 = 0;
     while i < u {
         let start = (2 + i * 32) as usize;
         let end = start + 32;
-        if cells::holds(&bs[start..end], id) {
+        if cells::same_bytes(&bs[start..end], &key) {
             return i;
         }
         i += 1;

@@ -1,14 +1,48 @@
--- A run of bytes written front to back, and cells put together from such runs, at any place and width.
-use Prim.Native.Nat.{ℕ, zero, suc, _+_, _-_, _*_, _≤_, _<_}
+-- Runs of bytes compared or written front to back, and cells put together from such runs, at any place and width.
+use Prim.Native.Nat.{ℕ, suc, _+_, _-_, _*_, _≤_, _<_}
 use mathlib.Core.Path.{_≡_, refl, sym, ap, _∙_}
 use mathlib.Core.List.{List, [], _∷_, _++_, append-assoc}
 use native.Mathlib.Nat.{add-zero, suc-mul, add-mul}
 use native.Mathlib.Numerals.{add-one}
 use native.Mathlib.Omega.{arith}
+use mathlib.Core.Bool.{Bool, true, _&&_, and-assoc, and-true}
+use lib.Dec.{eqb}
 use lib.ListN.{length, getD, set, take, drop, replicate, length-set, length-append, length-drop, length-replicate, drop-of-length-le}
 use lib.Seq.{sets, sets-eq, drop-cons, drop-set-lt, getD-drop, getD-take, drop-drop, length-take-le}
-use Rattle.spec.specs.Bytes.{pad}
+use Rattle.spec.specs.Bytes.{same, pad}
 use Rattle.spec.specs.Assets.{renew}
+
+-- ---- comparison
+
+-- what a loop that compares s with t knows behind j bytes: its answer so far and the bytes from there on decide
+pub record Comparing (s t : List ℕ) (fine : Bool) (j : ℕ) : Type 0 where
+  pub inside : j ≤ length s
+  pub lengths : length s ≡ length t
+  pub rest : same s t ≡ fine && same (drop j s) (drop j t)
+
+pub comparing-none : (s t : List ℕ) → length s ≡ length t → Comparing s t true 0
+comparing-none s t e = record { inside = omega arith; lengths = e; rest = refl }
+
+module _ {s t : List ℕ} {fine : Bool} {j : ℕ} (r : Comparing s t fine j) where
+  same-step : j < length s → same (drop j s) (drop j t) ≡ eqb (getD s j 0) (getD t j 0) && same (drop (j + 1) s) (drop (j + 1) t)
+  unfolding same
+  same-step h = let k : j < length t = omega (arith, r .lengths) in rw (add-one, drop-cons s j 0, drop-cons t j 0)
+
+  pub comparing-more : j < length s → Comparing s t (fine && eqb (getD s j 0) (getD t j 0)) (j + 1)
+  comparing-more h =
+      record {
+        inside = omega arith;
+        lengths = r .lengths;
+        rest = r .rest ∙ rw (same-step h) (sym (and-assoc fine (eqb (getD s j 0) (getD t j 0)) _));
+      }
+
+  pub comparing-all : length s ≤ j → fine ≡ same s t
+  unfolding same
+  comparing-all h =
+      let k : length t ≤ j = omega (arith, r .lengths) in
+      sym (r .rest ∙ rw (drop-of-length-le s h, drop-of-length-le t k) (and-true fine))
+
+-- ---- writing
 
 -- what a loop that writes v over o from `at` on knows behind j bytes: l is what stands there now
 pub record Writing (v o : List ℕ) (at : ℕ) (l : List ℕ) (j : ℕ) : Type 0 where
@@ -52,20 +86,6 @@ moved-byte o l at gap n j r h =
     rw (getD-take n (drop (at + gap) o) j 0 h, getD-drop (at + gap) o j 0, q, ← getD-drop (at + j) l gap 0, ← getD-drop (at + j) o gap 0, r .ahead)
 
 -- ---- padded cells
-
-zero-at : (k j : ℕ) → _≡_ {A = ℕ} (getD (replicate k 0) j 0) 0
-zero-at zero j = refl
-zero-at (suc k) zero = refl
-zero-at (suc k) (suc j) = zero-at k j
-
-zeros-behind : (k : ℕ) (s : List ℕ) (j : ℕ) → getD (s ++ replicate k 0) j 0 ≡ getD s j 0
-zeros-behind k [] j = zero-at k j
-zeros-behind k (x ∷ s) zero = refl
-zeros-behind k (x ∷ s) (suc j) = zeros-behind k s j
-
--- padding shows as the zeros that are read behind the end
-pub padded-at : (w : ℕ) (s : List ℕ) (j : ℕ) → getD (pad w s) j 0 ≡ getD s j 0
-padded-at w s j = zeros-behind (w - length s) s j
 
 pub padded-length : (w : ℕ) (s : List ℕ) → length s ≤ w → length (pad w s) ≡ w
 padded-length w s h = omega (arith, length-append s (replicate (w - length s) 0), length-replicate {A = ℕ} (w - length s) 0)

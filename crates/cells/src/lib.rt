@@ -2,31 +2,23 @@
 ghost use mathlib.Core.Path.{_≡_};
 ghost use mathlib.Core.List.{_++_};
 ghost use Prim.Native.Nat.{suc, _+_, _*_, _<_, _≤_};
-ghost use lib.ListN.{length, getD, take, drop, replicate};
+ghost use lib.ListN.{length, take, drop, replicate};
 ghost use lib.Seq.{sets};
 ghost use Rattle.spec.specs.Bytes.{same, pad};
 ghost use Rattle.spec.specs.Assets.{renew};
 
-// Byte j, or 0 behind the end.
-fn byte_or_zero(s: &[u8], j: usize) -> u8
-    ensures { λ r. ⌜ r ≡ getD (now (s .entry)) j 0 ⌝ }
+// Whether two runs of bytes of one length are the same. It takes no branch by a byte, so that it goes over many at once.
+pub fn same_bytes(a: &[u8], b: &[u8]) -> bool
+    requires { ⌜ length (now a) ≡ length (now b) ⌝ }
+    ensures { λ r. ⌜ r ≡ same (now (a .entry)) (now (b .entry)) ⌝ }
 {
-    if j < s.len() { s[j] } else { 0 }
-}
-
-// Whether a cell is the bytes of s, zero padded to its end.
-pub fn holds(cell: &[u8], s: &[u8]) -> bool
-    requires { ⌜ length (now s) ≤ length (now cell) ⌝ }
-    ensures { λ r. ⌜ r ≡ same (now (cell .entry)) (pad (length (now (cell .entry))) (now (s .entry))) ⌝ }
-{
+    let mut fine = true;
     let mut j = 0;
-    while j < cell.len() {
-        if cell[j] != byte_or_zero(s, j) {
-            return false;
-        }
+    while j < a.len() {
+        fine = fine & (a[j] == b[j]);
         j += 1;
     }
-    true
+    fine
 }
 
 // The bytes of s stand from `at` on.

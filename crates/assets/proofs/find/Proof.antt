@@ -1,19 +1,19 @@
--- The used cells from i on decide, since none before holds the id. The measure is how many are left.
+-- The used cells from i on decide, since none before holds the id, and the key is the id's cell. The measure is how many are left.
 use Prim.Native.Nat.{_-_}
-use mathlib.Core.Path.{refl, sym, _∙_}
+use mathlib.Core.Path.{sym, _∙_}
 use native.Mathlib.Omega.{arith}
 use borrow.Author.Tests.{not-true, not-false}
 use borrow.Author.Needs.{needs}
 use Rattle.spec.proofs.Assets.{id-max}
-use Rattle.assets.proofs.Laws.{Searching, searching-none, searching-here, searching-on, searching-end, no-id, cell-length, holds-is}
+use Rattle.assets.proofs.Laws.{Searching, searching-none, searching-lengths, searching-here, searching-on, searching-end, no-id}
 use Rattle.assets.proofs.find.Statement.{statement}
 use Rattle.assets.proofs.find.Tie as tie
 
 abbrev Inv-loop : tie.InvT-loop
-Inv-loop bs id u i₀ i = Searching bs id u i
+Inv-loop bs id u key i₀ i = Searching bs id key u i
 
 abbrev μ-loop : tie.MeasureT-loop
-μ-loop bs id u i₀ i = u - i
+μ-loop bs id u key i₀ i = u - i
 
 shared-slice-read-wide : tie.Need-shared-slice-read-wide Inv-loop μ-loop
 shared-slice-read-wide c = search needs
@@ -27,8 +27,16 @@ id-ok-requires c κs = search needs
 returns : tie.Need-returns Inv-loop μ-loop
 returns c = (no-id _ _ _ (c .before .before .wide .ensures .0) (sym (c .before .id-ok .ensures) ∙ not-true _ (c .if1 .taken)), omega arith)
 
+slice-aggregate-write : tie.Need-slice-aggregate-write Inv-loop μ-loop
+slice-aggregate-write c = search needs
+
+write-requires : tie.Need-write-requires Inv-loop μ-loop
+write-requires c κs = let h = id-max _ (sym (c .before .before .id-ok .ensures) ∙ not-false _ (c .before .if1 .left)) in search needs
+
 loop-holds : tie.Need-loop-holds Inv-loop μ-loop
-loop-holds c = searching-none _ _ _ (c .before .before .wide .ensures .0) (sym (c .before .id-ok .ensures) ∙ not-false _ (c .if1 .left))
+loop-holds c =
+    let w = c .before .before .before .before .before in
+    searching-none _ _ _ _ (w .wide .ensures .0) (sym (c .before .before .before .before .id-ok .ensures) ∙ not-false _ (c .before .before .before .if1 .left)) (c .before .write .ensures)
 
 mul-start : tie.Need-mul-start Inv-loop μ-loop
 mul-start c = search needs
@@ -39,30 +47,25 @@ add-start c = search needs
 add-end : tie.Need-add-end Inv-loop μ-loop
 add-end c = search needs
 
-sub-holds : tie.Need-sub-holds Inv-loop μ-loop
-sub-holds c = search needs
+sub-same-bytes : tie.Need-sub-same-bytes Inv-loop μ-loop
+sub-same-bytes c = search needs
 
-part-holds-start : tie.Need-part-holds-start Inv-loop μ-loop
-part-holds-start c = search needs
+part-same-bytes-start : tie.Need-part-same-bytes-start Inv-loop μ-loop
+part-same-bytes-start c = search needs
 
-part-holds-end : tie.Need-part-holds-end Inv-loop μ-loop
-part-holds-end c = search needs
+part-same-bytes-end : tie.Need-part-same-bytes-end Inv-loop μ-loop
+part-same-bytes-end c = search needs
 
-holds-requires : tie.Need-holds-requires Inv-loop μ-loop
-holds-requires c κs =
-    let z = c .before .before .before .before .before .before .before .before .before .args in
-    let l = c .before .before .loop in
-    omega
-    (arith, cell-length (z .bs .now) (l .i) (omega arith), id-max (z .id .now) (sym (c .before .before .before .before .id-ok .ensures) ∙ not-false _ (c .before .before .before .if1 .left)))
+slice-aggregate-same-bytes : tie.Need-slice-aggregate-same-bytes Inv-loop μ-loop
+slice-aggregate-same-bytes c = sym (c .before .before .before .loop .inv .key-length)
+
+same-bytes-requires : tie.Need-same-bytes-requires Inv-loop μ-loop
+same-bytes-requires c κs = searching-lengths (c .before .before .before .loop .inv) (omega arith)
 
 returns-2 : tie.Need-returns-2 Inv-loop μ-loop
 returns-2 c =
-    let z = c .before .before .before .before .before .before .before .before .before .before .before .args in
-    let l = c .before .before .before .before .loop in (
-      searching-here (l .inv) (omega arith)
-          (sym (holds-is (z .bs .now) (z .id .now) _ (l .i) _ refl (omega arith) (c .before .holds .ensures)) ∙ c .if2 .taken),
-      omega arith,
-    )
+    let l = c .before .before .before .before .before .loop in
+    (searching-here (l .inv) (omega arith) _ (c .before .same-bytes .ensures) (c .if2 .taken), omega arith)
 
 add-i : tie.Need-add-i Inv-loop μ-loop
 add-i c = search needs
@@ -72,9 +75,8 @@ loop-less c = search needs
 
 loop-again : tie.Need-loop-again Inv-loop μ-loop
 loop-again c =
-    let z = c .before .before .before .before .before .before .before .before .before .before .before .args in
-    let l = c .before .before .before .before .loop in
-    searching-on (l .inv) (omega arith) (sym (holds-is (z .bs .now) (z .id .now) _ (l .i) _ refl (omega arith) (c .before .holds .ensures)) ∙ c .if2 .left)
+    let l = c .before .before .before .before .before .loop in
+    searching-on (l .inv) (omega arith) _ (c .before .same-bytes .ensures) (c .if2 .left)
 
 returns-3 : tie.Need-returns-3 Inv-loop μ-loop
 returns-3 c = (searching-end (c .before .loop .inv) (omega arith), omega arith)
@@ -89,14 +91,17 @@ find-spec =
     wide-requires
     id-ok-requires
     returns
+    slice-aggregate-write
+    write-requires
     loop-holds
     mul-start
     add-start
     add-end
-    sub-holds
-    part-holds-start
-    part-holds-end
-    holds-requires
+    sub-same-bytes
+    part-same-bytes-start
+    part-same-bytes-end
+    slice-aggregate-same-bytes
+    same-bytes-requires
     returns-2
     add-i
     loop-less
