@@ -5,14 +5,14 @@ use std::arch::asm;
 /// Nanoseconds of a pass over the ring words that a call has to read.
 pub struct Floor {
     /// One word after the other.
-    pub plain: f64,
+    pub stepped: f64,
     /// Two words at once, as many as there are, without a look at any.
-    pub vector: f64,
+    pub plain: f64,
 }
 
 /// The sum of the words, added one by one.
 #[inline(never)]
-pub fn plain(words: &[u64]) -> u64 {
+pub fn stepped(words: &[u64]) -> u64 {
     let mut sum = 0u64;
     for &word in words {
         sum = sum.wrapping_add(word);
@@ -26,7 +26,7 @@ const LANES: usize = 16;
 
 /// The sum of the words, in blocks that the compiler turns into vector code.
 #[inline(never)]
-pub fn vector(words: &[u64]) -> u64 {
+pub fn plain(words: &[u64]) -> u64 {
     let mut sums = [0u64; LANES];
     let blocks = words.chunks_exact(LANES);
     let rest = blocks.remainder().iter().copied();

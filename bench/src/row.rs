@@ -33,16 +33,16 @@ pub fn measure(call: &impl Call, stage: &Stage, rounds: usize) -> Row {
     let mut batches: Vec<clock::Batch> = Vec::new();
     let mut core_batch = repeat(call, &core, &mut left);
     let mut reference_batch = repeat(call, &reference, &mut right);
+    let mut stepped_batch = passes(floor::stepped, &stage.observations, call.ring_words());
     let mut plain_batch = passes(floor::plain, &stage.observations, call.ring_words());
-    let mut vector_batch = passes(floor::vector, &stage.observations, call.ring_words());
     batches.push(&mut core_batch);
     batches.push(&mut reference_batch);
     if !call.ring_words().is_empty() {
+        batches.push(&mut stepped_batch);
         batches.push(&mut plain_batch);
-        batches.push(&mut vector_batch);
     }
     let best = clock::best(&mut batches, rounds);
-    let floor = best.get(2..4).map(|passes| Floor { plain: passes[0], vector: passes[1] });
+    let floor = best.get(2..4).map(|passes| Floor { stepped: passes[0], plain: passes[1] });
     Row { name: call.name().into(), core: best[0], reference: best[1], floor, core_stack, reference_stack }
 }
 

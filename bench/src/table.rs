@@ -24,7 +24,7 @@ pub fn print_floors(rows: &[Row]) {
         return;
     }
     println!("\nBeside a pass over the ring words that the call has to read:\n");
-    println!("| call | core ns | plain pass ns | core / plain | vector pass ns | core / vector |");
+    println!("| call | core ns | plain pass ns | core / plain | word by word ns | core / word by word |");
     println!("|---|---:|---:|---:|---:|---:|");
     for row in rows {
         let Some(floor) = &row.floor else { continue };
@@ -34,8 +34,8 @@ pub fn print_floors(rows: &[Row]) {
             nanoseconds(row.core),
             nanoseconds(floor.plain),
             ratio(row.core, floor.plain),
-            nanoseconds(floor.vector),
-            ratio(row.core, floor.vector),
+            nanoseconds(floor.stepped),
+            ratio(row.core, floor.stepped),
         );
     }
 }
