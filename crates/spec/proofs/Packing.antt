@@ -14,6 +14,7 @@ use Rattle.spec.specs.declared.Level.{Level}
 use Rattle.spec.specs.declared.Level.the-variants.{Normal, Warning, Fault}
 use Rattle.spec.specs.declared.Value.{Value}
 use Rattle.spec.specs.declared.Value.the-variants.{Unavailable, Sample, Event, Condition}
+use Rattle.spec.proofs.Words.{same-truth}
 
 -- a value whose fields fit its word: as `Fits`, with a native code below 2^24
 abbrev pub Coded : Value → Type 0
@@ -167,14 +168,9 @@ eqValue-refl (Condition l c) = rw (eqLevel-refl l) (eq-eqb c c refl)
 pub eqValue-eq : (v w : Value) → v ≡ w → eqValue v w ≡ true
 eqValue-eq v w e = rw e (eqValue-refl w)
 
-bool-by : (a b : Bool) → (a ≡ true → b ≡ true) → (b ≡ true → a ≡ true) → a ≡ b
-bool-by true b f g = sym (f refl)
-bool-by false true f g = g refl
-bool-by false false f g = refl
-
 pub compare-coded : (item : ℕ) (v w : Value) → Coded v → Coded w → eqb (pack item v) (pack item w) ≡ eqValue v w
 compare-coded item v w hv hw =
-    bool-by (eqb (pack item v) (pack item w)) (eqValue v w)
+    same-truth (eqb (pack item v) (pack item w)) (eqValue v w)
     (λ e. eqValue-eq v w (pack-coded item v w hv hw (eqb-true _ _ e)))
     (λ e. eq-eqb _ _ (ap (pack item) (eqValue-true v w e)))
 
