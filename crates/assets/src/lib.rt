@@ -4,7 +4,7 @@ ghost use mathlib.Core.Bool.{true};
 ghost use Prim.Native.Nat.{_<_, _≤_};
 ghost use lib.ListN.{length};
 ghost use Rattle.spec.specs.Assets as spec;
-ghost use Rattle.spec.specs.Assets.{AssetHead, capacity, used};
+ghost use Rattle.spec.specs.Assets.{AssetHead, maxAssets, capacity, used};
 ghost use Rattle.assets.specs.Cells.{PlaceFits, withAsset};
 use spec::Place;
 
@@ -14,6 +14,32 @@ fn wide(x: u8) -> u64
     ensures { λ r. ⌜ r < 256 ⌝ }
 {
     x as u64
+}
+
+// How many bytes a store of a cells has.
+pub fn bytes_for(a: u64) -> u64
+    requires { ⌜ a ≤ maxAssets ⌝ }
+    ensures { λ r. ⌜ r ≡ spec.storeBytes a ⌝ }
+{
+    2 + a * 544
+}
+
+// How many assets the store holds at most.
+pub fn capacity(bs: &[u8]) -> u64
+    requires { ⌜ AssetHead (now bs) ⌝ }
+    ensures { λ r. ⌜ r ≡ capacity (now (bs .entry)) ⌝ }
+    ensures { λ r. ⌜ r ≤ maxAssets ⌝ }
+{
+    wide(bs[0])
+}
+
+// How many assets the store holds.
+pub fn used(bs: &[u8]) -> u64
+    requires { ⌜ AssetHead (now bs) ⌝ }
+    ensures { λ r. ⌜ r ≡ used (now (bs .entry)) ⌝ }
+    ensures { λ r. ⌜ r ≤ capacity (now (bs .entry)) ⌝ }
+{
+    wide(bs[1])
 }
 
 // Whether the head and the length of an asset store are right.

@@ -2,7 +2,7 @@
 ghost use mathlib.Core.Path.{_≡_};
 ghost use Prim.Native.Nat.{_≤_};
 ghost use lib.ListN.{replicate};
-ghost use Rattle.spec.specs.Bench.{benchModel, benchNames, benchStores, benchRequest};
+ghost use Rattle.spec.specs.Bench.{benchModel, benchNames, benchWords, benchBytes, benchStores, benchRequest};
 ghost use Rattle.bench.specs.Print.{wordsOf, replyLength};
 use spec::Answer;
 use spec::Value;
@@ -25,8 +25,8 @@ fn names() -> [u8; 96]
 fn prepare(model: &[u32], names: &[u8], observations: &mut [u64], assets: &mut [u8])
     requires { ⌜ now model ≡ benchModel ⌝ }
     requires { ⌜ now names ≡ benchNames ⌝ }
-    requires { ⌜ now observations ≡ replicate 22 0 ⌝ }
-    requires { ⌜ now assets ≡ replicate 546 0 ⌝ }
+    requires { ⌜ now observations ≡ replicate benchWords 0 ⌝ }
+    requires { ⌜ now assets ≡ replicate benchBytes 0 ⌝ }
     ensures { λ _. ⌜ now (observations .exit) ≡ benchStores .observations ⌝ }
     ensures { λ _. ⌜ now (assets .exit) ≡ benchStores .assets ⌝ }
 {

@@ -5,12 +5,63 @@ ghost use mathlib.Core.List.{[], _∷_};
 ghost use Prim.Native.Nat.{suc, _+_, _≤_, _<_};
 ghost use lib.ListN.{length, getD, replicate};
 ghost use Rattle.spec.specs.Words.{put};
-ghost use Rattle.spec.specs.Observations.{ringSize, base, last, latestRow, storeWords, place, firstOf, headOk, Head, evict, evictOk, add, blank, startStore};
+ghost use Rattle.spec.specs.Model.{maxItems};
+ghost use Rattle.spec.specs.Observations.{maxRing, maxNumber, ringSize, base, last, latestAt, checkpointAt, latestRow, storeWords, place, firstOf, headOk, Head, evict, evictOk, add, blank, startStore};
 ghost use Rattle.spec.specs.Calls.{roomFor};
 ghost use Rattle.observations.specs.Adding.{Adding, Overwriting, Sizes};
 use spec::Refusal;
 use spec::Value;
 use spec::Verdict;
+
+// How many words a store of n observations and m items has.
+pub fn words_for(n: u64, m: u64) -> u64
+    requires { ⌜ (n ≤ maxRing) × (m ≤ maxItems) ⌝ }
+    ensures { λ r. ⌜ r ≡ storeWords n m ⌝ }
+{
+    4 + 2 * n + 6 * m
+}
+
+// Where the latest table begins.
+pub fn latest_at(n: u64) -> u64
+    requires { ⌜ n ≤ maxRing ⌝ }
+    ensures { λ r. ⌜ r ≡ latestAt n ⌝ }
+{
+    4 + 2 * n
+}
+
+// Where the checkpoint table begins.
+pub fn checkpoint_at(n: u64, m: u64) -> u64
+    requires { ⌜ (n ≤ maxRing) × (m ≤ maxItems) ⌝ }
+    ensures { λ r. ⌜ r ≡ checkpointAt n m ⌝ }
+{
+    4 + 2 * n + 3 * m
+}
+
+// How many observations the ring holds at most.
+pub fn ring_size(st: &[u64], m: u64) -> u64
+    requires { ⌜ Head m (now st) ⌝ }
+    ensures is { λ r. ⌜ r ≡ ringSize (now (st .entry)) ⌝ }
+    ensures bounds { λ r. ⌜ (1 ≤ r) × (r ≤ maxRing) ⌝ }
+{
+    st[0]
+}
+
+// The first number.
+pub fn base(st: &[u64], m: u64) -> u64
+    requires { ⌜ Head m (now st) ⌝ }
+    ensures { λ r. ⌜ r ≡ base (now (st .entry)) ⌝ }
+{
+    st[2]
+}
+
+// The newest number.
+pub fn last(st: &[u64], m: u64) -> u64
+    requires { ⌜ Head m (now st) ⌝ }
+    ensures is { λ r. ⌜ r ≡ last (now (st .entry)) ⌝ }
+    ensures high { λ r. ⌜ r ≤ maxNumber ⌝ }
+{
+    st[3]
+}
 
 // Whether the head and the length are right for m items.
 pub fn head_ok(st: &[u64], m: u64) -> bool

@@ -12,7 +12,7 @@ use lib.Pow.{ones-split, ones-lt, high}
 use lib.Seq.{take-take, length-take-le}
 use Rattle.spec.specs.Words.{anyBelow, bit, setOf}
 use Rattle.spec.specs.Bytes.{nameByte, same}
-use Rattle.spec.specs.Model.{Checked, letters, nameCell, parentOf, nameOf, componentOf, components, items, componentWord, itemWord}
+use Rattle.spec.specs.Model.{Checked, letters, nameCell, parentOf, componentName, componentOf, itemName, components, items, componentWord, itemWord}
 use Rattle.spec.specs.Path.{Form, subtree, typed, otherForm, formOf, isNamed, hasType, under, inSubtree, inTyped, selectSubtree, selectTyped, selectForm, anyItem, select}
 use Rattle.spec.specs.declared.Selection.{Selection}
 use Rattle.spec.specs.declared.Selection.the-variants.{Items, NotFound}
@@ -93,20 +93,20 @@ module _ (names y : List ℕ) (w set : ℕ) (u t : Bool) (e : t ≡ bit set (com
   unfolding taken
   any-type z f = rw (← e, z, f)
 
-  pub of-type : t ≡ true → u ≡ true → (r : Bool) → r ≡ isNamed names (nameOf w) y → r ≡ taken names set u y w
+  pub of-type : t ≡ true → u ≡ true → (r : Bool) → r ≡ isNamed names (itemName w) y → r ≡ taken names set u y w
   unfolding taken
   of-type z f r g = rw (← e, z, f, g)
 
 -- ---- a checked model's words
 module _ (model names : List ℕ) (M : Checked model names) where
-  pub component-fits : (i w : ℕ) → i < components model → w ≡ componentWord model i → (24 * nameOf w + 24 ≤ length names) × (parentOf w < 64)
+  pub component-fits : (i w : ℕ) → i < components model → w ≡ componentWord model i → (24 * componentName w + 24 ≤ length names) × (parentOf w < 64)
   component-fits i w h e =
       let n = M .name i h in
       let p = M .parent i h in
       let z = M .sizes .c-max in
       rw e (omega (arith, M .names-len), omega arith)
 
-  pub item-fits : (j w : ℕ) → j < items model → w ≡ itemWord model j → (24 * nameOf w + 24 ≤ length names) × (componentOf w < 64)
+  pub item-fits : (j w : ℕ) → j < items model → w ≡ itemWord model j → (24 * itemName w + 24 ≤ length names) × (componentOf w < 64)
   item-fits j w h e =
       let n = M .item-name j h in
       let p = M .component j h in

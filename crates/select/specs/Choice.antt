@@ -3,14 +3,14 @@ use Prim.Native.Nat.{ℕ, _^_, _<_}
 use mathlib.Core.Bool.{Bool, cond, not, _&&_, _||_}
 use mathlib.Core.List.{List}
 use Rattle.spec.specs.Words.{bit}
-use Rattle.spec.specs.Model.{componentOf, nameOf, itemWord}
+use Rattle.spec.specs.Model.{componentOf, itemName, itemWord}
 use Rattle.spec.specs.Path.{isNamed, selectSubtree, selectTyped}
 use Rattle.spec.specs.declared.Selection.{Selection}
 use Rattle.spec.specs.declared.Selection.the-variants.{Items, NotFound}
 
 -- an item, by its word, is of a component in the set and, where `typed` asks for it, of item type y
 unfoldable pub taken : List ℕ → ℕ → Bool → List ℕ → ℕ → Bool
-taken names set typed y word = bit set (componentOf word) && (not typed || isNamed names (nameOf word) y)
+taken names set typed y word = bit set (componentOf word) && (not typed || isNamed names (itemName word) y)
 
 -- item j is
 unfoldable pub chosen : List ℕ → List ℕ → ℕ → Bool → List ℕ → ℕ → Bool

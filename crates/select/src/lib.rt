@@ -6,7 +6,7 @@ ghost use Prim.Native.Nat.{_+_, _*_, _^_, _<_, _≤_};
 ghost use lib.Count.{ones};
 ghost use lib.ListN.{length};
 ghost use Rattle.spec.specs.Words.{bit, setOf};
-ghost use Rattle.spec.specs.Model.{Checked, parentOf, nameOf, componentOf, components, items};
+ghost use Rattle.spec.specs.Model.{Checked, parentOf, componentName, componentOf, itemName, components, items};
 ghost use Rattle.spec.specs.Path.{isNamed, under, anyItem, select};
 ghost use Rattle.select.specs.Choice.{taken, chosen, byNames, SelectionFits};
 use path::PathForm;
@@ -65,8 +65,8 @@ fn is_named(names: &[u8], k: u64, t: &[u8]) -> bool
 
 // Whether a component, by its word, has type name t or a parent in the set.
 fn joins(names: &[u8], word: u64, t: &[u8], set: u64) -> bool
-    requires { ⌜ (24 * nameOf word + 24 ≤ length (now names)) × (parentOf word < 64) ⌝ }
-    ensures { λ r. ⌜ r ≡ (isNamed (now (names .entry)) (nameOf word) (now (t .entry)) || bit set (parentOf word)) ⌝ }
+    requires { ⌜ (24 * componentName word + 24 ≤ length (now names)) × (parentOf word < 64) ⌝ }
+    ensures { λ r. ⌜ r ≡ (isNamed (now (names .entry)) (componentName word) (now (t .entry)) || bit set (parentOf word)) ⌝ }
 {
     if is_named(names, word % 256, t) {
         return true;
@@ -92,7 +92,7 @@ fn under_type(model: &[u32], names: &[u8], t: &[u8]) -> u64
 
 // Whether an item, by its word, is of a component in the set and, where `typed` asks for it, of item type y.
 fn takes(names: &[u8], word: u64, set: u64, typed: bool, y: &[u8]) -> bool
-    requires { ⌜ (24 * nameOf word + 24 ≤ length (now names)) × (componentOf word < 64) ⌝ }
+    requires { ⌜ (24 * itemName word + 24 ≤ length (now names)) × (componentOf word < 64) ⌝ }
     ensures { λ r. ⌜ r ≡ taken (now (names .entry)) set typed (now (y .entry)) word ⌝ }
 {
     if !has(set, word / 256 % 256) {

@@ -255,7 +255,7 @@ module _ (model names : List ℕ) (p : State) (st : List ℕ) (G : Good model na
     asset = record { id = id; content = content }
 
     asset-ok : Ok asset
-    unfolding assetOk bodyOk asset
+    unfolding assetOk bodyOk lengthOk asset
     asset-ok =
         let b = and-right (idOk id) _ ok in
         (and-left (idOk id) _ ok, leb-true 1 (length content) (and-left (leb 1 (length content)) _ b), leb-true (length content) 510 (and-right (leb 1 (length content)) _ b))

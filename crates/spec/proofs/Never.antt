@@ -15,6 +15,7 @@ use Rattle.spec.specs.Text.Word.{sampleWord, currentWord, assetWord, ass
 use Rattle.spec.specs.Text.Request.{sample, current, currentAt, assets, allAssets}
 use Rattle.spec.specs.Text.Reading.{unread, asked}
 use Rattle.spec.specs.Path.{select}
+use Rattle.spec.specs.Answers.{refusalNumber}
 use Rattle.spec.specs.Reply.{Replied, observationWords, assetWords, written, observationReply, assetReply}
 use Rattle.spec.specs.Reference.{State, newest, eqValue, spent, firstOf, lastOf, outside, sampleStart, allHeld, observeAnswer, storeAnswer, sampleFor, currentFor, atFor, selected, replyTo, replyReading, beginAnswer}
 use Rattle.spec.specs.Reference
@@ -38,21 +39,7 @@ use Rattle.spec.proofs.History.{answers}
 
 -- refusal 2
 abbrev isStore : Refusal → Bool
-isStore Model = false
-isStore Store = true
-isStore Size = false
-isStore Item = false
-isStore Kind = false
-isStore Spent = false
-isStore InvalidUri = false
-isStore InvalidRequest = false
-isStore Unsupported = false
-isStore TooMany = false
-isStore InvalidXpath = false
-isStore OutOfRange = false
-isStore AssetNotFound = false
-isStore Asset = false
-isStore Space = false
+isStore r = eqb (refusalNumber r) 2
 
 -- an answer is not refusal 2
 abbrev pub answerFree : Answer → Bool

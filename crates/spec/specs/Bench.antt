@@ -5,6 +5,8 @@ use mathlib.Core.List.{List, [], _∷_, _++_, map}
 use lib.IntN.{ℤ, pos, negsuc}
 use lib.ListN.{length, drop, replicate}
 use Rattle.spec.specs.Bytes.{bytes, pad}
+use Rattle.spec.specs.Observations.{storeWords}
+use Rattle.spec.specs.Assets.{storeBytes}
 use Rattle.spec.specs.Reply.{Replied, over}
 use Rattle.spec.specs.Calls
 use Rattle.spec.specs.Reference
@@ -36,10 +38,17 @@ unfoldable pub storesAfter : List ℕ → List ℕ → Stores → List Call → 
 storesAfter model names s [] = s
 storesAfter model names s (c ∷ cs) = storesAfter model names (storesNext model names s c) cs
 
--- the stores behind the bench case's start and observes, made in 22 words and 546 bytes
+-- words and bytes of the two stores
+abbrev pub benchWords : ℕ
+benchWords = storeWords 3 2
+
+abbrev pub benchBytes : ℕ
+benchBytes = storeBytes 1
+
+-- the stores behind the bench case's start and observes, made from zeros
 unfoldable pub benchStores : Stores
 benchStores =
-    let r = Calls.start benchModel benchNames (replicate 22 0) (replicate 546 0) 3 1 1 1000 in
+    let r = Calls.start benchModel benchNames (replicate benchWords 0) (replicate benchBytes 0) 3 1 1 1000 in
     storesAfter benchModel benchNames (record { observations = r .observations; assets = r .assets }) benchObserves
 
 -- what the bench case gives for one request: the answer and the whole buffer, of which program benchcase prints the reply's words

@@ -1,4 +1,36 @@
-// The types that the calls take and answer. What they mean stands in specs/.
+// The bounds and sizes that the code shares, and the types that the calls take and answer. What they mean stands in specs/, where
+// each bound has its name too.
+
+// Items and components of a model; the lengths of arrays with a place for each.
+pub const MAX_ITEMS: u64 = 64;
+
+pub const ITEM_SLOTS: usize = MAX_ITEMS as usize;
+
+pub const MAX_COMPONENTS: u64 = 64;
+
+// Names: bytes of a cell, and cells.
+pub const NAME_BYTES: usize = 24;
+
+pub const MAX_NAMES: usize = 256;
+
+// Sequence numbers, and observations of a ring.
+pub const MAX_NUMBER: u64 = 9223372036854775807;
+
+pub const MAX_RING: u64 = 131072;
+
+// Assets: cells of a store, bytes of an id's cell and of a body's cell, bytes of the longest body.
+pub const MAX_ASSETS: u64 = 128;
+
+pub const ASSET_SLOTS: usize = MAX_ASSETS as usize;
+
+pub const ID_BYTES: usize = 32;
+
+pub const CELL_BYTES: usize = 512;
+
+pub const MAX_BODY: u64 = 510;
+
+// How many numbers a sample considers where no count is given.
+pub const DEFAULT_COUNT: u64 = 100;
 
 // A condition's level.
 pub enum Level {
