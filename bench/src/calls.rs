@@ -97,6 +97,20 @@ pub fn sample_by_path(stage: &Stage) -> Request {
     Request { ring_words, ..Request::new("sample of 100, with a path", text, 0, SOME) }
 }
 
+/// The longest reply: every number that the ring holds.
+pub fn sample_all(stage: &Stage) -> Request {
+    let rows = stage.shape.n as u64;
+    let text = format!("/sample?count={rows}");
+    let ring_words = stage.entry_words(stage.held());
+    Request { ring_words, ..Request::new("sample of 131,072, all", text, 0, rows) }
+}
+
+pub fn sample_all_by_path(stage: &Stage) -> Request {
+    let text = format!("/sample?count={}&path={PATH}", stage.shape.n);
+    let ring_words = stage.packed_words(stage.held());
+    Request { ring_words, ..Request::new("sample of 131,072, with a path", text, 0, SOME) }
+}
+
 /// As many rows as there are, but at least one.
 const SOME: u64 = u64::MAX;
 
@@ -109,6 +123,13 @@ pub fn current_at(stage: &Stage) -> Request {
     let ring_words = stage.packed_words(stage.first()..at + 1);
     let text = format!("/current?at={at}");
     Request { ring_words, ..Request::new("current?at, middle of the ring", text, 0, SOME) }
+}
+
+/// The longest pass that `at` can ask for.
+pub fn current_at_last(stage: &Stage) -> Request {
+    let ring_words = stage.packed_words(stage.held());
+    let text = format!("/current?at={}", stage.last());
+    Request { ring_words, ..Request::new("current?at, the last number", text, 0, stage.shape.m as u64) }
 }
 
 pub fn named_assets() -> Request {

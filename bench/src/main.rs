@@ -59,8 +59,11 @@ fn calls_of_a_full_box(rounds: usize, wanted: &str) -> Vec<Row> {
     let stage = Stage::new(Shape::LARGEST);
     rows.add(&calls::sample(&stage), &stage);
     rows.add(&calls::sample_by_path(&stage), &stage);
+    rows.add(&calls::sample_all(&stage), &stage);
+    rows.add(&calls::sample_all_by_path(&stage), &stage);
     rows.add(&calls::current(&stage), &stage);
     rows.add(&calls::current_at(&stage), &stage);
+    rows.add(&calls::current_at_last(&stage), &stage);
     rows.add(&calls::named_assets(), &stage);
     rows.add(&calls::all_assets(), &stage);
     rows.add(&calls::refused_text(), &stage);

@@ -54,7 +54,7 @@ impl Stage {
             names: names(shape.cells),
             observations: vec![0; observation_words(shape.n, shape.m)],
             assets: vec![0; asset_bytes(shape.a)],
-            reply: vec![0; 4 + 3 * 128],
+            reply: vec![0; 4 + 3 * shape.n.max(128)],
         };
         stage.begin();
         stage.fill_assets();
@@ -94,6 +94,11 @@ impl Stage {
 
     pub fn first(&self) -> u64 {
         self.last() + 1 - self.shape.n as u64
+    }
+
+    /// Every number that the ring holds.
+    pub fn held(&self) -> Range<u64> {
+        self.first()..self.last() + 1
     }
 
     /// The number in the middle of the ring.
