@@ -7,13 +7,18 @@
 
 enum { N = 4, A = 2, COMPONENTS = 2, ITEMS = 4, ROWS = 16 };
 
-static const uint8_t names[][MTCORE_NAME] = {"Device", "Axes", "AVAILABILITY", "POSITION", "OVERTRAVEL", "ASSET_CHANGED"};
+static const uint8_t names[][MTCORE_NAME] = {"Device",   "Axes",       "AVAILABILITY",
+                                             "POSITION", "OVERTRAVEL", "ASSET_CHANGED"};
 
 static const uint32_t model[2 + COMPONENTS + ITEMS] = {
-    COMPONENTS, ITEMS,
-    MTCORE_COMPONENT(0, 0), MTCORE_COMPONENT(0, 1),
-    MTCORE_DATA_ITEM(MTCORE_CATEGORY_EVENT, 0, 2), MTCORE_DATA_ITEM(MTCORE_CATEGORY_SAMPLE, 1, 3),
-    MTCORE_DATA_ITEM(MTCORE_CATEGORY_CONDITION, 1, 4), MTCORE_DATA_ITEM(MTCORE_CATEGORY_ASSET_CHANGE, 0, 5),
+    COMPONENTS,
+    ITEMS,
+    MTCORE_COMPONENT(0, 0),
+    MTCORE_COMPONENT(0, 1),
+    MTCORE_DATA_ITEM(MTCORE_CATEGORY_EVENT, 0, 2),
+    MTCORE_DATA_ITEM(MTCORE_CATEGORY_SAMPLE, 1, 3),
+    MTCORE_DATA_ITEM(MTCORE_CATEGORY_CONDITION, 1, 4),
+    MTCORE_DATA_ITEM(MTCORE_CATEGORY_ASSET_CHANGE, 0, 5),
 };
 
 static uint64_t observations[MTCORE_OBSERVATION_WORDS(N, ITEMS)];
@@ -37,24 +42,28 @@ static void observe(const char *what, uint64_t item, uint64_t ms, uint64_t value
 }
 
 static void store(const char *id, const char *body) {
-    uint64_t word = mtcore_store_asset(MODEL, observations, COUNT(observations), assets, sizeof assets,
-                                       (const uint8_t *)id, strlen(id), (const uint8_t *)body, strlen(body), seven + 400);
+    uint64_t word =
+        mtcore_store_asset(MODEL, observations, COUNT(observations), assets, sizeof assets, (const uint8_t *)id,
+                           strlen(id), (const uint8_t *)body, strlen(body), seven + 400);
     if (mtcore_refusal_of(word) != 0)
         printf("store   %-20s refused: %u\n", id, mtcore_refusal_of(word));
     else
         printf("store   %-20s cell %" PRIu64 "\n", id, word);
 }
 
-/* item * 2^40 + kind * 2^32 + low */
+/* the core takes stores as they stand: item, kind and level are tested before one of them is an index */
 static void print_packed(uint64_t packed) {
     static const char *const levels[] = {"normal", "warning", "fault"};
-    uint32_t low = (uint32_t)packed, level = low >> 24;
-    printf("%-14.24s ", (const char *)names[model[2 + COMPONENTS + (packed >> 40)] & 255]);
-    switch (packed >> 32 & 255) {
-    case 0: printf("unavailable\n"); break;
-    case 1: printf("%.3f\n", (int32_t)low / 1000.0); break;
-    case 2: printf("code %" PRIu32 "\n", low); break;
-    case 3: printf("%s %" PRIu32 "\n", level < COUNT(levels) ? levels[level] : "?", low & 0xffffff); break;
+    if (!mtcore_packed_ok(ITEMS, packed)) {
+        printf("damaged\n");
+        return;
+    }
+    printf("%-14.24s ", mtcore_item_name(MODEL, mtcore_item_of(packed)));
+    switch (mtcore_kind_of(packed)) {
+    case MTCORE_VALUE_UNAVAILABLE: printf("unavailable\n"); break;
+    case MTCORE_VALUE_SAMPLE: printf("%.3f\n", mtcore_sample_of(packed) / 1000.0); break;
+    case MTCORE_VALUE_EVENT: printf("code %" PRIu32 "\n", mtcore_code_of(packed)); break;
+    default: printf("%s %" PRIu32 "\n", levels[mtcore_level_of(packed)], mtcore_code_of(packed)); break;
     }
 }
 
@@ -66,11 +75,12 @@ static void ask(const char *text) {
         printf("  refused: %" PRIu64 "\n", r.number);
         return;
     }
-    printf("  first %" PRIu64 ", last %" PRIu64 ", next %" PRIu64 "\n", reply[1], reply[2], reply[3]);
+    printf("  first %" PRIu64 ", last %" PRIu64 ", next %" PRIu64 "\n", mtcore_reply_first(reply),
+           mtcore_reply_last(reply), mtcore_reply_next(reply));
     for (uint64_t i = 0; i < r.count; i++) {
-        const uint64_t *pair = reply + 4 + r.count + 2 * i;
-        printf("  %3" PRIu64 "  07:00:00.%03u  ", reply[4 + i], (unsigned)(pair[0] - seven));
-        print_packed(pair[1]);
+        mtcore_row row = mtcore_reply_row(reply, i);
+        printf("  %3" PRIu64 "  07:00:00.%03u  ", row.number, (unsigned)(row.time - seven));
+        print_packed(row.packed);
     }
 }
 

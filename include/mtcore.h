@@ -1,8 +1,9 @@
 /*
  * mtcore.h - the core of an MTConnect agent: observations, tool records (assets) and requests.
  *
- * Link with libmtcore.a (x86-64 Linux). The core has no heap, no threads, no global state: all that it
- * keeps stands in two stores, buffers that the caller owns and hands to every call.
+ * Link with libmtcore.a (x86-64 Linux). It wants memcpy, memmove and memset at link time and nothing else: any C
+ * library has them, and a host without one brings its own three. The core has no heap, no threads, no global state:
+ * all that it keeps stands in two stores, buffers that the caller owns and hands to every call.
  *
  * For every function:
  *
@@ -18,7 +19,9 @@
  *   another process, and used on without a start. Nobody else should write them.
  * - The same model and names go with the same stores, from mtcore_start on.
  *
- * Times are milliseconds since 1970-01-01T00:00:00Z.
+ * Times are milliseconds since 1970-01-01T00:00:00Z. docs/HOST.md says what each request means, with replies, how
+ * much memory, stack and time a call takes, and what a host does about each refusal; docs/LIMITS.md what of
+ * MTConnect is not here.
  */
 #ifndef MTCORE_H
 #define MTCORE_H
@@ -30,11 +33,22 @@
 extern "C" {
 #endif
 
+/* ---- version ---- */
+
+/* MAJOR moves where a host has to look at its own code, MINOR where something was added: CHANGELOG.md. Header and
+ * archive are taken from the same version; the archive does not hold a number of its own. */
+#define MTCORE_VERSION_MAJOR 1
+#define MTCORE_VERSION_MINOR 1
+
+/* Moves where the form of a store or of the model does. Saved stores outlive a version: save this number beside
+ * them, and start anew where it differs, since refusal 2 need not see another form. */
+#define MTCORE_LAYOUT 1
+
 /* ---- refusals ---- */
 
 enum mtcore_refusal {
     MTCORE_MODEL = 1,            /* model or names break their rules */
-    MTCORE_STORE = 2,            /* a store's head or length is wrong or of another model, or its contents are damaged */
+    MTCORE_STORE = 2,            /* a store's head or length is wrong or another model's, or an entry is damaged */
     MTCORE_SIZE = 3,             /* start: n, a or b outside its range, or a store's length */
     MTCORE_ITEM = 4,             /* the model has no such item */
     MTCORE_KIND = 5,             /* the item doesn't take this value */
@@ -43,7 +57,7 @@ enum mtcore_refusal {
     MTCORE_INVALID_REQUEST = 8,  /* text: unknown word, bad parameter, number or id list */
     MTCORE_UNSUPPORTED = 9,      /* text: probe, or interval */
     MTCORE_TOO_MANY = 10,        /* text: count above n */
-    MTCORE_INVALID_XPATH = 11,   /* text: path of another form, or of an unknown type */
+    MTCORE_INVALID_XPATH = 11,   /* text: path of another form or unknown type; the second form without items */
     MTCORE_OUT_OF_RANGE = 12,    /* text: from or at is no longer, or not yet, held */
     MTCORE_ASSET_NOT_FOUND = 13, /* text: an id isn't stored */
     MTCORE_ASSET = 14,           /* id or body break their rules */
@@ -54,18 +68,22 @@ enum mtcore_refusal {
 #define MTCORE_SAME UINT64_C(0)
 #define MTCORE_REFUSED (UINT64_C(1) << 63)
 
-/* The refusal in such a word: 1 to 15, or 0 where the call was not refused. */
+/* The refusal in such a word, or 0 where the call was not refused. A later version may have numbers above 15: a
+ * host treats a number that it doesn't know as a refusal all the same. */
 static inline unsigned mtcore_refusal_of(uint64_t word) {
-    return (word & MTCORE_REFUSED) != 0 ? (unsigned)(word & 15) : 0u;
+    return word >= MTCORE_REFUSED ? (unsigned)(word & 63) : 0u;
 }
 
 /* ---- sizes, in elements ---- */
 
-#define MTCORE_MAX_N 131072 /* observations in the ring */
-#define MTCORE_MAX_A 128    /* assets */
-#define MTCORE_MAX_BODY 510 /* bytes of a body */
-#define MTCORE_MAX_ID 32    /* bytes of an id */
-#define MTCORE_NAME 24      /* bytes of a name's cell */
+#define MTCORE_MAX_N 131072      /* observations in the ring */
+#define MTCORE_MAX_A 128         /* assets */
+#define MTCORE_MAX_BODY 510      /* bytes of a body */
+#define MTCORE_MAX_ID 32         /* bytes of an id */
+#define MTCORE_NAME 24           /* bytes of a name's cell */
+#define MTCORE_MAX_TEXT 256      /* bytes of a request's text */
+#define MTCORE_MAX_NAMED 125     /* ids that /asset/ID;ID.. has room for */
+#define MTCORE_DEFAULT_COUNT 100 /* a sample's count where the text has none */
 
 /* uint64_t words of the observation store, for a ring of n observations and m items */
 #define MTCORE_OBSERVATION_WORDS(n, m) (4 + 2 * (size_t)(n) + 6 * (size_t)(m))
@@ -77,34 +95,98 @@ static inline unsigned mtcore_refusal_of(uint64_t word) {
 #define MTCORE_REPLY_WORDS(k) (4 + 3 * (size_t)(k))
 #define MTCORE_ASSET_REPLY_WORDS(k) (4 + 2 * (size_t)(k))
 
+/* uint64_t words that are enough for any reply to /sample with this count (0: the text has none), in a ring of n;
+ * to /current, with m items; to /assets and /asset/.., with a assets */
+static inline size_t mtcore_sample_words(uint64_t n, uint64_t count) {
+    uint64_t rows = count == 0 ? MTCORE_DEFAULT_COUNT : count;
+    return MTCORE_REPLY_WORDS(rows < n ? rows : n);
+}
+
+static inline size_t mtcore_current_words(uint64_t m) {
+    return MTCORE_REPLY_WORDS(m);
+}
+
+static inline size_t mtcore_assets_words(uint64_t a) {
+    return MTCORE_ASSET_REPLY_WORDS(a > MTCORE_MAX_NAMED ? a : MTCORE_MAX_NAMED);
+}
+
 /* ---- values, as mtcore_observe takes them: kind * 2^32 + low ---- */
 
 #define MTCORE_UNAVAILABLE UINT64_C(0)
 
-/* a sample, in thousandths of the item's unit */
+/* a sample, in thousandths of the item's unit: -2,147,483.648 to 2,147,483.647; what is finer the caller rounds,
+ * what is beyond it reports as MTCORE_UNAVAILABLE or as a condition (docs/HOST.md, "Values") */
 static inline uint64_t mtcore_sample(int32_t thousandths) {
     return (UINT64_C(1) << 32) + (uint32_t)thousandths;
 }
 
-/* an event's code */
+/* an event's code; what the code means, a text among them, is the caller's table */
 static inline uint64_t mtcore_event(uint32_t code) {
     return (UINT64_C(2) << 32) + code;
 }
 
 enum mtcore_level { MTCORE_NORMAL = 0, MTCORE_WARNING = 1, MTCORE_FAULT = 2 };
 
-/* a condition's level with its native code, below 2^24, and 0 for MTCORE_NORMAL; a code of 2^24 or more makes a word
- * that every item refuses with MTCORE_KIND */
+/* a condition's level with its native code, below 2^24, and 0 for MTCORE_NORMAL; a code of 2^24 or more makes a
+ * word that every item refuses with MTCORE_KIND */
 static inline uint64_t mtcore_condition(enum mtcore_level level, uint32_t native_code) {
     return native_code < (UINT32_C(1) << 24) ? (UINT64_C(3) << 32) + ((uint64_t)level << 24) + native_code
                                              : UINT64_C(4) << 32;
 }
 
+/* ---- packed words, as the rows of a reply hold them: item * 2^40 + kind * 2^32 + low ---- */
+
+enum mtcore_value_kind {
+    MTCORE_VALUE_UNAVAILABLE = 0,
+    MTCORE_VALUE_SAMPLE = 1,
+    MTCORE_VALUE_EVENT = 2,
+    MTCORE_VALUE_CONDITION = 3
+};
+
+/* the item, which is below m in every word of stores that only this library wrote */
+static inline uint64_t mtcore_item_of(uint64_t packed) {
+    return packed >> 40;
+}
+
+/* an enum mtcore_value_kind, in such words */
+static inline unsigned mtcore_kind_of(uint64_t packed) {
+    return (unsigned)(packed >> 32 & 255);
+}
+
+/* the value as mtcore_observe takes it */
+static inline uint64_t mtcore_value_of(uint64_t packed) {
+    return packed & ((UINT64_C(1) << 40) - 1);
+}
+
+/* of a sample: thousandths of the item's unit */
+static inline int32_t mtcore_sample_of(uint64_t packed) {
+    uint32_t low = (uint32_t)packed;
+    return low <= (uint32_t)INT32_MAX ? (int32_t)low : -(int32_t)(UINT32_MAX - low) - 1;
+}
+
+/* of a condition: an enum mtcore_level, in such words */
+static inline unsigned mtcore_level_of(uint64_t packed) {
+    return (unsigned)((uint32_t)packed >> 24);
+}
+
+/* of an event: its code, of an asset change item the cell; of a condition: its native code */
+static inline uint32_t mtcore_code_of(uint64_t packed) {
+    uint32_t low = (uint32_t)packed;
+    return mtcore_kind_of(packed) == MTCORE_VALUE_CONDITION ? low & ((UINT32_C(1) << 24) - 1) : low;
+}
+
+/* Whether item (of m), kind and level of the word are ones that there are. The core takes saved stores as they
+ * stand, so a caller that restores them asks this of a row before it uses one of the three as an index. */
+static inline int mtcore_packed_ok(uint64_t m, uint64_t packed) {
+    return mtcore_item_of(packed) < m && mtcore_kind_of(packed) <= MTCORE_VALUE_CONDITION &&
+           (mtcore_kind_of(packed) != MTCORE_VALUE_CONDITION || mtcore_level_of(packed) <= MTCORE_FAULT);
+}
+
 /* ---- model and names, which every call but mtcore_body takes ----
  *
- * model: word 0 is c (components, 1 to 64), word 1 is m (items, 1 to 64), then c component words, then m item words;
- * exactly 2 + c + m words. names: cells of MTCORE_NAME bytes, 1 to 256 of them, each 1 to 24 letters, digits or '_', then
- * zeros. Name and component are indices, counted from 0.
+ * model: word 0 is c (components, 1 to 64), word 1 is m (items, 1 to 64), then c component words, then m item
+ * words; exactly 2 + c + m words. names: cells of MTCORE_NAME bytes, 1 to 256 of them, each 1 to 24 letters, digits
+ * or '_', then zeros. Name and component are indices, counted from 0.
  */
 
 /* parent * 256 + name; component 0 has parent 0, every other parent is below its own index */
@@ -121,6 +203,135 @@ enum mtcore_category {
     MTCORE_CATEGORY_ASSET_CHANGE = 3
 };
 
+/* The type name of an item, at most MTCORE_NAME bytes and behind a shorter one zeros: print it with %.24s. An empty
+ * text where model and names have none. */
+static inline const char *mtcore_item_name(const uint32_t *model, size_t model_len, const uint8_t *names,
+                                           size_t names_len, uint64_t item) {
+    size_t place, cell;
+    if (model_len < 2 || item >= model[1] || item >= model_len || model[0] >= model_len)
+        return "";
+    place = 2 + (size_t)model[0] + (size_t)item;
+    if (place >= model_len)
+        return "";
+    cell = model[place] & 255;
+    return cell < names_len / MTCORE_NAME ? (const char *)(names + MTCORE_NAME * cell) : "";
+}
+
+/* ---- replies, taken apart: only after mtcore_request has answered 0 ---- */
+
+/* the rows of any reply: k */
+static inline uint64_t mtcore_reply_count(const uint64_t *reply) {
+    return reply[0];
+}
+
+/* of observations: the lowest number held, the newest number, and the number that the client goes on from */
+static inline uint64_t mtcore_reply_first(const uint64_t *reply) {
+    return reply[1];
+}
+
+static inline uint64_t mtcore_reply_last(const uint64_t *reply) {
+    return reply[2];
+}
+
+static inline uint64_t mtcore_reply_next(const uint64_t *reply) {
+    return reply[3];
+}
+
+/* a row of observations */
+typedef struct {
+    uint64_t number;
+    uint64_t time;
+    uint64_t packed;
+} mtcore_row;
+
+/* row i, counted from 0; all zeros where there is no such row */
+static inline mtcore_row mtcore_reply_row(const uint64_t *reply, uint64_t i) {
+    mtcore_row row = {0, 0, 0};
+    if (i < reply[0]) {
+        row.number = reply[4 + i];
+        row.time = reply[4 + reply[0] + 2 * i];
+        row.packed = reply[4 + reply[0] + 2 * i + 1];
+    }
+    return row;
+}
+
+/* of assets: cells in use, and cells that there are */
+static inline uint64_t mtcore_reply_used(const uint64_t *reply) {
+    return reply[1];
+}
+
+static inline uint64_t mtcore_reply_cells(const uint64_t *reply) {
+    return reply[2];
+}
+
+/* a row of assets */
+typedef struct {
+    uint64_t cell;
+    uint64_t length; /* of the body */
+} mtcore_asset_row;
+
+/* row i, counted from 0; where there is no such row a cell that no store has, and length 0 */
+static inline mtcore_asset_row mtcore_reply_asset(const uint64_t *reply, uint64_t i) {
+    mtcore_asset_row row = {UINT64_MAX, 0};
+    if (i < reply[0]) {
+        row.cell = reply[4 + i];
+        row.length = reply[4 + reply[0] + i];
+    }
+    return row;
+}
+
+/* ---- cells of the asset store, oldest asset first, counted from 0 ----
+ *
+ * A cell is a place, not a name: mtcore_store_asset moves the cells behind the one it gives up down by one, so the
+ * cell of a reply or of an asset change event means its asset only until the next mtcore_store_asset.
+ */
+
+/* bytes of the asset store itself; NULL and 0 where there are none */
+typedef struct {
+    const uint8_t *bytes;
+    size_t length;
+} mtcore_bytes;
+
+/* where the ids' cells of 32 bytes begin, and the bodies' of 512 */
+#define MTCORE_ID_PLACE(cell) (2 + MTCORE_MAX_ID * (size_t)(cell))
+#define MTCORE_BODY_PLACE(a, cell) (2 + MTCORE_MAX_ID * (size_t)(a) + (2 + MTCORE_MAX_BODY) * (size_t)(cell))
+
+/* whether the store has the head and the length of one, and this cell is in use */
+static inline int mtcore_cell_used(const uint8_t *assets, size_t assets_len, uint64_t cell) {
+    return assets_len >= 2 && assets[0] >= 1 && assets[0] <= MTCORE_MAX_A && assets[1] <= assets[0] &&
+           assets_len == MTCORE_ASSET_BYTES(assets[0]) && cell < assets[1];
+}
+
+/* the id of a cell; nothing where the cell isn't in use or its id is empty */
+static inline mtcore_bytes mtcore_cell_id(const uint8_t *assets, size_t assets_len, uint64_t cell) {
+    mtcore_bytes id = {NULL, 0};
+    const uint8_t *bytes;
+    if (!mtcore_cell_used(assets, assets_len, cell))
+        return id;
+    bytes = assets + MTCORE_ID_PLACE(cell);
+    while (id.length < MTCORE_MAX_ID && bytes[id.length] != 0)
+        id.length++;
+    if (id.length > 0)
+        id.bytes = bytes;
+    return id;
+}
+
+/* the body of a cell; nothing where the cell isn't in use or its length isn't 1 to MTCORE_MAX_BODY */
+static inline mtcore_bytes mtcore_cell_body(const uint8_t *assets, size_t assets_len, uint64_t cell) {
+    mtcore_bytes body = {NULL, 0};
+    const uint8_t *bytes;
+    size_t length;
+    if (!mtcore_cell_used(assets, assets_len, cell))
+        return body;
+    bytes = assets + MTCORE_BODY_PLACE(assets[0], cell);
+    length = bytes[0] * (size_t)256 + bytes[1];
+    if (length >= 1 && length <= MTCORE_MAX_BODY) {
+        body.bytes = bytes + 2;
+        body.length = length;
+    }
+    return body;
+}
+
 /* ---- the five calls ---- */
 
 /* number 0 and the count k of rows (0 for a start); or the refusal's number and 0 */
@@ -136,8 +347,8 @@ typedef struct {
 } mtcore_part;
 
 /*
- * Makes both stores anew, whatever stood in them: a ring of n observations, room for a assets, and for each item in item
- * order one Unavailable, numbered from b on, at the time `host`.
+ * Makes both stores anew, whatever stood in them: a ring of n observations, room for a assets, and for each item in
+ * item order one Unavailable, numbered from b on, at the time `host`.
  *
  * Takes: n 1 to MTCORE_MAX_N, a 1 to MTCORE_MAX_A, b at least 1 and at most 2^63 - m; observations of exactly
  * MTCORE_OBSERVATION_WORDS(n, m) words, assets of exactly MTCORE_ASSET_BYTES(a) bytes.
@@ -152,24 +363,26 @@ mtcore_answer mtcore_start(const uint32_t *model, size_t model_len, const uint8_
  * Records an observation of an item, unless the item's newest observation has this value already.
  *
  * Takes: item 0 to m - 1; time, or 0 where it is missing: then `host` is used (times need not rise); value, made by
- * MTCORE_UNAVAILABLE, mtcore_sample, mtcore_event or mtcore_condition. An item takes Unavailable or its category's kind; an
- * asset change item takes nothing here.
- * Gives: the observation's sequence number, or MTCORE_SAME where nothing was added; or MTCORE_REFUSED + the refusal.
- * Refuses, in this order: MTCORE_MODEL, MTCORE_STORE, MTCORE_ITEM, MTCORE_KIND, (Same,) MTCORE_SPENT, MTCORE_STORE (the
- * entry about to be overwritten is damaged).
+ * MTCORE_UNAVAILABLE, mtcore_sample, mtcore_event or mtcore_condition. An item takes Unavailable or its category's
+ * kind; an asset change item takes nothing here.
+ * Gives: the observation's sequence number, or MTCORE_SAME where nothing was added, the time neither; or
+ * MTCORE_REFUSED + the refusal.
+ * Refuses, in this order: MTCORE_MODEL, MTCORE_STORE, MTCORE_ITEM, MTCORE_KIND, (Same,) MTCORE_SPENT, MTCORE_STORE
+ * (the entry about to be overwritten is damaged).
  */
 uint64_t mtcore_observe(const uint32_t *model, size_t model_len, const uint8_t *names, size_t names_len,
                         uint64_t *observations, size_t observations_len,
                         uint64_t item, uint64_t time, uint64_t host, uint64_t value);
 
 /*
- * Stores an asset: in place of the one with its id, in a free cell, or in place of the one that was stored longest ago. If
- * the model has an asset change item, an event for it is recorded at the time `host`; its code is the asset's cell.
+ * Stores an asset as the newest: in place of the one with its id, in a free cell, or in place of the one that was
+ * stored longest ago. The cells behind the one given up move down by one. If the model has an asset change item, an
+ * event for it is recorded at the time `host`; its code is the asset's cell.
  *
  * Takes: id of 1 to MTCORE_MAX_ID bytes of 33..126 without ';', '/' and '?'; body of 1 to MTCORE_MAX_BODY bytes.
  * Gives: the cell that now holds it, the newest one; or MTCORE_REFUSED + the refusal.
- * Refuses, in this order: MTCORE_MODEL, MTCORE_STORE, MTCORE_ASSET and, if it records an event, MTCORE_SPENT, MTCORE_STORE
- * as mtcore_observe.
+ * Refuses, in this order: MTCORE_MODEL, MTCORE_STORE, MTCORE_ASSET and, if it records an event, MTCORE_SPENT,
+ * MTCORE_STORE as mtcore_observe.
  */
 uint64_t mtcore_store_asset(const uint32_t *model, size_t model_len, const uint8_t *names, size_t names_len,
                             uint64_t *observations, size_t observations_len, uint8_t *assets, size_t assets_len,
@@ -178,21 +391,31 @@ uint64_t mtcore_store_asset(const uint32_t *model, size_t model_len, const uint8
 /*
  * Answers a request into the reply buffer.
  *
- * Takes: text, the request's path and query with percent escapes decoded, 1 to 256 bytes:
- *     /sample?from=..&count=..&path=..     every part may be absent; from: first held, count: 100, path: all items
- *     /current?at=..&path=..               every part may be absent; at: now, path: all items
- *     /asset/ID;ID..   /assets
- * with a path //T or //T//DataItem[@type="Y"].
+ * Takes: text, the request's path and query with percent escapes decoded, 1 to MTCORE_MAX_TEXT bytes of 33..126; case
+ * matters. Every parameter may be absent, in any order, none twice:
+ *
+ *     /sample?from=..&count=..&path=..   The numbers from `from` (0 or absent: the lowest held) up to `count` of them
+ *         (absent: 100), but not beyond the newest, are considered; the rows are those of them that the path selects,
+ *         by rising number. `next` is the number behind the last one considered, so no rows with a next below
+ *         last + 1 is ordinary: the client goes on from next. from = last + 1 is accepted, with no rows.
+ *     /current?at=..&path=..             A row for each selected item, in item order: its newest observation, or its
+ *         newest numbered at or below `at`; an item that has none is left out. `next` is last + 1 either way.
+ *     /asset/ID;ID..                     A row for each id, in the text's order, repeats kept.
+ *     /assets                            Every asset, the newest first.
+ *
+ * path is //T, the items of every component of type T and of all below it, or //T//DataItem[@type="Y"], those of them
+ * that have the type Y. T has to be a component's type; the second form has to select an item, the first need not.
+ *
  * Gives: 0 and the number of rows k. The reply's words, of observations MTCORE_REPLY_WORDS(k):
  *     k, first, last, next; k sequence numbers; k pairs of a time and a packed value (item * 2^40 + kind * 2^32 + low)
  * and of assets MTCORE_ASSET_REPLY_WORDS(k):
  *     k, used, a, 0; k cells; k lengths of bodies
- * Words behind them stay. A reply needs room for at most max(m, min(count, n)) rows of observations (count 100 where it is
- * absent), or max(a, 125) of assets.
+ * Words behind them stay. mtcore_sample_words, mtcore_current_words and mtcore_assets_words say how many are enough;
+ * a shorter buffer is refused only where this reply doesn't fit.
  * Refuses, in this order: MTCORE_MODEL, MTCORE_STORE, MTCORE_INVALID_URI, MTCORE_INVALID_REQUEST (the word),
- * MTCORE_UNSUPPORTED (probe), MTCORE_INVALID_REQUEST, MTCORE_UNSUPPORTED (interval), MTCORE_TOO_MANY, MTCORE_INVALID_XPATH,
- * MTCORE_OUT_OF_RANGE, MTCORE_STORE (damaged entries), MTCORE_SPACE; for assets MTCORE_INVALID_REQUEST,
- * MTCORE_ASSET_NOT_FOUND, MTCORE_STORE, MTCORE_SPACE.
+ * MTCORE_UNSUPPORTED (probe), MTCORE_INVALID_REQUEST, MTCORE_UNSUPPORTED (interval), MTCORE_TOO_MANY,
+ * MTCORE_INVALID_XPATH, MTCORE_OUT_OF_RANGE, MTCORE_STORE (damaged entries), MTCORE_SPACE; for assets
+ * MTCORE_INVALID_REQUEST, MTCORE_ASSET_NOT_FOUND, MTCORE_STORE, MTCORE_SPACE.
  */
 mtcore_answer mtcore_request(const uint32_t *model, size_t model_len, const uint8_t *names, size_t names_len,
                              const uint64_t *observations, size_t observations_len,
@@ -200,11 +423,12 @@ mtcore_answer mtcore_request(const uint32_t *model, size_t model_len, const uint
                              const uint8_t *text, size_t text_len, uint64_t *reply, size_t reply_len);
 
 /*
- * Finds the body of an asset. It stands in the asset store itself, and stays there until the next store-asset or start.
+ * Finds the body of an asset. It stands in the asset store itself, and stays there until the next mtcore_store_asset
+ * or mtcore_start.
  *
  * Takes: the asset store and an id.
- * Gives: the part of the store that is the body; length 0 on any fault (a wrong store, no id, an id that isn't stored, a
- * damaged length).
+ * Gives: the part of the store that is the body; length 0 on any fault (a wrong store, no id, an id that isn't stored,
+ * a damaged length).
  */
 mtcore_part mtcore_body(const uint8_t *assets, size_t assets_len, const uint8_t *id, size_t id_len);
 

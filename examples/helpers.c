@@ -1,0 +1,172 @@
+/* Tries every helper of mtcore.h, as C and as C++: what goes in comes out again, and what isn't there gives
+ * nothing. Prints the number of trials, or the first that fails. */
+#include <stdio.h>
+#include <string.h>
+
+#include "mtcore.h"
+
+enum { N = 4, A = 2, ITEMS = 4 };
+
+static const char name_texts[][MTCORE_NAME] = {"Device", "EVENT", "SAMPLE", "CONDITION", "CHANGE"};
+static const uint8_t *const names = (const uint8_t *)name_texts[0];
+
+static const uint32_t model[] = {
+    1,
+    ITEMS,
+    MTCORE_COMPONENT(0, 0),
+    MTCORE_DATA_ITEM(MTCORE_CATEGORY_EVENT, 0, 1),
+    MTCORE_DATA_ITEM(MTCORE_CATEGORY_SAMPLE, 0, 2),
+    MTCORE_DATA_ITEM(MTCORE_CATEGORY_CONDITION, 0, 3),
+    MTCORE_DATA_ITEM(MTCORE_CATEGORY_ASSET_CHANGE, 0, 4),
+};
+
+static uint64_t observations[MTCORE_OBSERVATION_WORDS(N, ITEMS)];
+static uint8_t assets[MTCORE_ASSET_BYTES(A)];
+static uint64_t reply[MTCORE_REPLY_WORDS(MTCORE_MAX_NAMED)];
+
+#define COUNT(x) (sizeof(x) / sizeof((x)[0]))
+#define MODEL model, COUNT(model), names, sizeof name_texts
+#define ASSETS assets, sizeof assets
+
+static unsigned trials, failed;
+
+static void holds(int fact, int line) {
+    trials++;
+    if (!fact && failed++ == 0)
+        printf("helpers.c, line %d fails\n", line);
+}
+
+#define HOLDS(fact) holds(fact, __LINE__)
+
+static mtcore_answer ask(const char *text) {
+    return mtcore_request(MODEL, observations, COUNT(observations), ASSETS, (const uint8_t *)text, strlen(text),
+                          reply, COUNT(reply));
+}
+
+static uint64_t observe(uint64_t item, uint64_t value) {
+    return mtcore_observe(MODEL, observations, COUNT(observations), item, 7, 7, value);
+}
+
+static uint64_t store(const char *id, const char *body) {
+    return mtcore_store_asset(MODEL, observations, COUNT(observations), ASSETS, (const uint8_t *)id, strlen(id),
+                              (const uint8_t *)body, strlen(body), 8);
+}
+
+/* the packed word that current gives for an item */
+static uint64_t packed_of(uint64_t item) {
+    HOLDS(ask("/current").number == 0);
+    return mtcore_reply_row(reply, item).packed;
+}
+
+static int is(mtcore_bytes bytes, const char *text) {
+    return bytes.length == strlen(text) && memcmp(bytes.bytes, text, bytes.length) == 0;
+}
+
+static int none(mtcore_bytes bytes) {
+    return bytes.bytes == NULL && bytes.length == 0;
+}
+
+static void try_refusals(void) {
+    for (uint64_t number = 1; number < 64; number++)
+        HOLDS(mtcore_refusal_of(MTCORE_REFUSED + number) == number);
+    HOLDS(mtcore_refusal_of(MTCORE_SAME) == 0 && mtcore_refusal_of(MTCORE_REFUSED - 1) == 0);
+    HOLDS(mtcore_refusal_of(observe(ITEMS, 0)) == MTCORE_ITEM);
+}
+
+static void try_values(void) {
+    static const int32_t samples[] = {0, 1, -1, INT32_MAX, INT32_MIN};
+    for (size_t i = 0; i < COUNT(samples); i++) {
+        HOLDS(mtcore_refusal_of(observe(1, mtcore_sample(samples[i]))) == 0);
+        HOLDS(mtcore_item_of(packed_of(1)) == 1 && mtcore_kind_of(packed_of(1)) == MTCORE_VALUE_SAMPLE);
+        HOLDS(mtcore_sample_of(packed_of(1)) == samples[i]);
+        HOLDS(mtcore_value_of(packed_of(1)) == mtcore_sample(samples[i]));
+    }
+    HOLDS(mtcore_kind_of(packed_of(0)) == MTCORE_VALUE_UNAVAILABLE);
+    HOLDS(mtcore_refusal_of(observe(0, mtcore_event(UINT32_MAX))) == 0);
+    HOLDS(mtcore_kind_of(packed_of(0)) == MTCORE_VALUE_EVENT && mtcore_code_of(packed_of(0)) == UINT32_MAX);
+    HOLDS(mtcore_refusal_of(observe(2, mtcore_condition(MTCORE_FAULT, 0xffffff))) == 0);
+    HOLDS(mtcore_kind_of(packed_of(2)) == MTCORE_VALUE_CONDITION && mtcore_level_of(packed_of(2)) == MTCORE_FAULT);
+    HOLDS(mtcore_code_of(packed_of(2)) == 0xffffff);
+}
+
+static void try_packed_ok(void) {
+    const uint64_t item = UINT64_C(1) << 40, kind = UINT64_C(1) << 32;
+    HOLDS(mtcore_packed_ok(ITEMS, 0) && mtcore_packed_ok(ITEMS, packed_of(2)));
+    HOLDS(!mtcore_packed_ok(ITEMS, ITEMS * item) && !mtcore_packed_ok(ITEMS, UINT64_MAX));
+    HOLDS(!mtcore_packed_ok(ITEMS, 4 * kind) && mtcore_packed_ok(ITEMS, 2 * kind + UINT32_MAX));
+    HOLDS(mtcore_packed_ok(ITEMS, 3 * kind + 0x2ffffff) && !mtcore_packed_ok(ITEMS, 3 * kind + 0x3000000));
+}
+
+static void try_names(void) {
+    static const uint32_t wide[] = {UINT32_MAX, UINT32_MAX, 0, 0}, far[] = {1, 1, 0, 255};
+    HOLDS(strcmp(mtcore_item_name(MODEL, 3), "CHANGE") == 0);
+    HOLDS(mtcore_item_name(MODEL, ITEMS)[0] == 0 && mtcore_item_name(MODEL, UINT64_MAX)[0] == 0);
+    HOLDS(mtcore_item_name(wide, COUNT(wide), names, sizeof name_texts, 1)[0] == 0);
+    HOLDS(mtcore_item_name(far, COUNT(far), names, sizeof name_texts, 0)[0] == 0);
+    HOLDS(mtcore_item_name(NULL, 0, NULL, 0, 0)[0] == 0);
+}
+
+static void try_rows(void) {
+    mtcore_row row, no_row;
+    HOLDS(ask("/sample").number == 0 && mtcore_reply_count(reply) == N);
+    row = mtcore_reply_row(reply, N - 1);
+    no_row = mtcore_reply_row(reply, N);
+    HOLDS(row.number == mtcore_reply_last(reply) && row.time == 7 && mtcore_item_of(row.packed) == 2);
+    HOLDS(mtcore_reply_row(reply, 0).number == mtcore_reply_first(reply));
+    HOLDS(mtcore_reply_next(reply) == mtcore_reply_last(reply) + 1);
+    HOLDS(no_row.number == 0 && no_row.time == 0 && no_row.packed == 0);
+}
+
+static void try_cells(void) {
+    HOLDS(none(mtcore_cell_id(ASSETS, 0)) && none(mtcore_cell_body(ASSETS, 0)));
+    HOLDS(store("T1", "drill") == 0 && store("T2345678901234567890123456789012", "tap") == 1);
+    HOLDS(is(mtcore_cell_id(ASSETS, 0), "T1") && is(mtcore_cell_body(ASSETS, 0), "drill"));
+    HOLDS(is(mtcore_cell_id(ASSETS, 1), "T2345678901234567890123456789012") &&
+          is(mtcore_cell_body(ASSETS, 1), "tap"));
+    HOLDS(none(mtcore_cell_id(ASSETS, 2)) && none(mtcore_cell_body(ASSETS, UINT64_MAX)));
+    HOLDS(ask("/assets").number == 0 && mtcore_reply_count(reply) == 2);
+    HOLDS(mtcore_reply_used(reply) == 2 && mtcore_reply_cells(reply) == A);
+    HOLDS(mtcore_reply_asset(reply, 0).cell == 1 && mtcore_reply_asset(reply, 0).length == 3);
+    HOLDS(none(mtcore_cell_id(ASSETS, mtcore_reply_asset(reply, 2).cell)));
+    HOLDS(mtcore_code_of(packed_of(3)) == 1);
+    HOLDS(mtcore_body(ASSETS, (const uint8_t *)"T1", 2).start ==
+          (uint64_t)(mtcore_cell_body(ASSETS, 0).bytes - assets));
+}
+
+/* stores that a call would refuse */
+static void try_damaged_cells(void) {
+    HOLDS(none(mtcore_cell_id(NULL, 0, 0)) && none(mtcore_cell_body(assets, sizeof assets - 1, 0)));
+    assets[MTCORE_BODY_PLACE(A, 0)] = 2;
+    HOLDS(none(mtcore_cell_body(ASSETS, 0)));
+    assets[MTCORE_BODY_PLACE(A, 0)] = 0;
+    assets[MTCORE_BODY_PLACE(A, 0) + 1] = 0;
+    HOLDS(none(mtcore_cell_body(ASSETS, 0)));
+    assets[MTCORE_ID_PLACE(0)] = 0;
+    HOLDS(none(mtcore_cell_id(ASSETS, 0)));
+    assets[1] = A + 1;
+    HOLDS(none(mtcore_cell_id(ASSETS, 1)) && none(mtcore_cell_body(ASSETS, 1)));
+}
+
+static void try_words(void) {
+    HOLDS(mtcore_sample_words(MTCORE_MAX_N, MTCORE_MAX_N) * sizeof(uint64_t) == 3145760);
+    HOLDS(mtcore_sample_words(1000, 0) == 304 && mtcore_sample_words(50, 0) == 154);
+    HOLDS(mtcore_sample_words(1000, UINT64_MAX) == 3004 && mtcore_sample_words(1000, 7) == 25);
+    HOLDS(mtcore_current_words(64) == 196);
+    HOLDS(mtcore_assets_words(128) == 260 && mtcore_assets_words(3) == 254);
+}
+
+int main(void) {
+    mtcore_answer r = mtcore_start(MODEL, observations, COUNT(observations), ASSETS, N, A, 1, 6);
+    HOLDS(r.number == 0 && r.count == 0);
+    try_refusals();
+    try_values();
+    try_packed_ok();
+    try_names();
+    try_rows();
+    try_cells();
+    try_damaged_cells();
+    try_words();
+    if (failed == 0)
+        printf("%u trials of the header's helpers\n", trials);
+    return failed == 0 ? 0 : 1;
+}
