@@ -87,6 +87,12 @@ static void try_values(void) {
     HOLDS(mtcore_refusal_of(observe(2, mtcore_condition(MTCORE_FAULT, 0xffffff))) == 0);
     HOLDS(mtcore_kind_of(packed_of(2)) == MTCORE_VALUE_CONDITION && mtcore_level_of(packed_of(2)) == MTCORE_FAULT);
     HOLDS(mtcore_code_of(packed_of(2)) == 0xffffff);
+    HOLDS(mtcore_refusal_of(observe(2, mtcore_condition(MTCORE_FAULT, 0x1000000))) == MTCORE_KIND);
+    HOLDS(mtcore_refusal_of(observe(2, mtcore_condition(MTCORE_NORMAL, 1))) == MTCORE_KIND);
+    HOLDS(mtcore_refusal_of(observe(2, mtcore_condition((enum mtcore_level)3, 0))) == MTCORE_KIND);
+#ifndef __cplusplus
+    HOLDS(mtcore_refusal_of(observe(2, mtcore_condition((enum mtcore_level)256, 0))) == MTCORE_KIND);
+#endif
 }
 
 static void try_packed_ok(void) {

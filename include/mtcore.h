@@ -16,8 +16,12 @@
  *   other call may use the same stores. That lock is the caller's. mtcore_request and mtcore_body only
  *   read the stores: any number of them may run side by side, each with its own reply buffer.
  * - The stores hold no pointers. Between calls they may be saved, copied and restored bytewise, also in
- *   another process, and used on without a start. Nobody else should write them.
+ *   another process, and used on without a start. Nobody else should write them: MTCORE_STORE sees a wrong
+ *   head, length, item of a ring entry or length of a body, and no other damage. Latest and checkpoint
+ *   words, kinds, levels and times are taken as they stand. A caller that restores stores keeps a checksum
+ *   of its own.
  * - The same model and names go with the same stores, from mtcore_start on.
+ * - The deepest call writes less than 2,400 bytes of stack.
  *
  * Times are milliseconds since 1970-01-01T00:00:00Z. docs/HOST.md says what each request means, with replies, how
  * much memory, stack and time a call takes, and what a host does about each refusal; docs/LIMITS.md what of
@@ -88,15 +92,22 @@ static inline unsigned mtcore_refusal_of(uint64_t word) {
 /* uint64_t words of the observation store, for a ring of n observations and m items */
 #define MTCORE_OBSERVATION_WORDS(n, m) (4 + 2 * (size_t)(n) + 6 * (size_t)(m))
 
-/* bytes of the asset store, for a assets */
-#define MTCORE_ASSET_BYTES(a) (2 + 544 * (size_t)(a))
+/* places in an asset store of a cells: its two sizes, a ids' cells, a bodies' cells, each body behind two bytes that
+ * hold its length; and its bytes in all, 2 + 544 a */
+#define MTCORE_ASSET_HEAD 2
+#define MTCORE_ID_PLACE(cell) (MTCORE_ASSET_HEAD + MTCORE_MAX_ID * (size_t)(cell))
+#define MTCORE_BODY_PLACE(a, cell) (MTCORE_ID_PLACE(a) + (2 + MTCORE_MAX_BODY) * (size_t)(cell))
+#define MTCORE_ASSET_BYTES(a) MTCORE_BODY_PLACE(a, a)
 
-/* uint64_t words of a reply of k rows: of observations, and of assets */
-#define MTCORE_REPLY_WORDS(k) (4 + 3 * (size_t)(k))
-#define MTCORE_ASSET_REPLY_WORDS(k) (4 + 2 * (size_t)(k))
+/* uint64_t words of a reply of k rows behind its four sizes: of observations, and of assets */
+#define MTCORE_REPLY_HEAD 4
+#define MTCORE_REPLY_WORDS(k) (MTCORE_REPLY_HEAD + 3 * (size_t)(k))
+#define MTCORE_ASSET_REPLY_WORDS(k) (MTCORE_REPLY_HEAD + 2 * (size_t)(k))
 
 /* uint64_t words that are enough for any reply to /sample with this count (0: the text has none), in a ring of n;
- * to /current, with m items; to /assets and /asset/.., with a assets */
+ * to /current, with m items; to /assets and /asset/.., with a assets. The largest, /sample?count=131072, has
+ * 3,145,760 bytes; a caller that reserves less gets MTCORE_SPACE where a reply has more rows, and answers it with
+ * TOO_MANY or asks with a smaller count (docs/HOST.md, "What to reserve") */
 static inline size_t mtcore_sample_words(uint64_t n, uint64_t count) {
     uint64_t rows = count == 0 ? MTCORE_DEFAULT_COUNT : count;
     return MTCORE_REPLY_WORDS(rows < n ? rows : n);
@@ -112,29 +123,10 @@ static inline size_t mtcore_assets_words(uint64_t a) {
 
 /* ---- values, as mtcore_observe takes them: kind * 2^32 + low ---- */
 
-#define MTCORE_UNAVAILABLE UINT64_C(0)
-
-/* a sample, in thousandths of the item's unit: -2,147,483.648 to 2,147,483.647; what is finer the caller rounds,
- * what is beyond it reports as MTCORE_UNAVAILABLE or as a condition (docs/HOST.md, "Values") */
-static inline uint64_t mtcore_sample(int32_t thousandths) {
-    return (UINT64_C(1) << 32) + (uint32_t)thousandths;
-}
-
-/* an event's code; what the code means, a text among them, is the caller's table */
-static inline uint64_t mtcore_event(uint32_t code) {
-    return (UINT64_C(2) << 32) + code;
-}
-
-enum mtcore_level { MTCORE_NORMAL = 0, MTCORE_WARNING = 1, MTCORE_FAULT = 2 };
-
-/* a condition's level with its native code, below 2^24, and 0 for MTCORE_NORMAL; a code of 2^24 or more makes a
- * word that every item refuses with MTCORE_KIND */
-static inline uint64_t mtcore_condition(enum mtcore_level level, uint32_t native_code) {
-    return native_code < (UINT32_C(1) << 24) ? (UINT64_C(3) << 32) + ((uint64_t)level << 24) + native_code
-                                             : UINT64_C(4) << 32;
-}
-
-/* ---- packed words, as the rows of a reply hold them: item * 2^40 + kind * 2^32 + low ---- */
+/* where the fields of a packed word begin, in bits: item, kind, and the level of a condition */
+#define MTCORE_ITEM_BIT 40
+#define MTCORE_KIND_BIT 32
+#define MTCORE_LEVEL_BIT 24
 
 enum mtcore_value_kind {
     MTCORE_VALUE_UNAVAILABLE = 0,
@@ -143,19 +135,49 @@ enum mtcore_value_kind {
     MTCORE_VALUE_CONDITION = 3
 };
 
+/* an enum mtcore_value_kind and its low word; the makers below are for use */
+static inline uint64_t mtcore_value(uint64_t kind, uint32_t low) {
+    return (kind << MTCORE_KIND_BIT) + low;
+}
+
+#define MTCORE_UNAVAILABLE UINT64_C(0)
+
+/* a sample, in thousandths of the item's unit: -2,147,483.648 to 2,147,483.647; what is finer the caller rounds,
+ * what is beyond it reports as MTCORE_UNAVAILABLE or as a condition (docs/HOST.md, "Values") */
+static inline uint64_t mtcore_sample(int32_t thousandths) {
+    return mtcore_value(MTCORE_VALUE_SAMPLE, (uint32_t)thousandths);
+}
+
+/* an event's code; what the code means, a text among them, is the caller's table */
+static inline uint64_t mtcore_event(uint32_t code) {
+    return mtcore_value(MTCORE_VALUE_EVENT, code);
+}
+
+enum mtcore_level { MTCORE_NORMAL = 0, MTCORE_WARNING = 1, MTCORE_FAULT = 2 };
+
+/* a condition's level with its native code, below 2^24, and 0 for MTCORE_NORMAL; a code of 2^24 or more makes a
+ * word that every item refuses with MTCORE_KIND */
+static inline uint64_t mtcore_condition(enum mtcore_level level, uint32_t native_code) {
+    return native_code >> MTCORE_LEVEL_BIT == 0
+               ? mtcore_value(MTCORE_VALUE_CONDITION, native_code) + ((uint64_t)level << MTCORE_LEVEL_BIT)
+               : mtcore_value(MTCORE_VALUE_CONDITION + 1, 0);
+}
+
+/* ---- packed words, as the rows of a reply hold them: item * 2^40 + kind * 2^32 + low ---- */
+
 /* the item, which is below m in every word of stores that only this library wrote */
 static inline uint64_t mtcore_item_of(uint64_t packed) {
-    return packed >> 40;
+    return packed >> MTCORE_ITEM_BIT;
 }
 
 /* an enum mtcore_value_kind, in such words */
 static inline unsigned mtcore_kind_of(uint64_t packed) {
-    return (unsigned)(packed >> 32 & 255);
+    return (unsigned)(packed >> MTCORE_KIND_BIT & 255);
 }
 
 /* the value as mtcore_observe takes it */
 static inline uint64_t mtcore_value_of(uint64_t packed) {
-    return packed & ((UINT64_C(1) << 40) - 1);
+    return packed & ((UINT64_C(1) << MTCORE_ITEM_BIT) - 1);
 }
 
 /* of a sample: thousandths of the item's unit */
@@ -166,13 +188,13 @@ static inline int32_t mtcore_sample_of(uint64_t packed) {
 
 /* of a condition: an enum mtcore_level, in such words */
 static inline unsigned mtcore_level_of(uint64_t packed) {
-    return (unsigned)((uint32_t)packed >> 24);
+    return (unsigned)((uint32_t)packed >> MTCORE_LEVEL_BIT);
 }
 
 /* of an event: its code, of an asset change item the cell; of a condition: its native code */
 static inline uint32_t mtcore_code_of(uint64_t packed) {
     uint32_t low = (uint32_t)packed;
-    return mtcore_kind_of(packed) == MTCORE_VALUE_CONDITION ? low & ((UINT32_C(1) << 24) - 1) : low;
+    return mtcore_kind_of(packed) == MTCORE_VALUE_CONDITION ? low & ((UINT32_C(1) << MTCORE_LEVEL_BIT) - 1) : low;
 }
 
 /* Whether item (of m), kind and level of the word are ones that there are. The core takes saved stores as they
@@ -247,10 +269,11 @@ typedef struct {
 /* row i, counted from 0; all zeros where there is no such row */
 static inline mtcore_row mtcore_reply_row(const uint64_t *reply, uint64_t i) {
     mtcore_row row = {0, 0, 0};
-    if (i < reply[0]) {
-        row.number = reply[4 + i];
-        row.time = reply[4 + reply[0] + 2 * i];
-        row.packed = reply[4 + reply[0] + 2 * i + 1];
+    uint64_t k = reply[0];
+    if (i < k) {
+        row.number = reply[MTCORE_REPLY_HEAD + i];
+        row.time = reply[MTCORE_REPLY_HEAD + k + 2 * i];
+        row.packed = reply[MTCORE_REPLY_HEAD + k + 2 * i + 1];
     }
     return row;
 }
@@ -273,9 +296,10 @@ typedef struct {
 /* row i, counted from 0; where there is no such row a cell that no store has, and length 0 */
 static inline mtcore_asset_row mtcore_reply_asset(const uint64_t *reply, uint64_t i) {
     mtcore_asset_row row = {UINT64_MAX, 0};
-    if (i < reply[0]) {
-        row.cell = reply[4 + i];
-        row.length = reply[4 + reply[0] + i];
+    uint64_t k = reply[0];
+    if (i < k) {
+        row.cell = reply[MTCORE_REPLY_HEAD + i];
+        row.length = reply[MTCORE_REPLY_HEAD + k + i];
     }
     return row;
 }
@@ -292,13 +316,9 @@ typedef struct {
     size_t length;
 } mtcore_bytes;
 
-/* where the ids' cells of 32 bytes begin, and the bodies' of 512 */
-#define MTCORE_ID_PLACE(cell) (2 + MTCORE_MAX_ID * (size_t)(cell))
-#define MTCORE_BODY_PLACE(a, cell) (2 + MTCORE_MAX_ID * (size_t)(a) + (2 + MTCORE_MAX_BODY) * (size_t)(cell))
-
 /* whether the store has the head and the length of one, and this cell is in use */
 static inline int mtcore_cell_used(const uint8_t *assets, size_t assets_len, uint64_t cell) {
-    return assets_len >= 2 && assets[0] >= 1 && assets[0] <= MTCORE_MAX_A && assets[1] <= assets[0] &&
+    return assets_len >= MTCORE_ASSET_HEAD && assets[0] >= 1 && assets[0] <= MTCORE_MAX_A && assets[1] <= assets[0] &&
            assets_len == MTCORE_ASSET_BYTES(assets[0]) && cell < assets[1];
 }
 
