@@ -6,6 +6,7 @@
 
 mod calls;
 mod clock;
+mod cold;
 mod floor;
 mod growth;
 mod row;
@@ -29,6 +30,7 @@ fn main() {
     let rows = calls_of_a_full_box(rounds, wanted.as_deref().unwrap_or(""));
     table::print_calls(&rows);
     table::print_floors(&rows);
+    table::print_cold(&longest_calls(wanted.as_deref().unwrap_or("")));
     if wanted.is_none() {
         growth::print(rounds);
     }
@@ -73,6 +75,26 @@ fn calls_of_a_full_box(rounds: usize, wanted: &str) -> Vec<Row> {
     rows.add(&calls::body(), &stage);
     rows.add(&calls::start(), &stage);
     rows.rows
+}
+
+/// The calls that hold a host's lock longest, and some that are frequent, once and with cold caches.
+fn longest_calls(wanted: &str) -> Vec<(String, f64)> {
+    let stage = Stage::new(Shape::LARGEST);
+    let mut times = Vec::new();
+    let requests = [
+        calls::sample_all(&stage),
+        calls::sample_all_by_path(&stage),
+        calls::current_at_last(&stage),
+        calls::sample(&stage),
+        calls::current(&stage),
+    ];
+    for call in requests.iter().filter(|call| call.name().contains(wanted)) {
+        times.push((call.name().into(), cold::best(call, &stage)));
+    }
+    if calls::start().name().contains(wanted) {
+        times.push((calls::start().name().into(), cold::best(&calls::start(), &stage)));
+    }
+    times
 }
 
 /// The rows of the calls that are wanted.

@@ -40,6 +40,19 @@ pub fn print_floors(rows: &[Row]) {
     }
 }
 
+/// The core's calls, each once, with cold caches.
+pub fn print_cold(times: &[(String, f64)]) {
+    if times.is_empty() {
+        return;
+    }
+    println!("\nOnce, with caches that hold other things:\n");
+    println!("| call | core ns |");
+    println!("|---|---:|");
+    for (name, time) in times {
+        println!("| {name} | {} |", nanoseconds(*time));
+    }
+}
+
 /// One line for each size; for each call the core's time and its ratio to the reference's.
 pub fn print_growth(what: &str, sizes: &[(usize, Vec<Row>)]) {
     let Some((_, first)) = sizes.first() else { return };
