@@ -1,12 +1,17 @@
 //! The C interface of `libmtcore.a`, and safe calls over slices that pass its words on unread.
+//!
+//! A host that wants results and values calls the functions of the crate's root, or an
+//! [`Agent`](crate::Agent); they say what a call takes, gives and refuses.
 
-use std::ptr;
+use core::ptr;
 
 /// 0 and k, or the refusal's number and 0.
 #[derive(Clone, Copy, PartialEq, Eq, Debug)]
 #[repr(C)]
 pub struct Answer {
+    /// 0, or the refusal's number.
     pub number: u64,
+    /// The number of rows; 0 for a start and for a refusal.
     pub count: u64,
 }
 
@@ -14,15 +19,19 @@ pub struct Answer {
 #[derive(Clone, Copy, PartialEq, Eq, Debug)]
 #[repr(C)]
 pub struct Part {
+    /// The byte of the store that the part begins at.
     pub start: u64,
+    /// Its bytes.
     pub length: u64,
 }
 
-/// The functions as `mtcore.h` declares them. An empty slice may be NULL.
+/// The functions as `mtcore.h` declares them. A slice is a pointer and its length in elements; an empty
+/// one may be NULL. No two slices of a call may overlap unless the call only reads both.
 pub mod raw {
     use super::{Answer, Part};
 
     extern "C" {
+        /// Writes both stores afresh: a ring of `n` places, `a` asset cells, numbers from `b` on.
         pub fn mtcore_start(
             model: *const u32,
             model_len: usize,
@@ -38,6 +47,7 @@ pub mod raw {
             host: u64,
         ) -> Answer;
 
+        /// Records a value, given as kind * 2^32 + low: its number, 0 for Same, or 2^63 + the refusal.
         pub fn mtcore_observe(
             model: *const u32,
             model_len: usize,
@@ -51,6 +61,7 @@ pub mod raw {
             value: u64,
         ) -> u64;
 
+        /// Stores an asset: its cell, or 2^63 + the refusal.
         pub fn mtcore_store_asset(
             model: *const u32,
             model_len: usize,
@@ -67,6 +78,7 @@ pub mod raw {
             host: u64,
         ) -> u64;
 
+        /// Answers a request text into the reply buffer.
         pub fn mtcore_request(
             model: *const u32,
             model_len: usize,
@@ -82,6 +94,7 @@ pub mod raw {
             reply_len: usize,
         ) -> Answer;
 
+        /// Finds an asset's body in its store.
         pub fn mtcore_body(assets: *const u8, assets_len: usize, id: *const u8, id_len: usize) -> Part;
     }
 }
@@ -105,6 +118,7 @@ fn pointer_mut<T>(slice: &mut [T]) -> *mut T {
 // was taken from, the slices are borrowed for the whole call, and the core reads and writes
 // inside them only. The borrows keep what is written apart from all else.
 
+/// `mtcore_start` over slices.
 #[allow(clippy::too_many_arguments)]
 pub fn start(
     model: &[u32],
@@ -135,7 +149,7 @@ pub fn start(
     }
 }
 
-/// `value` is kind * 2^32 + low, as in a packed value.
+/// `mtcore_observe` over slices. `value` is kind * 2^32 + low, as in a packed value.
 pub fn observe(
     model: &[u32],
     names: &[u8],
@@ -162,6 +176,7 @@ pub fn observe(
     }
 }
 
+/// `mtcore_store_asset` over slices.
 pub fn store_asset(
     model: &[u32],
     names: &[u8],
@@ -191,6 +206,7 @@ pub fn store_asset(
     }
 }
 
+/// `mtcore_request` over slices.
 pub fn request(
     model: &[u32],
     names: &[u8],
@@ -218,6 +234,7 @@ pub fn request(
     }
 }
 
+/// `mtcore_body` over slices.
 pub fn body(assets: &[u8], id: &[u8]) -> Part {
     // SAFETY: see above.
     unsafe { raw::mtcore_body(pointer(assets), assets.len(), pointer(id), id.len()) }

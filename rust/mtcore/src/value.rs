@@ -3,19 +3,29 @@
 /// The level of a condition.
 #[derive(Clone, Copy, PartialEq, Eq, Hash, Debug)]
 pub enum Level {
+    /// Nothing is wrong. Its native code is 0.
     Normal,
+    /// Something needs attention.
     Warning,
+    /// The machine needs help to go on.
     Fault,
 }
 
 /// An observation's value.
 #[derive(Clone, Copy, PartialEq, Eq, Hash, Debug)]
 pub enum Value {
+    /// The value is not known. Every item but an asset change takes it, and start gives it to all.
     Unavailable,
-    /// Thousandths of the item's unit.
+    /// A sample, in thousandths of the item's unit: -2,147,483.648 to 2,147,483.647. What is finer the
+    /// host rounds; for what is beyond it chooses a larger unit, or observes [`Value::Unavailable`].
     Sample(i32),
+    /// An event's code. What a code means is the host's to know: texts, such as a program's name or a
+    /// message, need a table of the host's, whose entries are kept as long as the ring, an item's latest
+    /// value or its last one from before the ring may hold their codes. The event of an asset change item
+    /// holds a cell.
     Event(u32),
-    /// A level with its native code below 2^24, which is 0 for Normal.
+    /// A condition's level with its native code below 2^24, which is 0 for [`Level::Normal`]. Any other
+    /// code is refused as [`Refusal::Kind`](crate::Refusal::Kind).
     Condition(Level, u32),
 }
 
@@ -26,17 +36,25 @@ const NO_VALUE: u64 = u64::MAX;
 impl Value {
     /// kind * 2^32 + low, as the C interface takes it. A native code that does not fit its 24 bits
     /// becomes a word that is refused, so that it cannot pass for another level.
-    pub fn word(self) -> u64 {
+    ///
+    /// ```
+    /// use mtcore::{Level, Value};
+    /// assert_eq!(Value::Unavailable.word(), 0);
+    /// assert_eq!(Value::Sample(-1).word(), (1 << 32) + 0xffff_ffff);
+    /// assert_eq!(Value::Event(7).word(), (2 << 32) + 7);
+    /// assert_eq!(Value::Condition(Level::Fault, 9).word(), (3 << 32) + (2 << 24) + 9);
+    /// ```
+    pub const fn word(self) -> u64 {
         match self {
             Value::Unavailable => 0,
-            Value::Sample(thousandths) => (1 << 32) | u64::from(thousandths as u32),
-            Value::Event(code) => (2 << 32) | u64::from(code),
+            Value::Sample(thousandths) => (1 << 32) | thousandths as u32 as u64,
+            Value::Event(code) => (2 << 32) | code as u64,
             Value::Condition(_, code) if code >= CODES => NO_VALUE,
-            Value::Condition(level, code) => (3 << 32) | (level as u64) << 24 | u64::from(code),
+            Value::Condition(level, code) => (3 << 32) | (level as u64) << 24 | code as u64,
         }
     }
 
-    /// The value of such a word; nothing where no value has it.
+    /// The value of such a word; none where its kind or its level is none that there is.
     ///
     /// ```
     /// use mtcore::{Level, Value};
@@ -45,18 +63,49 @@ impl Value {
     /// }
     /// assert_eq!(Value::from_word(9 << 32), None);
     /// ```
-    pub fn from_word(word: u64) -> Option<Value> {
+    pub const fn from_word(word: u64) -> Option<Value> {
         let low = word as u32;
         match word >> 32 {
             0 if low == 0 => Some(Value::Unavailable),
             1 => Some(Value::Sample(low as i32)),
             2 => Some(Value::Event(low)),
             3 => {
-                let level =
-                    [Level::Normal, Level::Warning, Level::Fault].get((low / CODES) as usize).copied()?;
+                let level = match low / CODES {
+                    0 => Level::Normal,
+                    1 => Level::Warning,
+                    2 => Level::Fault,
+                    _ => return None,
+                };
                 Some(Value::Condition(level, low % CODES))
             }
             _ => None,
         }
+    }
+}
+
+#[cfg(test)]
+mod tests {
+    use super::{Level, Value};
+
+    #[test]
+    fn words_come_back() {
+        let levels = [Level::Normal, Level::Warning, Level::Fault];
+        let conditions =
+            levels.into_iter().flat_map(|level| [0, 1, (1 << 24) - 1].map(|c| Value::Condition(level, c)));
+        let samples = [i32::MIN, -1, 0, 1, i32::MAX].map(Value::Sample);
+        let events = [0, 1, u32::MAX].map(Value::Event);
+        for value in conditions.chain(samples).chain(events).chain([Value::Unavailable]) {
+            assert_eq!(Value::from_word(value.word()), Some(value));
+        }
+    }
+
+    #[test]
+    fn other_words_are_no_values() {
+        for word in
+            [1, u32::MAX.into(), (3 << 32) + (3 << 24), 4 << 32, 5 << 32, 255 << 32, 1 << 40, u64::MAX]
+        {
+            assert_eq!(Value::from_word(word), None, "{word}");
+        }
+        assert_eq!(Value::from_word(Value::Condition(Level::Warning, 1 << 24).word()), None);
     }
 }

@@ -1,0 +1,280 @@
+//! The five calls, over slices that the host passes each time.
+
+use crate::{ffi, Refusal, Sizes, Value};
+
+/// What an accepted observe did.
+#[derive(Clone, Copy, PartialEq, Eq, Hash, Debug)]
+pub enum Observed {
+    /// Recorded under this number.
+    Recorded(u64),
+    /// Equal to the item's newest value: nothing was recorded, the time neither.
+    Same,
+}
+
+/// Writes both stores afresh, whatever stood in them: every item Unavailable at the host's time, numbered
+/// from [`Sizes::origin`] on in item order, and no assets.
+///
+/// The observation store is of exactly [`observation_words`](crate::observation_words) words, the asset
+/// store of exactly [`asset_bytes`](crate::asset_bytes) bytes.
+///
+/// # Errors
+///
+/// In this order: [`Refusal::Model`], [`Refusal::Size`].
+pub fn start(
+    model: &[u32],
+    names: &[u8],
+    observations: &mut [u64],
+    assets: &mut [u8],
+    sizes: Sizes,
+    host: u64,
+) -> Result<(), Refusal> {
+    let Sizes { places, cells, origin } = sizes;
+    done(ffi::start(model, names, observations, assets, places, cells, origin, host)).map(|_| ())
+}
+
+/// Records a value of an item, unless it equals the item's newest.
+///
+/// `time` is the source's, in milliseconds since 1970-01-01T00:00:00Z; 0 means that it gave none, and
+/// then the host's time is used. Times need not rise: observations are ordered by their numbers.
+///
+/// # Errors
+///
+/// In this order: [`Refusal::Model`], [`Refusal::Store`], [`Refusal::Item`], [`Refusal::Kind`], (Same,)
+/// [`Refusal::Spent`], [`Refusal::Store`] (the ring entry about to be overwritten is damaged).
+///
+/// ```
+/// # let (model, names) = ([1, 1, 0, 131_072], mtcore::names(["SYSTEM"]).unwrap());
+/// # let names = names.as_flattened();
+/// # let sizes = mtcore::Sizes { places: 4, cells: 1, origin: 1 };
+/// # let mut observations = [0; mtcore::observation_words(4, 1)];
+/// # let mut assets = [0; mtcore::asset_bytes(1)];
+/// # mtcore::start(&model, &names, &mut observations, &mut assets, sizes, 1).unwrap();
+/// use mtcore::{Level, Observed, Refusal, Value};
+/// let mut observe = |value| mtcore::observe(&model, &names, &mut observations, 0, 0, 5, value);
+/// assert_eq!(observe(Value::Condition(Level::Fault, 7)), Ok(Observed::Recorded(2)));
+/// assert_eq!(observe(Value::Condition(Level::Fault, 7)), Ok(Observed::Same));
+/// // A native code has 24 bits, and Normal has none but 0.
+/// assert_eq!(observe(Value::Condition(Level::Fault, 1 << 24)), Err(Refusal::Kind));
+/// assert_eq!(observe(Value::Condition(Level::Normal, 7)), Err(Refusal::Kind));
+/// assert_eq!(observe(Value::Condition(Level::Normal, 0)), Ok(Observed::Recorded(3)));
+/// ```
+pub fn observe(
+    model: &[u32],
+    names: &[u8],
+    observations: &mut [u64],
+    item: u64,
+    time: u64,
+    host: u64,
+    value: Value,
+) -> Result<Observed, Refusal> {
+    match word(ffi::observe(model, names, observations, item, time, host, value.word()))? {
+        0 => Ok(Observed::Same),
+        number => Ok(Observed::Recorded(number)),
+    }
+}
+
+/// Stores an asset as the newest and answers its cell.
+///
+/// The asset with its id is removed, or, if there is none and every cell is in use, the one that was
+/// stored longest ago; the cells behind it move down by one. The model's asset change item, if it has
+/// one, gets an event at the host's time, its code the cell, recorded even if it equals the one before.
+///
+/// The id is of 1 to 32 bytes of 33 to 126 without `;`, `/` and `?`, the body of 1 to 510 bytes of any kind.
+///
+/// # Errors
+///
+/// In this order: [`Refusal::Model`], [`Refusal::Store`], [`Refusal::Asset`] and, if an event is to be
+/// recorded, [`Refusal::Spent`], [`Refusal::Store`] as [`observe`].
+///
+/// ```
+/// # let (model, names) = ([1, 1, 0, 131_072], mtcore::names(["SYSTEM"]).unwrap());
+/// # let names = names.as_flattened();
+/// # let sizes = mtcore::Sizes { places: 4, cells: 1, origin: 1 };
+/// # let mut observations = [0; mtcore::observation_words(4, 1)];
+/// # let mut assets = [0; mtcore::asset_bytes(1)];
+/// # mtcore::start(&model, &names, &mut observations, &mut assets, sizes, 1).unwrap();
+/// let cell = mtcore::store_asset(&model, &names, &mut observations, &mut assets, b"T1", b"drill", 9)?;
+/// assert_eq!(cell, 0);
+/// assert_eq!(mtcore::body(&assets, b"T1"), Some(&b"drill"[..]));
+/// # Ok::<(), mtcore::Refusal>(())
+/// ```
+pub fn store_asset(
+    model: &[u32],
+    names: &[u8],
+    observations: &mut [u64],
+    assets: &mut [u8],
+    id: &[u8],
+    body: &[u8],
+    host: u64,
+) -> Result<u64, Refusal> {
+    word(ffi::store_asset(model, names, observations, assets, id, body, host))
+}
+
+/// Answers a request text into the reply buffer and tells how many rows there are. Words behind the
+/// reply's own stay as they were. [`Reply::read`](crate::Reply::read) takes the reply apart.
+///
+/// # Texts
+///
+/// The text is the request's path and query with percent escapes decoded: 1 to 256 bytes, each 33 to
+/// 126, the first `/`. Case matters everywhere. Parts stand in any order, none twice.
+///
+/// * `/sample?from=..&count=..&path=..`, each part optional. Considered are at most `count` numbers from
+///   `from` on, up to last; the rows are those of them whose item the path selects, by rising number, and
+///   next is the number behind the last one considered. So count limits the numbers considered and not
+///   the rows: with a path, no rows and a next that is not yet last + 1 are normal, and the client goes on
+///   from next. No `from` and `from=0` mean first. `from` of last + 1 is accepted, with no rows. A count
+///   that isn't given is 100, also in a smaller ring.
+/// * `/current?path=..&at=..`, each part optional. A row for each selected item, in item order whatever
+///   their numbers are: its newest observation, or with `at` its newest numbered at or below that. An
+///   item that had none by then is left out. next is last + 1, also with `at`.
+/// * `/assets`: every asset, the newest first.
+/// * `/asset/ID;ID..`: the assets named, in the text's order; an id named twice is two rows. An id that
+///   is not stored refuses the whole request.
+///
+/// A path is `//T` or `//T//DataItem[@type="Y"]`. `//T` selects the items of every component of type T
+/// and of all components below it; where such components have no items the request is accepted with no
+/// rows. The second form keeps those of item type Y, and is refused as [`Refusal::InvalidXpath`] where
+/// none is left. No path selects all items.
+///
+/// `/sample?` and `/current?`, with nothing behind the `?`, are [`Refusal::InvalidRequest`]. `probe` and
+/// `interval` are the host's: [`Refusal::Unsupported`].
+///
+/// # Errors
+///
+/// In this order: [`Refusal::Model`], [`Refusal::Store`], [`Refusal::InvalidUri`],
+/// [`Refusal::InvalidRequest`] (the word), [`Refusal::Unsupported`] (probe), [`Refusal::InvalidRequest`],
+/// [`Refusal::Unsupported`] (interval), [`Refusal::TooMany`], [`Refusal::InvalidXpath`],
+/// [`Refusal::OutOfRange`], [`Refusal::Store`] (damaged entries among the numbers considered, or up to
+/// `at`), [`Refusal::Space`]; for assets [`Refusal::InvalidRequest`], [`Refusal::AssetNotFound`],
+/// [`Refusal::Store`], [`Refusal::Space`].
+///
+/// A host that reserves less than the largest reply ([`sample_words`](crate::sample_words)) gets
+/// [`Refusal::Space`] for a count above its buffer, and has the client ask for less.
+///
+/// # Examples
+///
+/// A ring of three that has held four numbers; 1 has been written over.
+///
+/// ```
+/// # use mtcore::{Category, Component, ModelBuilder, Observations, Refusal, Reply, Sizes, Value};
+/// # let (mut words, mut names) = ([0; 8], [0; 120]);
+/// # let mut build = ModelBuilder::new(&mut words, &mut names, "Device").unwrap();
+/// # let axes = build.component(Component::DEVICE, "Axes").unwrap();
+/// # build.component(Component::DEVICE, "Door").unwrap();
+/// # build.item(Component::DEVICE, Category::Event, "AVAILABILITY").unwrap();
+/// # build.item(axes, Category::Sample, "POSITION").unwrap();
+/// # let model = build.finish().unwrap();
+/// # let (model, names) = (model.words(), model.names());
+/// # let mut observations = [0; mtcore::observation_words(3, 2)];
+/// # let mut assets = [0; mtcore::asset_bytes(2)];
+/// # let sizes = Sizes { places: 3, cells: 2, origin: 1 };
+/// # mtcore::start(model, names, &mut observations, &mut assets, sizes, 1000).unwrap();
+/// # for (time, value) in [(1010, 5000), (1030, -1)] {
+/// #     mtcore::observe(model, names, &mut observations, 1, time, time, Value::Sample(value)).unwrap();
+/// # }
+/// # for id in [b"T1", b"T2"] {
+/// #     mtcore::store_asset(model, names, &mut observations, &mut assets, id, b"drill", 1040).unwrap();
+/// # }
+/// // Item 0, AVAILABILITY of the device, was observed as number 1; item 1, POSITION of its axes, as
+/// // 2, 3 and 4. A door has no items. T1 was stored before T2.
+/// # let ask = |text: &str| {
+/// #     let mut reply = [0; 64];
+/// #     mtcore::request(model, names, &observations, &assets, text.as_bytes(), &mut reply)?;
+/// #     Ok(match Reply::read(&reply).unwrap() {
+/// #         Reply::Observations(o) => (o.rows().map(|row| row.number).collect::<Vec<_>>(), o.next),
+/// #         Reply::Assets(a) => (a.rows().map(|row| row.cell).collect(), 0),
+/// #     })
+/// # };
+/// # let rows = |numbers: &[u64], next| Ok((numbers.to_vec(), next));
+/// # let cells = |cells: &[u64]| Ok((cells.to_vec(), 0));
+/// // numbers of the rows, and next
+/// assert_eq!(ask("/sample"), rows(&[2, 3, 4], 5));
+/// assert_eq!(ask("/sample?from=0&count=2"), rows(&[2, 3], 4));
+/// assert_eq!(ask("/sample?from=5"), rows(&[], 5));
+/// assert_eq!(ask("/sample?from=6"), Err(Refusal::OutOfRange));
+/// assert_eq!(ask("/sample?from=1"), Err(Refusal::OutOfRange));
+/// assert_eq!(ask("/sample?count=4"), Err(Refusal::TooMany));
+/// assert_eq!(ask("/sample?"), Err(Refusal::InvalidRequest));
+/// // The second form keeps the device's own item, which number 2 is not: go on from 3.
+/// assert_eq!(ask("/sample?from=2&count=1&path=//Device//DataItem[@type=\"AVAILABILITY\"]"), rows(&[], 3));
+/// assert_eq!(ask("/current"), rows(&[1, 4], 5));
+/// assert_eq!(ask("/current?at=3"), rows(&[1, 3], 5));
+/// assert_eq!(ask("/current?path=//Axes"), rows(&[4], 5));
+/// assert_eq!(ask("/current?path=//axes"), Err(Refusal::InvalidXpath));
+/// assert_eq!(ask("/current?path=//Door"), rows(&[], 5));
+/// assert_eq!(ask("/current?path=//Door//DataItem[@type=\"POSITION\"]"), Err(Refusal::InvalidXpath));
+/// // cells of the rows
+/// assert_eq!(ask("/assets"), cells(&[1, 0]));
+/// assert_eq!(ask("/asset/T1;T2;T1"), cells(&[0, 1, 0]));
+/// assert_eq!(ask("/asset/T1;T3"), Err(Refusal::AssetNotFound));
+/// ```
+pub fn request(
+    model: &[u32],
+    names: &[u8],
+    observations: &[u64],
+    assets: &[u8],
+    text: &[u8],
+    reply: &mut [u64],
+) -> Result<u64, Refusal> {
+    done(ffi::request(model, names, observations, assets, text, reply))
+}
+
+/// An asset's body, as a part of its store. None on any fault: a store whose head, length or body's
+/// length is wrong, an id that breaks its rules, an id that is not stored.
+///
+/// ```
+/// assert_eq!(mtcore::body(&[0; 3], b"T1"), None);
+/// ```
+pub fn body<'a>(assets: &'a [u8], id: &[u8]) -> Option<&'a [u8]> {
+    let part = ffi::body(assets, id);
+    let (start, length) = (usize::try_from(part.start).ok()?, usize::try_from(part.length).ok()?);
+    if length == 0 {
+        return None;
+    }
+    assets.get(start..start.checked_add(length)?)
+}
+
+/// A returned answer pair as a result.
+fn done(answer: ffi::Answer) -> Result<u64, Refusal> {
+    match Refusal::from_number(answer.number) {
+        None => Ok(answer.count),
+        Some(refusal) => Err(refusal),
+    }
+}
+
+/// A returned answer word as a result.
+fn word(word: u64) -> Result<u64, Refusal> {
+    const REFUSED: u64 = 1 << 63;
+    // A recorded number is at most 2^63 - 1.
+    match word.checked_sub(REFUSED) {
+        None => Ok(word),
+        Some(number) => Err(Refusal::from_number(number).unwrap_or(Refusal::Unknown { number })),
+    }
+}
+
+#[cfg(test)]
+mod tests {
+    use super::{done, word};
+    use crate::ffi::Answer;
+    use crate::Refusal;
+
+    #[test]
+    fn words_as_results() {
+        assert_eq!(word(0), Ok(0));
+        assert_eq!(word((1 << 63) - 1), Ok((1 << 63) - 1));
+        for number in 0..100 {
+            let refusal = word((1 << 63) + number).unwrap_err();
+            assert_eq!(refusal.number(), number);
+        }
+        assert_eq!(word((1 << 63) + 12), Err(Refusal::OutOfRange));
+        assert_eq!(word(u64::MAX).unwrap_err().number(), (1 << 63) - 1);
+    }
+
+    #[test]
+    fn pairs_as_results() {
+        assert_eq!(done(Answer { number: 0, count: 7 }), Ok(7));
+        for number in 1..100 {
+            assert_eq!(done(Answer { number, count: 0 }).unwrap_err().number(), number);
+        }
+    }
+}

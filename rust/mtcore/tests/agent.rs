@@ -1,0 +1,220 @@
+//! The agent answers as the plain functions do, over owned and lent buffers, and replies need no more
+//! than the sizes say.
+
+mod common;
+
+use common::Rng;
+use mtcore::{
+    Agent, Assets, Category, Component, LentAgent, Level, Model, ModelBuilder, Observations, Refusal, Reply,
+    Sizes, Value,
+};
+
+const PLACES: usize = 7;
+const CELLS: usize = 3;
+const ITEMS: usize = 4;
+const SIZES: Sizes = Sizes { places: PLACES as u64, cells: CELLS as u64, origin: 5 };
+
+type Owned = Model<Vec<u32>, Vec<u8>>;
+
+fn model() -> Owned {
+    let (mut words, mut names) = ([0; mtcore::model_words(2, ITEMS)], [0; mtcore::name_bytes(6)]);
+    let mut build = ModelBuilder::new(&mut words, &mut names, "Device").unwrap();
+    let axes = build.component(Component::DEVICE, "Axes").unwrap();
+    build.item(Component::DEVICE, Category::Event, "AVAILABILITY").unwrap();
+    build.item(axes, Category::Sample, "POSITION").unwrap();
+    build.item(axes, Category::Condition, "OVERTRAVEL").unwrap();
+    build.item(Component::DEVICE, Category::AssetChange, "ASSET_CHANGED").unwrap();
+    let model = build.finish().unwrap();
+    Model::new(model.words().to_vec(), model.names().to_vec()).unwrap()
+}
+
+fn stores() -> (Vec<u64>, Vec<u8>) {
+    (vec![0; mtcore::observation_words(PLACES, ITEMS)], vec![0; mtcore::asset_bytes(CELLS)])
+}
+
+fn value(rng: &mut Rng) -> Value {
+    let code = rng.below(4) as u32;
+    match rng.below(5) {
+        0 => Value::Unavailable,
+        1 => Value::Sample(code as i32 - 2),
+        2 => Value::Event(code),
+        3 => Value::Condition(Level::Normal, code / 2),
+        _ => Value::Condition(Level::Fault, code << 23),
+    }
+}
+
+const TEXTS: [&str; 16] = [
+    "/sample",
+    "/sample?count=2",
+    "/sample?count=8",
+    "/sample?from=9&count=3&path=//Axes",
+    "/sample?path=//Device//DataItem[@type=\"ASSET_CHANGED\"]",
+    "/sample?from=1000",
+    "/sample?",
+    "/current",
+    "/current?at=12",
+    "/current?path=//Axes",
+    "/current?interval=5",
+    "/assets",
+    "/asset/T1",
+    "/asset/T0;T1;T0",
+    "/probe",
+    "sample",
+];
+
+/// The same calls, through an agent over owned stores and through the plain functions.
+#[test]
+fn agent_and_plain_functions_agree() {
+    let mut rng = Rng::new(12);
+    let (owned, (mut observations, mut assets)) = (model(), stores());
+    let (words, names) = (owned.words().to_vec(), owned.names().to_vec());
+    mtcore::start(&words, &names, &mut observations, &mut assets, SIZES, 9).unwrap();
+    let (o, a) = stores();
+    let mut agent = Agent::start(owned, o, a, SIZES, 9).unwrap();
+    for step in 10..4000 {
+        match rng.below(3) {
+            0 => {
+                let (item, time, value) = (rng.below(5), rng.below(2) * step, value(&mut rng));
+                let plain = mtcore::observe(&words, &names, &mut observations, item, time, step, value);
+                assert_eq!(agent.observe(item, time, step, value), plain);
+            }
+            1 if rng.below(4) == 0 => {
+                let id = [b'T', rng.pick(b"0123;")];
+                let plain =
+                    mtcore::store_asset(&words, &names, &mut observations, &mut assets, &id, b"body", step);
+                assert_eq!(agent.store_asset(&id, b"body", step), plain);
+                assert_eq!(agent.body(&id), mtcore::body(&assets, &id));
+            }
+            _ => {
+                let text = rng.pick(&TEXTS).as_bytes();
+                let (mut left, mut right) = ([3; 40], [3; 40]);
+                let plain = mtcore::request(&words, &names, &observations, &assets, text, &mut left);
+                let reply = agent.request(text, &mut right);
+                assert_eq!(reply.map(|reply| reply.len() as u64), plain);
+                assert_eq!(left, right);
+            }
+        }
+        assert_eq!((agent.observations(), agent.assets()), (&observations[..], &assets[..]));
+    }
+}
+
+/// A reply says of itself what it is.
+#[test]
+fn replies_are_told_apart() {
+    let (o, a) = stores();
+    let mut agent = Agent::start(model(), o, a, SIZES, 9).unwrap();
+    for step in 0..30 {
+        agent.observe(1, 0, step, Value::Sample(step as i32)).unwrap();
+        agent.store_asset(&[b'T', b'0' + (step % 5) as u8], b"body", step).unwrap();
+        for text in TEXTS {
+            let mut reply = [0; 40];
+            let Ok(read) = agent.request(text.as_bytes(), &mut reply) else {
+                continue;
+            };
+            assert_eq!(matches!(read, Reply::Assets(_)), text.starts_with("/asset"), "{text}");
+            assert_eq!(Observations::read(&reply).is_none(), text.starts_with("/asset"), "{text}");
+            assert_eq!(Assets::read(&reply).is_some(), text.starts_with("/asset"), "{text}");
+        }
+    }
+}
+
+/// Buffers lent, arrays owned, and stores taken over from one to the other.
+#[test]
+fn lent_and_owned_buffers() {
+    let owned = model();
+    let (mut observations, mut assets) =
+        ([0; mtcore::observation_words(PLACES, ITEMS)], [0; mtcore::asset_bytes(CELLS)]);
+    let lent = Model::new(owned.words(), owned.names()).unwrap();
+    let mut first: LentAgent = Agent::start(lent, &mut observations[..], &mut assets[..], SIZES, 9).unwrap();
+    first.observe(1, 10, 10, Value::Sample(7)).unwrap();
+    first.store_asset(b"T1", b"drill", 11).unwrap();
+
+    let mut second = Agent::resume(lent, observations, assets).unwrap();
+    assert_eq!(second.body(b"T1"), Some(&b"drill"[..]));
+    assert_eq!((second.cell_id(0), second.cell_body(0)), (Some(&b"T1"[..]), Some(&b"drill"[..])));
+    assert_eq!(second.cell_id(1), None);
+    let mut reply = [0; 40];
+    let Ok(Reply::Observations(read)) = second.request(b"/current?path=//Axes", &mut reply) else {
+        panic!("current is answered");
+    };
+    let row = read.row(0).unwrap();
+    assert_eq!((row.number, row.time), (9, 10));
+    assert_eq!(second.model().checked(row), Some((1, Value::Sample(7))));
+
+    second.restart(SIZES, 20).unwrap();
+    assert_eq!(second.body(b"T1"), None);
+    let (_, observations, _) = second.into_parts();
+    assert_eq!(observations[3], SIZES.origin + ITEMS as u64 - 1);
+}
+
+#[test]
+fn starts_that_are_refused() {
+    let (o, a) = stores();
+    for sizes in [Sizes { places: 6, ..SIZES }, Sizes { cells: 2, ..SIZES }, Sizes { origin: 0, ..SIZES }] {
+        assert_eq!(Agent::start(model(), o.clone(), a.clone(), sizes, 1).err(), Some(Refusal::Size));
+    }
+    let mut agent = Agent::start(model(), o, a, SIZES, 1).unwrap();
+    let before = agent.observations().to_vec();
+    assert_eq!(agent.restart(Sizes { places: 8, ..SIZES }, 2), Err(Refusal::Size));
+    assert_eq!(agent.observations(), before);
+}
+
+/// Resume sees heads, lengths, another model's number of items, and lengths of bodies.
+#[test]
+fn stores_that_cannot_be_resumed() {
+    let (o, a) = stores();
+    let mut agent = Agent::start(model(), o, a, SIZES, 1).unwrap();
+    agent.store_asset(b"T1", b"drill", 2).unwrap();
+    let (owned, o, a) = agent.into_parts();
+    let resume = |o: &[u64], a: &[u8]| Agent::resume(owned.clone(), o.to_vec(), a.to_vec()).err();
+    assert_eq!(resume(&o, &a), None);
+    for place in 0..3 {
+        let mut head = o.clone();
+        head[place] = 0;
+        assert_eq!(resume(&head, &a), Some(Refusal::Store), "word {place}");
+    }
+    for place in 0..2 {
+        let mut head = a.clone();
+        head[place] = 200;
+        assert_eq!(resume(&o, &head), Some(Refusal::Store), "byte {place}");
+    }
+    let mut body = a.clone();
+    body[2 + 32 * CELLS] = 2;
+    assert_eq!(resume(&o, &body), Some(Refusal::Store));
+    assert_eq!(resume(&o[1..], &a), Some(Refusal::Store));
+    assert_eq!(resume(&o, &a[1..]), Some(Refusal::Store));
+    let names = owned.names().to_vec();
+    let other = Model::new(vec![1, 1, 0, 0], names).unwrap();
+    assert_eq!(Agent::resume(other, o, a).err(), Some(Refusal::Store));
+}
+
+/// The sizes of replies are enough, and a word less is not, where the ring and the cells are full.
+#[test]
+fn replies_fill_their_sizes() {
+    let (places, cells) = (150, 128);
+    let sizes = Sizes { places: places as u64, cells: cells as u64, origin: 1 };
+    let (o, a) = (vec![0; mtcore::observation_words(places, ITEMS)], vec![0; mtcore::asset_bytes(cells)]);
+    let mut agent = Agent::start(model(), o, a, sizes, 1).unwrap();
+    for step in 0..400 {
+        agent.observe(1, step, step, Value::Sample(step as i32)).unwrap();
+        agent.store_asset(format!("{}", step % 128).as_bytes(), b"body", step).unwrap();
+    }
+    let named = format!("/asset/{}", ["1"; mtcore::MAX_NAMED].join(";"));
+    let exact: [(&str, usize); 6] = [
+        ("/sample", mtcore::sample_words(places, None)),
+        ("/sample?count=150", mtcore::sample_words(places, Some(150))),
+        ("/sample?count=1", mtcore::sample_words(places, Some(1))),
+        ("/current", mtcore::current_words(ITEMS)),
+        ("/assets", mtcore::assets_words(cells)),
+        (&named, mtcore::asset_reply_words(mtcore::MAX_NAMED)),
+    ];
+    for (text, words) in exact {
+        let mut reply = vec![0; words];
+        assert!(agent.request(text.as_bytes(), &mut reply).is_ok(), "{text}");
+        let refused = agent.request(text.as_bytes(), &mut reply[1..]).err();
+        assert_eq!(refused, Some(Refusal::Space), "{text}");
+        assert!(agent.reply_words(150) >= words);
+    }
+    assert_eq!(agent.reply_words(0), mtcore::sample_words(places, None));
+    assert_eq!(agent.reply_words(1000), mtcore::sample_words(places, Some(150)));
+}

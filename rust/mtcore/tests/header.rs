@@ -1,0 +1,61 @@
+//! The C header and the crate say the same numbers.
+
+use mtcore::{Category, Level, Refusal};
+
+const HEADER: &str = include_str!("../../../include/mtcore.h");
+
+/// The number of a `#define NAME number`, or of an enum's `NAME = number`.
+#[track_caller]
+fn number(name: &str) -> u64 {
+    let named = |line: &&str| line.split_whitespace().any(|word| word == name);
+    let line = HEADER.lines().filter(named).find(|line| line.starts_with("#define") || line.contains(" = "));
+    let behind =
+        line.and_then(|line| line.split_once(name)).map(|(_, behind)| behind.trim_start_matches([' ', '=']));
+    let digits = behind.and_then(|behind| behind.split(|c: char| !c.is_ascii_digit()).next());
+    digits
+        .and_then(|digits| digits.parse().ok())
+        .unwrap_or_else(|| panic!("mtcore.h has no number for {name}"))
+}
+
+/// `InvalidUri` is `MTCORE_INVALID_URI`.
+fn c_name(rust: &str) -> String {
+    let parts =
+        rust.chars()
+            .map(|c| if c.is_ascii_uppercase() { format!("_{c}") } else { c.to_uppercase().collect() });
+    format!("MTCORE{}", parts.collect::<String>())
+}
+
+#[test]
+fn refusals() {
+    for number_here in 1..=15 {
+        let refusal = Refusal::from_number(number_here).unwrap();
+        assert_eq!(number(&c_name(&format!("{refusal:?}"))), number_here);
+    }
+    let body = HEADER.split_once("enum mtcore_refusal {").unwrap().1.split_once("};").unwrap().0;
+    assert_eq!(body.matches(" = ").count(), 15, "a refusal of the header has no name here");
+}
+
+#[test]
+fn categories_and_levels() {
+    for category in [Category::Sample, Category::Event, Category::Condition, Category::AssetChange] {
+        let name = c_name(&format!("{category:?}")).replacen("MTCORE", "MTCORE_CATEGORY", 1);
+        assert_eq!(number(&name), category as u64);
+    }
+    for level in [Level::Normal, Level::Warning, Level::Fault] {
+        assert_eq!(number(&c_name(&format!("{level:?}"))), level as u64);
+    }
+}
+
+#[test]
+fn limits() {
+    let limits = [
+        ("MTCORE_MAX_N", mtcore::MAX_PLACES),
+        ("MTCORE_MAX_A", mtcore::MAX_CELLS),
+        ("MTCORE_MAX_BODY", mtcore::MAX_BODY),
+        ("MTCORE_MAX_ID", mtcore::MAX_ID),
+        ("MTCORE_NAME", mtcore::NAME_BYTES),
+    ];
+    for (name, limit) in limits {
+        assert_eq!(number(name), limit as u64, "{name}");
+    }
+}
