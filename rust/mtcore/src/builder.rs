@@ -128,7 +128,7 @@ impl<'a> ModelBuilder<'a> {
         let index = u8::try_from(place).map_err(|_| ModelError::NameCells)?;
         if place == self.cells {
             let free = self.names.chunks_exact_mut(NAME_BYTES).nth(place).ok_or(ModelError::NameBuffer)?;
-            free.copy_from_slice(&cell);
+            free.iter_mut().zip(cell).for_each(|(byte, named)| *byte = named);
             self.cells += 1;
         }
         Ok(index)
@@ -137,12 +137,8 @@ impl<'a> ModelBuilder<'a> {
     /// Puts a word at its place; the words from there on move up by one. There is room.
     fn insert(&mut self, place: usize, word: u32) {
         let end = 2 + self.components + self.items;
-        if let Some(moved) = self.words.get_mut(place..=end) {
-            moved.rotate_right(1);
-            if let Some(first) = moved.first_mut() {
-                *first = word;
-            }
-        }
+        let moved = self.words.iter_mut().take(end + 1).skip(place);
+        moved.fold(word, |carried, held| core::mem::replace(held, carried));
     }
 
     /// Writes the two counts.

@@ -34,7 +34,7 @@
 //! # A host
 //!
 //! ```
-//! use mtcore::{Agent, Category, Component, Level, Model, ModelBuilder, Refusal, Reply, Row, Sizes, Value};
+//! use mtcore::{Agent, Category, Component, Level, ModelBuilder, Reply, Row, Sizes, Value};
 //!
 //! const PLACES: usize = 1000; // observations that the ring holds
 //! const CELLS: usize = 16; // tool records

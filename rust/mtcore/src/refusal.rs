@@ -22,9 +22,9 @@ pub enum Refusal {
     /// 1: model or names break their rules. [`Model::new`](crate::Model::new) tells which one.
     Model,
     /// 2: a store's head or length is wrong or of another model, or contents that had to be read are
-    /// damaged: a ring entry of an item that there isn't, or a body's length that isn't 1 to 510. No
-    /// store that only this crate wrote gets it. What it does not see is told at
-    /// [`Model::checked`](crate::Model::checked).
+    /// damaged: a ring entry of an item that there isn't, or a body's length that isn't 1 to 510. Stores
+    /// that only this crate wrote, always with the same model, never get it. What it does not see is told
+    /// at [`Model::checked`](crate::Model::checked).
     Store,
     /// 3: start's sizes are outside their ranges, or a store's length is not exactly theirs.
     Size,
