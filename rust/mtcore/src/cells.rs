@@ -64,7 +64,8 @@ mod tests {
     use std::vec;
     use std::vec::Vec;
 
-    /// Two of three cells in use: `A` with a body of 2 bytes, and an id and a body of full length.
+    /// Two of three cells in use: `A` with a body of 2 bytes, and an id and a body of full length. The
+    /// third has something in it all the same.
     fn store() -> Vec<u8> {
         let mut store = vec![0; asset_bytes(3)];
         store[..2].copy_from_slice(&[3, 2]);
@@ -74,6 +75,8 @@ mod tests {
         store[bodies..bodies + 4].copy_from_slice(&[0, 2, b'a', b'a']);
         store[bodies + 512..bodies + 514].copy_from_slice(&[1, 254]);
         store[bodies + 514..bodies + 1024].fill(b'b');
+        store[66] = b'C';
+        store[bodies + 1025] = 1;
         store
     }
 

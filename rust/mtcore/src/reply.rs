@@ -230,6 +230,13 @@ mod tests {
     }
 
     #[test]
+    fn more_up_to_last() {
+        for (next, more) in [(1, true), (8, true), (9, true), (10, false)] {
+            assert_eq!(Observations::read(&[0, 1, 9, next]).map(|read| read.more()), Some(more), "{next}");
+        }
+    }
+
+    #[test]
     fn rows_of_assets() {
         let read = Assets::read(&[2, 2, 4, 0, 1, 0, 11, 10]).unwrap();
         let (newest, oldest) = (AssetRow { cell: 1, length: 11 }, AssetRow { cell: 0, length: 10 });

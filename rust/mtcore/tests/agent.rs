@@ -98,6 +98,72 @@ fn agent_and_plain_functions_agree() {
     }
 }
 
+/// What a category holds is what the core takes for its items; only asset changes are not observed.
+#[test]
+fn categories_hold_what_is_taken() {
+    let codes = [0, 1, (1 << 24) - 1, 1 << 24, u32::MAX];
+    let levels = [Level::Normal, Level::Warning, Level::Fault];
+    let conditions = levels.into_iter().flat_map(|level| codes.map(|code| Value::Condition(level, code)));
+    let others = codes.into_iter().flat_map(|code| [Value::Event(code), Value::Sample(code as i32)]);
+    let (o, a) = stores();
+    let mut agent = Agent::start(model(), o, a, SIZES, 9).unwrap();
+    for value in conditions.chain(others).chain([Value::Unavailable]) {
+        for item in 0..ITEMS as u64 {
+            let category = agent.model().category(item).unwrap();
+            let taken = agent.observe(item, 0, 1, value) != Err(Refusal::Kind);
+            let expected = category.holds(value) && category != Category::AssetChange;
+            assert_eq!(taken, expected, "{category:?} {value:?}");
+        }
+    }
+    assert!(Category::AssetChange.holds(Value::Event(2)) && !Category::AssetChange.holds(Value::Sample(2)));
+}
+
+/// Refusal 2 does not see these words of a store; the check of a row does.
+#[test]
+fn rows_that_only_their_check_sees() {
+    let (o, a) = stores();
+    let agent = Agent::start(model(), o, a, SIZES, 9).unwrap();
+    let (owned, good, a) = agent.into_parts();
+    let ring = 4 + PLACES;
+    let latest = 4 + 2 * PLACES + 2 * ITEMS;
+    for (text, place, packed) in [
+        ("/sample", ring, 2 << 32), // item 0's first entry: an event, as item 0 is
+        ("/sample", ring, 1 << 32), // a sample of an event item
+        ("/sample", ring, 9 << 32), // no kind
+        ("/sample", ring, (2 << 40) + (3 << 32) + (7 << 24)), // no level
+        ("/current", latest, 4 << 40), // no item
+        ("/current", latest, u64::MAX),
+    ] {
+        let mut damaged = good.clone();
+        damaged[place] = packed;
+        let agent = Agent::resume(owned.clone(), damaged, a.clone()).unwrap();
+        let mut reply = [0; 40];
+        let Ok(Reply::Observations(read)) = agent.request(text.as_bytes(), &mut reply) else {
+            panic!("{text} is answered");
+        };
+        let row = read.row(0).unwrap();
+        assert_eq!((row.packed, agent.model().checked(row).is_some()), (packed, packed == 2 << 32));
+        assert!(agent.model().checked(read.row(1).unwrap()).is_some());
+    }
+}
+
+/// Requests run side by side, each with a reply of its own.
+#[test]
+fn requests_side_by_side() {
+    let (o, a) = stores();
+    let agent = std::sync::RwLock::new(Agent::start(model(), o, a, SIZES, 9).unwrap());
+    std::thread::scope(|scope| {
+        for _ in 0..3 {
+            scope.spawn(|| {
+                let held = agent.read().unwrap();
+                let mut reply = [0; 40];
+                assert_eq!(held.request(b"/current", &mut reply).map(|reply| reply.len()), Ok(ITEMS));
+            });
+        }
+    });
+    assert!(agent.write().unwrap().observe(1, 0, 10, Value::Sample(3)).is_ok());
+}
+
 /// A reply says of itself what it is.
 #[test]
 fn replies_are_told_apart() {
