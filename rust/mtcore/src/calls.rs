@@ -115,8 +115,9 @@ pub fn store_asset(
 ///
 /// # Texts
 ///
-/// The text is the request's path and query with percent escapes decoded: 1 to 256 bytes, each 33 to
-/// 126, the first `/`. Case matters everywhere. Parts stand in any order, none twice.
+/// The text is the request's path and query: 1 to 256 bytes, each 33 to 126, the first `/`. The host
+/// decodes percent escapes before the call (`%22` is three bytes here) and strips a prefix of its own.
+/// Case matters everywhere. Parts stand in any order, none twice.
 ///
 /// * `/sample?from=..&count=..&path=..`, each part optional. Considered are at most `count` numbers from
 ///   `from` on, up to last; the rows are those of them whose item the path selects, by rising number, and
@@ -125,8 +126,9 @@ pub fn store_asset(
 ///   from next. No `from` and `from=0` mean first. `from` of last + 1 is accepted, with no rows. A count
 ///   that isn't given is 100, also in a smaller ring.
 /// * `/current?path=..&at=..`, each part optional. A row for each selected item, in item order whatever
-///   their numbers are: its newest observation, or with `at` its newest numbered at or below that. An
-///   item that had none by then is left out. next is last + 1, also with `at`.
+///   their numbers are: its newest observation, or with `at` its newest numbered at or below that, also
+///   where it has left the ring. An item that had none by then is left out, which happens only among the
+///   numbers that start gave out. next is last + 1, also with `at`.
 /// * `/assets`: every asset, the newest first.
 /// * `/asset/ID;ID..`: the assets named, in the text's order; an id named twice is two rows. An id that
 ///   is not stored refuses the whole request.
@@ -136,8 +138,8 @@ pub fn store_asset(
 /// rows. The second form keeps those of item type Y, and is refused as [`Refusal::InvalidXpath`] where
 /// none is left. No path selects all items.
 ///
-/// `/sample?` and `/current?`, with nothing behind the `?`, are [`Refusal::InvalidRequest`]. `probe` and
-/// `interval` are the host's: [`Refusal::Unsupported`].
+/// `/sample?` and `/current?`, with nothing behind the `?`, an unknown part and an empty number are
+/// [`Refusal::InvalidRequest`]. `probe` and `interval` are the host's: [`Refusal::Unsupported`].
 ///
 /// # Errors
 ///
@@ -148,8 +150,10 @@ pub fn store_asset(
 /// `at`), [`Refusal::Space`]; for assets [`Refusal::InvalidRequest`], [`Refusal::AssetNotFound`],
 /// [`Refusal::Store`], [`Refusal::Space`].
 ///
-/// A host that reserves less than the largest reply ([`sample_words`](crate::sample_words)) gets
-/// [`Refusal::Space`] for a count above its buffer, and has the client ask for less.
+/// [`Refusal::Space`] looks at the rows that this reply has and not at the count: with a path a large
+/// count may fit. A host that reserves less than the largest reply ([`sample_words`](crate::sample_words))
+/// puts a smaller count of its own into the text before the call, so that the client just polls more
+/// often, or answers the refused sample with TOO_MANY, so that the client asks for fewer.
 ///
 /// # Examples
 ///

@@ -17,8 +17,8 @@ fn cells_with(assets: &[u8], cell: u64) -> Option<(&[u8], usize)> {
 /// A cell is a place and not a name. Cells run from the oldest asset to the newest, and
 /// [`store_asset`](crate::store_asset) moves the ones behind the cell that it gives up down by one. So
 /// the cell of a reply, of an answer or of an asset change event means its asset only until the next
-/// store; an older event's code may name another tool by then. A host looks ids up right behind the
-/// request, under the same lock.
+/// store: look it up under the lock under which the reply was made, or copy it. An older event's code may
+/// name another tool by now; a host that shows which one it meant notes the id when the event is recorded.
 ///
 /// ```
 /// # let (model, names) = ([1, 1, 0, 131_072], mtcore::names(["SYSTEM"]).unwrap());

@@ -148,6 +148,9 @@
 //! changes nothing. Nothing in this crate panics. Stores hold no pointers: they may be saved, copied and
 //! restored bytewise ([`Agent::resume`]), together with [`LAYOUT`] and a checksum of the host's own, since
 //! damage inside them is not all seen ([`Model::checked`]).
+//!
+//! The repository's docs/HOST.md has more for whoever writes a box: how long a call takes, what to do
+//! about each refusal, a day in a box's life. It and the C header say the same as these pages.
 
 #![no_std]
 #![deny(missing_docs)]

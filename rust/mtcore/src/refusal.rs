@@ -33,7 +33,8 @@ pub enum Refusal {
     /// 5: the item does not take this value: it is of another category's kind, a native code of 2^24 or
     /// more, Normal with a code other than 0, or anything at all for an asset change item.
     Kind,
-    /// 6: a number is needed and the last one, 2^63 - 1, is used.
+    /// 6: a number is needed and the last one, 2^63 - 1, is used. The host starts anew, with a new
+    /// instanceId.
     Spent,
     /// 7: the request text is not of 1 to 256 bytes of 33 to 126, the first of them `/`.
     InvalidUri,
@@ -48,14 +49,16 @@ pub enum Refusal {
     /// 11: the path has another form than the two there are, no component has its type, or its second
     /// form selects no item.
     InvalidXpath,
-    /// 12: `from` is below first or above last + 1, or `at` below first or above last.
+    /// 12: `from` is below first or above last + 1, or `at` below first or above last. A client that fell
+    /// behind asks for `current` and goes on from its next.
     OutOfRange,
     /// 13: an asset that was asked for is not stored.
     AssetNotFound,
     /// 14: an id that is not of 1 to 32 bytes of 33 to 126 without `;`, `/` and `?`, or a body that is
     /// not of 1 to 510 bytes.
     Asset,
-    /// 15: the reply buffer is shorter than the reply.
+    /// 15: the reply buffer is shorter than the reply. A host that reserves less than the largest reply
+    /// answers a sample so with TOO_MANY; for other requests it reserves more.
     Space,
     /// A number that this version of the crate has no name for: an archive of a later version is
     /// linked. It is a refusal all the same, and nothing was changed.
@@ -82,7 +85,7 @@ const TABLE: [(Refusal, &str, Option<&str>); 15] = [
     (Refusal::OutOfRange, "OUT_OF_RANGE", Some("OUT_OF_RANGE")),
     (Refusal::AssetNotFound, "ASSET_NOT_FOUND", Some("ASSET_NOT_FOUND")),
     (Refusal::Asset, "the asset's id or body cannot be stored", None),
-    (Refusal::Space, "the reply buffer is too short", Some("INTERNAL_ERROR")),
+    (Refusal::Space, "the reply buffer is too short", Some("TOO_MANY")),
 ];
 
 impl Refusal {

@@ -16,16 +16,20 @@ pub enum Level {
 pub enum Value {
     /// The value is not known. Every item but an asset change takes it, and start gives it to all.
     Unavailable,
-    /// A sample, in thousandths of the item's unit: -2,147,483.648 to 2,147,483.647. What is finer the
-    /// host rounds; for what is beyond it chooses a larger unit, or observes [`Value::Unavailable`].
+    /// A sample, in thousandths of the item's unit: -2,147,483.648 to 2,147,483.647. A finer reading is
+    /// rounded by the host, and is Same where the rounded one is. Where a reading can be beyond that range
+    /// the item gets a coarser unit; failing that the host observes [`Value::Unavailable`] rather than a
+    /// number that was cut off.
     Sample(i32),
-    /// An event's code. What a code means is the host's to know: texts, such as a program's name or a
-    /// message, need a table of the host's, whose entries are kept as long as the ring, an item's latest
-    /// value or its last one from before the ring may hold their codes. The event of an asset change item
-    /// holds a cell.
+    /// An event's code. Texts, as of PROGRAM or MESSAGE, need a table of the host's from codes to texts. The
+    /// table outlives the ring: an item's newest value and its last one from before the ring keep a code
+    /// that no row of the ring has any more, so a code is never given to another text while the stores live,
+    /// and the table is saved with them. A message that repeats is Same if it has the same code; where each
+    /// one counts, each gets a code of its own. The code of an asset change item is a cell.
     Event(u32),
     /// A condition's level with its native code below 2^24, which is 0 for [`Level::Normal`]. Any other
-    /// code is refused as [`Refusal::Kind`](crate::Refusal::Kind).
+    /// code is refused as [`Refusal::Kind`](crate::Refusal::Kind). One condition stands for each item, so
+    /// the newest replaces the one before; where two alarms may stand at once, each gets an item.
     Condition(Level, u32),
 }
 
