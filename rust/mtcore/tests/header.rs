@@ -46,6 +46,15 @@ fn categories_and_levels() {
     }
 }
 
+/// The crate's version is the header's, and the layout of stores is one.
+#[test]
+fn version_and_layout() {
+    let version =
+        [env!("CARGO_PKG_VERSION_MAJOR"), env!("CARGO_PKG_VERSION_MINOR")].map(|part| part.parse().unwrap());
+    assert_eq!([number("MTCORE_VERSION_MAJOR"), number("MTCORE_VERSION_MINOR")], version);
+    assert_eq!(number("MTCORE_LAYOUT"), u64::from(mtcore::LAYOUT));
+}
+
 #[test]
 fn limits() {
     let limits = [
@@ -53,6 +62,9 @@ fn limits() {
         ("MTCORE_MAX_A", mtcore::MAX_CELLS),
         ("MTCORE_MAX_BODY", mtcore::MAX_BODY),
         ("MTCORE_MAX_ID", mtcore::MAX_ID),
+        ("MTCORE_MAX_TEXT", mtcore::MAX_TEXT),
+        ("MTCORE_MAX_NAMED", mtcore::MAX_NAMED),
+        ("MTCORE_DEFAULT_COUNT", mtcore::DEFAULT_COUNT),
         ("MTCORE_NAME", mtcore::NAME_BYTES),
     ];
     for (name, limit) in limits {

@@ -1,0 +1,114 @@
+//! docs/HOST.md and the crate say the same: its table of requests, and its table of refusals.
+
+use mtcore::{
+    Agent, AssetRow, Category, Component, Level, Model, ModelBuilder, Refusal, Reply, Row, Sizes, Value,
+};
+
+const PAGE: &str = include_str!("../../../docs/HOST.md");
+const PLACES: usize = 8;
+const CELLS: usize = 3;
+
+type Mill = Agent<Vec<u32>, Vec<u8>, Vec<u64>, Vec<u8>>;
+
+/// The cells of each row of the table that begins with this head, without its two first lines.
+#[track_caller]
+fn table(head: &str) -> Vec<Vec<&'static str>> {
+    let lines = PAGE.lines().skip_while(|line| !line.starts_with(head)).skip(2);
+    let rows: Vec<Vec<_>> = lines.take_while(|line| line.starts_with('|')).map(cells).collect();
+    assert!(!rows.is_empty(), "the page has no table {head}");
+    rows
+}
+
+fn cells(line: &str) -> Vec<&str> {
+    line.trim_matches('|').split('|').map(str::trim).collect()
+}
+
+/// The page's mill: Linear stands below Axes, and Coolant has no items.
+fn mill() -> Mill {
+    let (mut words, mut names) = ([0; mtcore::model_words(5, 5)], [0; mtcore::name_bytes(10)]);
+    let mut build = ModelBuilder::new(&mut words, &mut names, "Device").unwrap();
+    let axes = build.component(Component::DEVICE, "Axes").unwrap();
+    let linear = build.component(axes, "Linear").unwrap();
+    let controller = build.component(Component::DEVICE, "Controller").unwrap();
+    build.component(Component::DEVICE, "Coolant").unwrap();
+    build.item(Component::DEVICE, Category::Event, "AVAILABILITY").unwrap();
+    build.item(linear, Category::Sample, "POSITION").unwrap();
+    build.item(controller, Category::Event, "EXECUTION").unwrap();
+    build.item(controller, Category::Condition, "SYSTEM").unwrap();
+    build.item(Component::DEVICE, Category::AssetChange, "ASSET_CHANGED").unwrap();
+    let built = build.finish().unwrap();
+    let model = Model::new(built.words().to_vec(), built.names().to_vec()).unwrap();
+    let (observations, assets) =
+        (vec![0; mtcore::observation_words(PLACES, 5)], vec![0; mtcore::asset_bytes(CELLS)]);
+    let sizes = Sizes { places: PLACES as u64, cells: CELLS as u64, origin: 1 };
+    Agent::start(model, observations, assets, sizes, 1000).unwrap()
+}
+
+/// The eight calls behind the page's first line.
+fn work(mill: &mut Mill) -> Result<(), Refusal> {
+    mill.observe(0, 1001, 1001, Value::Event(1))?;
+    mill.observe(1, 1002, 1002, Value::Sample(1250))?;
+    mill.observe(2, 1003, 1003, Value::Event(2))?;
+    mill.observe(1, 1004, 1004, Value::Sample(1260))?;
+    mill.store_asset(b"T17", b"drill, 8 mm", 1005)?;
+    mill.observe(3, 1006, 1006, Value::Condition(Level::Warning, 77))?;
+    mill.store_asset(b"T4", b"mill", 1007)?;
+    mill.observe(1, 1008, 1008, Value::Sample(-1)).map(|_| ())
+}
+
+fn observation(mill: &Mill, row: Row) -> String {
+    let (item, value) = mill.model().checked(row).unwrap();
+    let value = match value {
+        Value::Unavailable => "Unavailable".to_string(),
+        Value::Sample(thousandths) => thousandths.to_string(),
+        Value::Event(code) => code.to_string(),
+        Value::Condition(level, code) => format!("{level:?} {code}"),
+    };
+    format!("{} i{item} {value}", row.number)
+}
+
+fn asset(mill: &Mill, row: AssetRow) -> String {
+    let id = String::from_utf8_lossy(mill.cell_id(row.cell).unwrap());
+    assert_eq!(mill.cell_body(row.cell).map(<[u8]>::len), Some(row.length as usize));
+    format!("cell {} {id}, {} bytes", row.cell, row.length)
+}
+
+/// The cells of the page's table for a text: refusal, k, sizes, rows.
+fn asked(mill: &Mill, text: &str) -> [String; 4] {
+    let mut reply = vec![0; mill.reply_words(PLACES)];
+    match mill.request(text.as_bytes(), &mut reply) {
+        Err(refusal) => [refusal.number().to_string(), String::new(), String::new(), String::new()],
+        Ok(Reply::Observations(read)) => {
+            let rows: Vec<_> = read.rows().map(|row| observation(mill, row)).collect();
+            let sizes = format!("{}, {}, {}", read.first, read.last, read.next);
+            ["0".to_string(), read.len().to_string(), sizes, rows.join("; ")]
+        }
+        Ok(Reply::Assets(read)) => {
+            let rows: Vec<_> = read.rows().map(|row| asset(mill, row)).collect();
+            let sizes = format!("{} of {} cells", read.used, read.cells);
+            ["0".to_string(), read.len().to_string(), sizes, rows.join("; ")]
+        }
+    }
+}
+
+#[test]
+fn requests_are_answered_as_the_page_says() {
+    let mut mill = mill();
+    for (place, row) in table("| text | refusal |").into_iter().enumerate() {
+        if place == 1 {
+            work(&mut mill).unwrap();
+        }
+        let text = row[0].trim_matches('`');
+        assert_eq!(asked(&mill, text), row[1..], "{text}");
+    }
+}
+
+#[test]
+fn refusals_have_the_page_s_error_codes() {
+    let rows = table("| No. | name |");
+    assert_eq!(rows.len(), 15);
+    for row in rows {
+        let refusal = Refusal::from_number(row[0].parse().unwrap()).unwrap();
+        assert_eq!(refusal.error_code().unwrap_or(""), row[2], "{refusal:?}");
+    }
+}
