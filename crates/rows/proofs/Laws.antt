@@ -1,16 +1,17 @@
 -- What the passes over a sample's numbers know at each turn, and what two runs give together.
-use Prim.Native.Nat.{ℕ, zero, suc, _+_, _-_, _*_, _/_, _%_, _^_, _≤_, _<_}
+use Prim.Native.Nat.{ℕ, zero, suc, _+_, _-_, _*_, _≤_, _<_}
 use mathlib.Core.Path.{_≡_, refl, sym, ap, _∙_}
 use mathlib.Core.Bool.{Bool, true, false, cond, _&&_}
 use mathlib.Core.List.{List, [], _∷_, _++_}
 use native.Mathlib.Omega.{arith}
 use lib.Dec.{ltb}
 use lib.ListN.{length, getD, set, length-append}
-use borrow.Author.Tests.{lt-ltb, le-ltb, ne-eqb, ltb-true}
+use borrow.Author.Tests.{lt-ltb, le-ltb, ltb-true}
 use Rattle.spec.specs.Words.{bit, row}
 use Rattle.spec.specs.Value.{itemOf}
 use Rattle.spec.specs.Observations.{ringSize, base, place, itemAt, numbered, ringOk, sampleRows}
 use Rattle.spec.proofs.Words.{and-left, and-right, every-step, every-end}
+use Rattle.selection.proofs.Laws.{bit-yes, bit-no}
 use Rattle.rows.specs.Rows.{itemsOk, sampled, counted, rowsAt, rowsInto, Run}
 use Rattle.rows.specs.declared.Counted.the-variants.{Count, Broken}
 use Rattle.rows.proofs.Ranges.{every-split, rows-in, rows-out, rows-end, rows-split, rows-few, run-next}
@@ -55,13 +56,15 @@ module _ (st : List ℕ) (m s e q : ℕ) (h : s < e) (i : q ≡ place (ringSize 
       ∙ ap (λ (x : ℕ). ltb x m && itemsOk m st (s + 1) e) (item-is st s q i)
 
   -- a bit as a number adds a row or none
-  pub bit-step : (selection x : ℕ) → (x ≡ selection / 2 ^ itemOf (wordAt st q) % 2) × (x ≤ 1)
+  pub bit-step : (selection x : ℕ) → (x ≡ cond (bit selection (itemOf (wordAt st q))) 1 0) × (x ≤ 1)
       → length (sampled st selection s e) ≡ x + length (sampled st selection (s + 1) e)
   unfolding sampleRows
   bit-step selection zero b =
-      omega (arith, ap length (rows-out (picked st selection) (numberedIn st) s e h (rw (item-is st s q i, ← b .0))))
+      let t = bit-no b (λ y. omega arith) in
+      omega (arith, ap length (rows-out (picked st selection) (numberedIn st) s e h (rw (item-is st s q i) t)))
   bit-step selection (suc zero) b =
-      omega (arith, ap length (rows-in (picked st selection) (numberedIn st) s e h (rw (item-is st s q i, ← b .0))))
+      let t = bit-yes b refl in
+      omega (arith, ap length (rows-in (picked st selection) (numberedIn st) s e h (rw (item-is st s q i) t)))
   bit-step selection (suc (suc x)) b = absurd (omega (arith, b .1))
 
 -- c of the rows are counted, and the next number is s at place q
@@ -79,7 +82,7 @@ module _ {st : List ℕ} {m selection f e c s q : ℕ} (v : Counting st m select
   unfolding counted
   counting-broken h i g = rw (v .ok, ok-step st m s e q h (v .run .is h), ← i, le-ltb _ _ g)
 
-  pub counting-more : {i x : ℕ} → s < e → i ≡ itemOf (wordAt st q) → i < m → (x ≡ selection / 2 ^ i % 2) × (x ≤ 1)
+  pub counting-more : {i x : ℕ} → s < e → i ≡ itemOf (wordAt st q) → i < m → (x ≡ cond (bit selection i) 1 0) × (x ≤ 1)
       → Counting st m selection f e (c + x) (s + 1) (q + 1)
   counting-more {i} {x} h w g b =
       let k = bit-step st m s e q h (v .run .is h) selection x (rw (← w) b) in
@@ -184,9 +187,9 @@ module _ {st : List ℕ} {m selection f e k d z : ℕ} {o l : List ℕ} {c a s q
     ok-more : itemsOk m st (s + 1) e ≡ true
     ok-more = and-right (ltb i m) (itemsOk m st (s + 1) e) ok-both
 
-    module _ {x : ℕ} (b : (x ≡ selection / 2 ^ i % 2) × (x ≤ 1)) where
+    module _ {x : ℕ} (b : (x ≡ cond (bit selection i) 1 0) × (x ≤ 1)) where
       selected : x ≡ 1 → bit selection (itemIn st s) ≡ true
-      selected t = rw (item-is st s q (v .run .is h), ← w, ← b .0, t)
+      selected t = rw (item-is st s q (v .run .is h), ← w) (bit-yes b t)
 
       pub sampling-room : x ≡ 1 → 3 * k ≤ length o → (c < length l) × (a + 1 < length l)
       sampling-room t = writing-room (v .put) h (selected t)
@@ -201,7 +204,7 @@ module _ {st : List ℕ} {m selection f e k d z : ℕ} {o l : List ℕ} {c a s q
           record {
             run = run-next (v .run) h;
             ok = ok-more;
-            put = writing-skip (v .put) h (rw (item-is st s q (v .run .is h), ← w, ← b .0) (ne-eqb x 1 t));
+            put = writing-skip (v .put) h (rw (item-is st s q (v .run .is h), ← w) (bit-no b t));
           }
 
 -- ---- a sample written in two parts

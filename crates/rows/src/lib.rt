@@ -2,7 +2,7 @@
 // A pass over the ring is two runs without a wrap, so that no entry costs a division.
 ghost use mathlib.Core.Path.{_≡_};
 ghost use mathlib.Core.Bool.{true};
-ghost use Prim.Native.Nat.{_+_, _-_, _*_, _%_, _/_, _<_, _≤_, _^_};
+ghost use Prim.Native.Nat.{_+_, _-_, _*_, _<_, _≤_};
 ghost use lib.ListN.{length, set};
 ghost use Rattle.spec.specs.Observations.{Head, ringSize, base};
 ghost use Rattle.rows.specs.Rows.{itemsOk, sampled, counted, rowsAt, rowsInto, Run, TwoRuns};
@@ -17,14 +17,6 @@ pub enum Counted {
 pub struct Split {
     pub place: u64,
     pub turn: u64,
-}
-
-// 1 where item i is selected, else 0.
-pub fn bit_of(selection: u64, i: u64) -> u64
-    requires { ⌜ i < 64 ⌝ }
-    ensures { λ r. ⌜ (r ≡ selection / 2 ^ i % 2) × (r ≤ 1) ⌝ }
-{
-    (selection >> i) & 1
 }
 
 // The two runs of the numbers from f up to e, at most a ring of them.
@@ -60,7 +52,7 @@ fn count_run(st: &[u64], m: u64, selection: u64, p: u64, f: u64, e: u64) -> Coun
         if m <= i {
             return Counted::Broken;
         }
-        c += bit_of(selection, i);
+        c += selection::bit_of(selection, i);
         q += 1;
         s += 1;
     }
@@ -125,7 +117,7 @@ fn write_run(
     let mut s = f;
     while s < e {
         let w = st[(words + q) as usize];
-        if bit_of(selection, value::item_of(w)) == 1 {
+        if selection::bit_of(selection, value::item_of(w)) == 1 {
             write_row(out, c, a, s, st[(4 + q) as usize], w);
             c += 1;
             a += 2;

@@ -1,5 +1,5 @@
 -- Laws of what a path selects, as the code goes: names, the components under a type, the items, the forms.
-use Prim.Native.Nat.{ℕ, _+_, _-_, _*_, _/_, _^_, _<_, _≤_}
+use Prim.Native.Nat.{ℕ, _+_, _-_, _*_, _<_, _≤_}
 use mathlib.Core.Path.{_≡_, refl, sym, ap, _∙_}
 use mathlib.Core.Bool.{Bool, true, false, not, _&&_, _||_, and-true, and-false}
 use mathlib.Core.List.{List, [], _∷_}
@@ -8,33 +8,21 @@ use native.Mathlib.Omega.{arith}
 use borrow.Author.Tests.{eqb-true, eqb-false, eq-eqb, ne-eqb, not-true, not-false}
 use lib.Dec.{eqb}
 use lib.ListN.{length, take, drop, length-take}
-use lib.Pow.{ones-split, ones-lt, high}
 use lib.Seq.{take-take, length-take-le}
 use Rattle.spec.specs.Words.{anyBelow, bit, setOf}
 use Rattle.spec.specs.Bytes.{nameByte, same}
 use Rattle.spec.specs.Model.{Checked, letters, nameCell, parentOf, componentName, componentOf, itemName, components, items, componentWord, itemWord}
-use Rattle.spec.specs.Path.{Form, subtree, typed, otherForm, formOf, isNamed, hasType, under, inSubtree, inTyped, selectSubtree, selectTyped, selectForm, anyItem, select}
+use Rattle.spec.specs.Path.{Form, subtree, typed, otherForm, formOf, isNamed, hasType, under, inSubtree, inTyped, selectSubtree, selectTyped, selectForm, select}
 use Rattle.spec.specs.declared.Selection.{Selection}
 use Rattle.spec.specs.declared.Selection.the-variants.{Items, NotFound}
 use Rattle.spec.proofs.Words.{by-cond}
 use Rattle.spec.proofs.Bytes.{same-ne}
-use Rattle.spec.proofs.Bits.{set-lt, set-ext, set-all}
+use Rattle.spec.proofs.Bits.{set-lt, set-ext}
 use Rattle.spec.proofs.Path.{under-zero}
 use Rattle.path.specs.declared.PathForm.{PathForm}
 use Rattle.path.specs.declared.PathForm.the-variants.{Subtree, Typed}
 use Rattle.path.specs.Forms.{meaning, NamesFit}
 use Rattle.select.specs.Choice.{taken, chosen, byNames, SelectionFits}
-
--- ---- sets
-
--- all ones of 64, less those above m
-pub all-shifted : (m : ℕ) → m ≤ 64 → (2 ^ 64 - 1) / 2 ^ (64 - m) ≡ setOf anyItem m
-all-shifted m h =
-    let e : 64 ≡ m + (64 - m) = omega arith in
-    ap (λ (x : ℕ). (2 ^ x - 1) / 2 ^ (64 - m)) e
-    ∙ ap (λ (x : ℕ). x / 2 ^ (64 - m)) (ones-split m (64 - m))
-    ∙ high (2 ^ m - 1) (64 - m) (ones-lt (64 - m))
-    ∙ sym (set-all m)
 
 -- ---- names
 

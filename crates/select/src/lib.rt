@@ -1,50 +1,15 @@
-// Selections: sets of data items, one bit each, and what a path selects.
+// What a path selects.
 ghost use mathlib.Core.Path.{_≡_};
-ghost use mathlib.Core.Bool.{cond, _||_};
+ghost use mathlib.Core.Bool.{_||_};
 ghost use mathlib.Core.Option.{some};
-ghost use Prim.Native.Nat.{_+_, _*_, _^_, _<_, _≤_};
-ghost use lib.Count.{ones};
+ghost use Prim.Native.Nat.{_+_, _*_, _<_, _≤_};
 ghost use lib.ListN.{length};
 ghost use Rattle.spec.specs.Words.{bit, setOf};
 ghost use Rattle.spec.specs.Model.{Checked, parentOf, componentName, componentOf, itemName, components, items};
-ghost use Rattle.spec.specs.Path.{isNamed, under, anyItem, select};
+ghost use Rattle.spec.specs.Path.{isNamed, under, select};
 ghost use Rattle.select.specs.Choice.{taken, chosen, byNames, SelectionFits};
 use path::PathForm;
 use spec::Selection;
-
-// Whether item i is in the selection.
-pub fn has(selection: u64, i: u64) -> bool
-    requires { ⌜ i < 64 ⌝ }
-    ensures { λ r. ⌜ r ≡ bit selection i ⌝ }
-{
-    (selection >> i) & 1 == 1
-}
-
-// How many items the selection has.
-pub fn count(selection: u64) -> u64
-    ensures { λ r. ⌜ (r ≡ ones selection) × (r ≤ 64) ⌝ }
-{
-    u64::count_ones(selection) as u64
-}
-
-// All of m items.
-pub fn all_items(m: u64) -> u64
-    requires { ⌜ (1 ≤ m) × (m ≤ 64) ⌝ }
-    ensures { λ r. ⌜ (r ≡ setOf anyItem m) × (r < 2 ^ m) ⌝ }
-{
-    18446744073709551615 >> (64 - m)
-}
-
-// The set, with i where `taken` says so; i is above all in the set.
-fn with_if(taken: bool, set: u64, i: u64) -> u64
-    requires { ⌜ (i < 64) × (set < 2 ^ i) ⌝ }
-    ensures { λ r. ⌜ r ≡ cond taken (2 ^ i + set) set ⌝ }
-{
-    if taken {
-        return set | (1 << i);
-    }
-    set
-}
 
 // Whether name k is the text t. Most names differ early: only a name that agrees so far is measured.
 fn is_named(names: &[u8], k: u64, t: &[u8]) -> bool
@@ -71,7 +36,7 @@ fn joins(names: &[u8], word: u64, t: &[u8], set: u64) -> bool
     if is_named(names, word % 256, t) {
         return true;
     }
-    has(set, word / 256)
+    selection::has(set, word / 256)
 }
 
 // The components that have type name t, or an ancestor that has. A parent stands before its children, so one pass does it.
@@ -84,7 +49,7 @@ fn under_type(model: &[u32], names: &[u8], t: &[u8]) -> u64
     let mut i: u64 = 0;
     while i < c {
         let word = model::component_word(model, i);
-        set = with_if(joins(names, word, t, set), set, i);
+        set = selection::with_if(joins(names, word, t, set), set, i);
         i += 1;
     }
     set
@@ -95,7 +60,7 @@ fn takes(names: &[u8], word: u64, set: u64, typed: bool, y: &[u8]) -> bool
     requires { ⌜ (24 * itemName word + 24 ≤ length (now names)) × (componentOf word < 64) ⌝ }
     ensures { λ r. ⌜ r ≡ taken (now (names .entry)) set typed (now (y .entry)) word ⌝ }
 {
-    if !has(set, word / 256 % 256) {
+    if !selection::has(set, word / 256 % 256) {
         return false;
     }
     if !typed {
@@ -114,7 +79,7 @@ fn items_of(model: &[u32], names: &[u8], set: u64, typed: bool, y: &[u8]) -> u64
     let mut j: u64 = 0;
     while j < m {
         let word = model::item_word(model, j);
-        selection = with_if(takes(names, word, set, typed, y), selection, j);
+        selection = selection::with_if(takes(names, word, set, typed, y), selection, j);
         j += 1;
     }
     selection

@@ -1,5 +1,5 @@
 -- Laws of the newest numbers by item, of an item's row, and of the set of items that have one.
-use Prim.Native.Nat.{ℕ, zero, suc, _+_, _-_, _/_, _%_, _^_, _≤_, _<_}
+use Prim.Native.Nat.{ℕ, zero, suc, _+_, _-_, _^_, _≤_, _<_}
 use mathlib.Core.Path.{_≡_, refl, sym, ap, _∙_}
 use mathlib.Core.Logic.{_≢_}
 use mathlib.Core.Bool.{Bool, true, false, cond, _&&_, not}
@@ -10,11 +10,12 @@ use lib.Count.{ones}
 use lib.Dec.{eqb}
 use lib.ListN.{length, getD, set, length-set, length-replicate, getD-replicate}
 use lib.Seq.{getD-set-same, getD-set-other}
-use borrow.Author.Tests.{lt-ltb, le-ltb, ne-eqb, eqb-true, eqb-false}
+use borrow.Author.Tests.{lt-ltb, le-ltb, eqb-true, eqb-false}
 use Rattle.spec.specs.Words.{every, pickRows, bit, row}
 use Rattle.spec.specs.Value.{itemOf}
 use Rattle.spec.specs.Observations.{ringSize, base, place, itemAt, checkpointAt, latestAt, latestRow, ringOk, newestIn, heldRow, atRows, currentRows}
 use Rattle.spec.proofs.Bits.{set-lt, set-bit, rows-ones}
+use Rattle.selection.proofs.Laws.{bit-yes, bit-no}
 use Rattle.rows.specs.Rows.{itemsOk, rowsInto, Run}
 use Rattle.rows.proofs.Ranges.{run-next}
 use Rattle.rows.proofs.Laws.{itemIn, numberedIn, wordAt, item-is, numbered-is, ok-step, ok-split}
@@ -104,21 +105,15 @@ module _ (st : List ℕ) (m t x i : ℕ) where
       → rowOf m st t x i ≡ x ∷ getD st (4 + q) 0 ∷ wordAt st q ∷ []
   row-ring q h e = rw (le-ltb _ _ h) (numbered-is st x q e)
 
--- a bit as a number
-module _ (s i x : ℕ) (b : (x ≡ s / 2 ^ i % 2) × (x ≤ 1)) where
-  pub bit-yes : x ≡ 1 → bit s i ≡ true
-  bit-yes t = rw (← b .0, t)
-
-  pub bit-no : (x ≡ 1 → ⊥) → bit s i ≡ false
-  bit-no t = rw (← b .0) (ne-eqb x 1 t)
-
+-- the test of an item, with its bit as a number
+module _ (s i x : ℕ) (b : (x ≡ cond (bit s i) 1 0) × (x ≤ 1)) where
   pub has-not : (r : List ℕ) → x ≡ 0 → false ≡ hasRow s i r
   unfolding hasRow
-  has-not r z = rw (bit-no (λ y. omega arith))
+  has-not r z = let n : bit s i ≡ false = bit-no b (λ y. omega arith) in rw n
 
   pub has-by : (r : List ℕ) {a y z : ℕ} → (x ≡ 0 → ⊥) → r ≡ a ∷ y ∷ z ∷ [] → not (eqb a 0) ≡ hasRow s i r
   unfolding hasRow
-  has-by r n e = let o : x ≡ 1 = omega (arith, b .1) in rw (bit-yes o, e)
+  has-by r n e = let y : bit s i ≡ true = bit-yes b (omega (arith, b .1)) in rw (y, e)
 
 -- ---- the loop that writes the rows of m items
 

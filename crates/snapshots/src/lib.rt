@@ -1,8 +1,8 @@
 // The rows of items: each item's newest observation among some numbers of the ring, or what stands in its table.
 ghost use mathlib.Core.Path.{_≡_};
 ghost use mathlib.Core.List.{[], _∷_};
-ghost use mathlib.Core.Bool.{true, cond};
-ghost use Prim.Native.Nat.{_+_, _-_, _*_, _<_, _≤_, _^_};
+ghost use mathlib.Core.Bool.{true};
+ghost use Prim.Native.Nat.{_+_, _-_, _*_, _<_, _≤_};
 ghost use lib.ListN.{length};
 ghost use Rattle.spec.specs.Words.{bit, pickRows};
 ghost use Rattle.spec.specs.Observations.{Head, ringSize, base, currentRows};
@@ -85,22 +85,11 @@ fn has_row(st: &[u64], m: u64, t: u64, x: u64, selection: u64, i: u64) -> bool
     requires { ⌜ (m ≤ 64) × ((i < m) × (t + 3 * m ≤ length (now st))) ⌝ }
     ensures { λ r. ⌜ r ≡ hasRow selection i (rowOf m (now (st .entry)) t x i) ⌝ }
 {
-    if rows::bit_of(selection, i) == 0 {
+    if selection::bit_of(selection, i) == 0 {
         return false;
     }
     let h = row_of(st, m, t, x, i);
     h.number != 0
-}
-
-// The set, with i where `taken` says so; i is above all in the set.
-fn with_if(taken: bool, set: u64, i: u64) -> u64
-    requires { ⌜ (i < 64) × (set < 2 ^ i) ⌝ }
-    ensures { λ r. ⌜ r ≡ cond taken (2 ^ i + set) set ⌝ }
-{
-    if taken {
-        return set | (1 << i);
-    }
-    set
 }
 
 // The selected items that have an observation: a number in `seen`, or a checkpoint.
@@ -113,7 +102,7 @@ pub fn present(st: &[u64], m: u64, seen: &[u64; 64], selection: u64) -> u64
     let mut set: u64 = 0;
     let mut i: u64 = 0;
     while i < m {
-        set = with_if(has_row(st, m, t, seen[i as usize], selection, i), set, i);
+        set = selection::with_if(has_row(st, m, t, seen[i as usize], selection, i), set, i);
         i += 1;
     }
     set
@@ -130,7 +119,7 @@ fn write_items(st: &[u64], m: u64, t: u64, seen: &[u64; 64], chosen: u64, k: u64
     let mut a = k;
     let mut i: u64 = 0;
     while i < m {
-        if rows::bit_of(chosen, i) == 1 {
+        if selection::bit_of(chosen, i) == 1 {
             let h = row_of(st, m, t, seen[i as usize], i);
             rows::write_row(out, c, a, h.number, h.time, h.packed);
             c += 1;

@@ -1,9 +1,10 @@
 -- The invariant: the rows of the chosen items below i are written, the next goes to words c and a. The measure is the items left.
 use mathlib.Core.Logic.{⊎-elim}
 use Rattle.spec.specs.Words.{bit}
+use Rattle.selection.proofs.Laws.{bit-yes, bit-no}
 use Rattle.rows.proofs.Writing.{Writing, writing-room, writing-more, writing-skip}
 use Rattle.snapshots.specs.Snapshots.{rowFrom}
-use Rattle.snapshots.proofs.Laws.{bit-yes, bit-no, items-start, items-end}
+use Rattle.snapshots.proofs.Laws.{items-start, items-end}
 use borrow.Author.Needs.{needs}
 use native.Mathlib.Omega.{arith}
 use Prim.Native.Nat.{_-_}
@@ -33,13 +34,13 @@ row-of-requires : tie.Need-row-of-requires Inv-loop μ-loop
 row-of-requires c κs = search needs
 
 write-row-requires : tie.Need-write-row-requires Inv-loop μ-loop
-write-row-requires c κs = writing-room (c .before .before .before .before .before .before .loop .inv) (c .before .before .before .before .before .loop-test .taken) (bit-yes _ _ _ (c .before .before .before .before .bit-of .ensures) (c .before .before .before .if1 .taken)) (c .before .before .before .before .before .before .before .before .before .pre .1 .1 .1)
+write-row-requires c κs = writing-room (c .before .before .before .before .before .before .loop .inv) (c .before .before .before .before .before .loop-test .taken) (bit-yes (c .before .before .before .before .bit-of .ensures) (c .before .before .before .if1 .taken)) (c .before .before .before .before .before .before .before .before .before .pre .1 .1 .1)
 
 add-c : tie.Need-add-c Inv-loop μ-loop
-add-c c = let g = writing-room (c .before .before .before .before .before .before .before .before .before .loop .inv) (c .before .before .before .before .before .before .before .before .loop-test .taken) (bit-yes _ _ _ (c .before .before .before .before .before .before .before .bit-of .ensures) (c .before .before .before .before .before .before .if1 .taken)) (c .before .before .before .before .before .before .before .before .before .before .before .before .pre .1 .1 .1) in omega arith
+add-c c = let g = writing-room (c .before .before .before .before .before .before .before .before .before .loop .inv) (c .before .before .before .before .before .before .before .before .loop-test .taken) (bit-yes (c .before .before .before .before .before .before .before .bit-of .ensures) (c .before .before .before .before .before .before .if1 .taken)) (c .before .before .before .before .before .before .before .before .before .before .before .before .pre .1 .1 .1) in omega arith
 
 add-a : tie.Need-add-a Inv-loop μ-loop
-add-a c = let g = writing-room (c .before .before .before .before .before .before .before .before .before .loop .inv) (c .before .before .before .before .before .before .before .before .loop-test .taken) (bit-yes _ _ _ (c .before .before .before .before .before .before .before .bit-of .ensures) (c .before .before .before .before .before .before .if1 .taken)) (c .before .before .before .before .before .before .before .before .before .before .before .before .pre .1 .1 .1) in omega arith
+add-a c = let g = writing-room (c .before .before .before .before .before .before .before .before .before .loop .inv) (c .before .before .before .before .before .before .before .before .loop-test .taken) (bit-yes (c .before .before .before .before .before .before .before .bit-of .ensures) (c .before .before .before .before .before .before .if1 .taken)) (c .before .before .before .before .before .before .before .before .before .before .before .before .pre .1 .1 .1) in omega arith
 
 add-i : tie.Need-add-i Inv-loop μ-loop
 add-i c = search needs
@@ -48,7 +49,7 @@ loop-less : tie.Need-loop-less Inv-loop μ-loop
 loop-less c = search needs
 
 loop-again : tie.Need-loop-again Inv-loop μ-loop
-loop-again c = ⊎-elim (λ w. rw (w .8, w .9) (writing-more (c .before .before .before .loop .inv) (c .before .before .loop-test .taken) (bit-yes _ _ _ (c .before .bit-of .ensures) (w .0 .taken)) (w .2 .ensures) (w .7 ∙ w .4 .ensures))) (λ w. rw (w .1, w .2, w .3) (writing-skip (c .before .before .before .loop .inv) (c .before .before .loop-test .taken) (bit-no _ _ _ (c .before .bit-of .ensures) (w .0 .left)))) (c .if1 .came)
+loop-again c = ⊎-elim (λ w. rw (w .8, w .9) (writing-more (c .before .before .before .loop .inv) (c .before .before .loop-test .taken) (bit-yes (c .before .bit-of .ensures) (w .0 .taken)) (w .2 .ensures) (w .7 ∙ w .4 .ensures))) (λ w. rw (w .1, w .2, w .3) (writing-skip (c .before .before .before .loop .inv) (c .before .before .loop-test .taken) (bit-no (c .before .bit-of .ensures) (w .0 .left)))) (c .if1 .came)
 
 same-length : tie.Need-same-length Inv-loop μ-loop
 same-length c = c .before .loop .inv .len

@@ -1,11 +1,11 @@
--- All 64 ones, shifted down to m of them.
+-- All ones, shifted down to m of them.
 use Rattle.spec.specs.Path.{anyItem}
 use Rattle.spec.proofs.Bits.{set-lt}
-use Rattle.select.proofs.Laws.{all-shifted}
+use Rattle.selection.proofs.Laws.{all-shifted}
 use Prim.Native.Nat.{_-_}
 use borrow.Author.Needs.{needs}
-use Rattle.select.proofs.all_items.Statement.{statement}
-use Rattle.select.proofs.all_items.Tie as tie
+use Rattle.selection.proofs.all.Statement.{statement}
+use Rattle.selection.proofs.all.Tie as tie
 
 sub-result : tie.Need-sub-result
 sub-result c = search needs
@@ -16,5 +16,5 @@ shr-result c = search needs
 returns : tie.Need-returns
 returns c = (all-shifted (c .args .m) (c .pre .1), rw (all-shifted (c .args .m) (c .pre .1)) (set-lt anyItem (c .args .m)))
 
-pub all-items-spec : {M : Type 1} → statement M
-all-items-spec = tie.close (tie.spec sub-result shr-result returns)
+pub all-spec : {M : Type 1} → statement M
+all-spec = tie.close (tie.spec sub-result shr-result returns)

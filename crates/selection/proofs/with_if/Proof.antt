@@ -1,10 +1,8 @@
--- The bit of i is above the set, so `
--- ` adds it.
+-- The bit of i is above the set, so the or adds it.
 use Rattle.spec.proofs.Bits.{or-shifted}
-use Prim.Native.Nat.{_-_}
 use borrow.Author.Needs.{needs}
-use Rattle.select.proofs.with_if.Statement.{statement}
-use Rattle.select.proofs.with_if.Tie as tie
+use Rattle.selection.proofs.with_if.Statement.{statement}
+use Rattle.selection.proofs.with_if.Tie as tie
 
 shl-result : tie.Need-shl-result
 shl-result c = search needs
