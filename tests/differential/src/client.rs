@@ -1,5 +1,5 @@
-//! A client that polls with one path, each time from the next number of the poll before. What it
-//! was handed over, joined, has to be the machine's matching observations, each once, in order.
+//! A client that polls with one path, each time from the next number of the poll before. The rows
+//! delivered to it, joined, have to be the machine's matching observations, each once, in order.
 
 use crate::call::Answer;
 use crate::rng::Rng;
@@ -9,22 +9,22 @@ pub struct Client {
     path: Option<Vec<u8>>,
     selected: u64,
     count: Option<u64>,
-    /// The first number of the stretch and the next number to ask for.
-    stretch: Option<(u64, u64)>,
+    /// The window that the polls so far add up to: its first number, and the next to ask for.
+    window: Option<(u64, u64)>,
     rows: Vec<[u64; 3]>,
-    /// Stretches checked.
+    /// Windows checked.
     pub windows: u64,
 }
 
 impl Client {
     pub fn new(path: Option<Vec<u8>>, selected: u64, count: Option<u64>) -> Client {
-        Client { path, selected, count, stretch: None, rows: Vec::new(), windows: 0 }
+        Client { path, selected, count, window: None, rows: Vec::new(), windows: 0 }
     }
 
     /// The text of the next poll. The count may change from poll to poll, the path not.
     pub fn text(&mut self, rng: &mut Rng) -> Vec<u8> {
         let mut parts = Vec::new();
-        if let Some((_, next)) = self.stretch {
+        if let Some((_, next)) = self.window {
             parts.push(format!("from={next}").into_bytes());
         }
         if let Some(count) = self.count {
@@ -43,7 +43,7 @@ impl Client {
         text
     }
 
-    /// Takes the answer of a poll. A refused one hands nothing over and ends the stretch only where
+    /// Takes the answer of a poll. A refused one delivers nothing and ends the window only where
     /// the next number has been written over or cannot be asked for.
     pub fn take<F: FaultSet>(
         &mut self,
@@ -56,7 +56,7 @@ impl Client {
             Answer::Pair(15, _) => Ok(()),
             _ => {
                 self.finish(machine)?;
-                self.stretch = None;
+                self.window = None;
                 Ok(())
             }
         }
@@ -67,11 +67,11 @@ impl Client {
         if sizes[0] != k as u64 {
             return Err(format!("{k} rows answered, {} written", sizes[0]));
         }
-        let begun = self.stretch.map_or(sizes[1], |(begun, _)| begun);
+        let begun = self.window.map_or(sizes[1], |(begun, _)| begun);
         for row in 0..k {
             self.rows.push([rest[row], rest[k + 2 * row], rest[k + 2 * row + 1]]);
         }
-        self.stretch = Some((begun, sizes[3]));
+        self.window = Some((begun, sizes[3]));
         if machine.last() < sizes[3] {
             // Level with the machine: a good moment to check.
             return self.compare(machine);
@@ -79,16 +79,16 @@ impl Client {
         Ok(())
     }
 
-    /// Checks the stretch and forgets its rows.
+    /// Checks the window and forgets its rows.
     pub fn finish<F: FaultSet>(&mut self, machine: &Machine<F>) -> Result<(), String> {
         self.compare(machine)?;
-        self.windows += u64::from(self.stretch.is_some());
+        self.windows += u64::from(self.window.is_some());
         self.rows.clear();
         Ok(())
     }
 
     fn compare<F: FaultSet>(&self, machine: &Machine<F>) -> Result<(), String> {
-        let Some((begun, next)) = self.stretch else {
+        let Some((begun, next)) = self.window else {
             return Ok(());
         };
         let mut expected = machine

@@ -51,7 +51,7 @@ pub struct Counts {
     pub bodies: [u64; 2],
     pub same: u64,
     pub rows: u64,
-    /// Stretches of clients whose windows were joined and checked.
+    /// Windows of clients, joined from their polls and checked.
     pub windows: u64,
 }
 
@@ -98,7 +98,7 @@ impl Counts {
 impl fmt::Display for Counts {
     fn fmt(&self, f: &mut fmt::Formatter<'_>) -> fmt::Result {
         let Counts { calls, same, rows, windows, .. } = self;
-        writeln!(f, "{calls} calls, {same} Same, {rows} rows, {windows} joined stretches")?;
+        writeln!(f, "{calls} calls, {same} Same, {rows} rows, {windows} joined windows")?;
         writeln!(f, "  answers by refusal number, 0 accepted:")?;
         writeln!(f, "  start       {:?}", self.starts)?;
         writeln!(f, "  observe     {:?}", self.observes)?;

@@ -29,7 +29,7 @@ pub fn text(rng: &mut Rng, scene: &Scene) -> Vec<u8> {
         damage(rng, &mut text);
     }
     if rng.percent(3) {
-        stretch(rng, &mut text);
+        resize(rng, &mut text);
     }
     text
 }
@@ -295,7 +295,7 @@ pub fn damage(rng: &mut Rng, text: &mut Vec<u8>) {
 }
 
 /// To the lengths around the most bytes allowed.
-fn stretch(rng: &mut Rng, text: &mut Vec<u8>) {
+fn resize(rng: &mut Rng, text: &mut Vec<u8>) {
     let length = *rng.pick(&[255, 256, 257, 258, 300, 1]);
     let filler = *rng.pick(b"Aa0;&");
     text.resize(length, filler);
