@@ -1,0 +1,87 @@
+# What the gate counts, and how it reads the checker's logs: functions for .ci/run, tests/run and tests/gate, which source
+# this file with the repository's top as their working folder. POSIX sh.
+
+# the number of a bound in .ci/bounds; fails where there isn't exactly one
+bound() { # least|most NAME
+    LC_ALL=C awk -v side="$1" -v name="$2" '
+        $1 == side && $2 == name && NF == 3 && $3 ~ /^[0-9]+$/ { number = $3; found++ }
+        END { if (found != 1) exit 1; print number }
+    ' .ci/bounds
+}
+
+# at least so many were found, and at least one
+enough() { # NAME FOUND
+    enough_least=$(bound least "$1") || { echo "$1: .ci/bounds has not one line 'least $1 NUMBER'"; return 1; }
+    [ "$enough_least" -gt 0 ] || { echo "$1: a least number of 0 asks for nothing"; return 1; }
+    [ "$2" -ge "$enough_least" ] || { echo "$1: $2 found, at least $enough_least are needed"; return 1; }
+    [ "$2" -eq "$enough_least" ] || echo "note: $1: $2 found; .ci/bounds asks for $enough_least only"
+}
+
+# at most so many were found
+few() { # NAME FOUND
+    few_most=$(bound most "$1") || { echo "$1: .ci/bounds has not one line 'most $1 NUMBER'"; return 1; }
+    [ "$2" -le "$few_most" ] || { echo "$1: $2 found, at most $few_most are allowed"; return 1; }
+    [ "$2" -eq "$few_most" ] || echo "note: $1: $2 found; .ci/bounds allows $few_most"
+}
+
+# ---- what stands in the repository
+
+crates_listed() { sed -n 's/^\([a-z0-9_]*\):.*/\1/p' crates.txt; }
+
+edits_of() { # CRATE
+    for edit in "crates/$1/must-fail"/*.edit; do [ ! -f "$edit" ] || echo "$edit"; done
+}
+
+edits_listed() { for crate in $(crates_listed); do edits_of "$crate"; done; }
+
+programs_listed() { for crate in $(crates_listed); do [ ! -f "crates/$crate/src/main.rt" ] || echo "$crate"; done; }
+
+# edits that change a proof file, or a contract rather than code: they show nothing of the code
+edits_beside_code() {
+    edits_listed | while read -r edit; do
+        ! grep -q -e '^file: proofs/' -e '^old:.*\(ensures\|requires\|⌜\)' -e '^new:.*\(ensures\|requires\|⌜\)' "$edit" || echo "$edit"
+    done
+}
+
+# lines of code above 120 columns; a column is a character, so only the first byte of each counts
+long_lines() {
+    find crates -path '*/src/*' -name '*.rt' -exec env LC_ALL=C awk '
+        { line = $0; gsub(/[\200-\277]/, "", line) }
+        length(line) > 120 { print FILENAME ":" FNR }
+    ' {} +
+}
+
+# ---- what the checker says
+
+# from the output of rt: crates proved, and programs that ran
+crates_proved() { grep -a -c '^rt: [a-z0-9_]* proved (' "$1"; }
+programs_ran() { grep -a -c "^rt: [a-z0-9_]* ran.*, and wrote what its file 'stdout' has" "$1"; }
+
+# The first refusal in a checker's log that isn't the mere consequence of another: an error, or a promise without a proof.
+# Only its own line; what explains it follows in the log.
+first_refusal() { # LOG
+    LC_ALL=C awk '
+        /: error/ && !/ was not admitted \(it has holes / { print; exit }
+        /^note: [^ ]*:[0-9]+:[0-9]+: it is not proved that / { print; exit }
+    ' "$1"
+}
+
+# Whether a log refuses its edit at a fact that no longer holds. Such a refusal is either a promise of the code that no proof
+# was found for, or an error in a proof file that says of what was to be proved that it isn't so: two sides that differ, a
+# search or an equation that finds nothing. All else is red, as an edit with an unknown name, one that is no term or has
+# another type, and one that changes the steps which the proof file is about.
+false_fact() { # LOG
+    [ -f "$1" ] && first_refusal "$1" | LC_ALL=C awk '
+        /^note: [^ ]*\/src\/[^ ]*\.rt:[0-9]+:[0-9]+: it is not proved that / { fact = 1 }
+        /\/must-fail\/[^ \/]+\/[^ \/]+\/proofs\/[^ ]*\.antt:[0-9]+:[0-9]+: error: `[^`]*`: / {
+            said = $0
+            sub(/^.*: error: `[^`]*`: /, "", said)
+            if (said ~ /^(as printed|computed as far as they go), the two types /) fact = 1
+            if (said ~ /^expected type `/) fact = 1
+            if (said ~ /^`search`: no proof of /) fact = 1
+            if (said ~ /^`rw`: no occurrence of /) fact = 1
+            if (said ~ /^give a proof of that as the last argument, `rw /) fact = 1
+        }
+        END { exit !fact }
+    '
+}
