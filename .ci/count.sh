@@ -43,6 +43,29 @@ edits_beside_code() {
     done
 }
 
+# the edits that docs/COVERAGE-*.md name, as 'crate/label, label': CRATE/LABEL lines, with those that don't exist among them
+edits_named() {
+    LC_ALL=C awk '
+        /^\|/ {
+            cells = split($0, cell, "|")
+            for (c = 1; c <= cells; c++) {
+                gsub(/`[^`]*`/, " ` ", cell[c])
+                of = ""
+                words = split(cell[c], word, /[ ,]+/)
+                for (w = 1; w <= words; w++) {
+                    if (word[w] ~ /^\(/) of = ""
+                    ends = word[w] ~ /[.;:)]$/
+                    gsub(/[.;:()]/, "", word[w])
+                    if (word[w] ~ /^[a-z0-9_]+\/[a-z0-9_]+$/) { of = word[w]; sub(/\/.*/, "", of); print word[w] }
+                    else if (of != "" && word[w] ~ /^[a-z0-9]+(_[a-z0-9]+)*$/) print of "/" word[w]
+                    else if (word[w] != "") of = ""
+                    if (ends) of = ""
+                }
+            }
+        }
+    ' docs/COVERAGE-*.md | sort -u
+}
+
 # lines of code above 120 columns; a column is a character, so only the first byte of each counts
 long_lines() {
     find crates -path '*/src/*' -name '*.rt' -exec env LC_ALL=C awk '
@@ -80,7 +103,10 @@ false_fact() { # LOG
             if (said ~ /^expected type `/) fact = 1
             if (said ~ /^`search`: no proof of /) fact = 1
             if (said ~ /^`rw`: no occurrence of /) fact = 1
-            if (said ~ /^give a proof of that as the last argument, `rw /) fact = 1
+            if (said ~ /^`simp`: no equation of the list (has an instance|can be applied) /) fact = 1
+            if (said ~ /^`cc`: the equations do not join /) fact = 1
+            if (said ~ /^`omega`: .*does not follow from what it read/) fact = 1
+            if (said ~ /^give a proof of that as the last argument, `(rw|simp) /) fact = 1
         }
         END { exit !fact }
     '
