@@ -211,7 +211,7 @@ static inline int mtcore_packed_ok(uint64_t m, uint64_t packed) {
  * or '_', then zeros. Name and component are indices, counted from 0.
  */
 
-/* parent * 256 + name; component 0 has parent 0, every other parent is below its own index */
+/* parent * 256 + name: component 0 is its own parent, and all others stand behind theirs */
 #define MTCORE_COMPONENT(parent, name) ((uint32_t)((parent)*UINT32_C(256) + (name)))
 
 /* category * 65536 + component * 256 + name; at most one item has category MTCORE_CATEGORY_ASSET_CHANGE */

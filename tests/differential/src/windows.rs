@@ -1,5 +1,5 @@
 //! The rule about windows, as it is stated: choose any of a list's accepted samples that carry
-//! one path and of which each begins at the next number of the one before. What they handed over,
+//! one path and of which each begins at the next number of the one before. What they delivered,
 //! joined, is the matching part of the machine's record. Whose requests they were does not matter.
 
 use crate::call::Answer;

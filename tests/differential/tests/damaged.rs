@@ -1,5 +1,5 @@
-//! Damaged stores, case by case, with the answers laid down by name. A store that start did not
-//! make is taken as it stands: what a call does not read, it does not test.
+//! Damaged stores, case by case, with the answers laid down by name. A call tests what it reads of
+//! a store and nothing else, whatever the store was made by.
 
 use differential::call::{Answer, Call, Start};
 use differential::fixture::{core, names, start};
@@ -272,9 +272,9 @@ fn at_tests_what_it_passes() {
     assert_eq!(damaged.ask("/current?at=7"), Err(12));
 }
 
-/// Kind, level and low bits of stored words are handed over as they stand.
+/// Kind, level and low bits of stored words are delivered as they stand.
 #[test]
-fn odd_words_are_handed_over() {
+fn odd_words_are_delivered() {
     let odd = (1 << 40) + (255 << 32) + 0xdead_beef;
     let damaged = Damaged::new(|start| start.observations[RING_PACKED] = odd);
     assert_eq!(damaged.ask("/sample?from=5&count=1").unwrap()[..7], [1, 3, 6, 6, 5, 1005, odd]);
@@ -357,7 +357,7 @@ fn stored_lengths() {
     assert_eq!(damaged.body(b"U"), ((BODY + 512 + 2) as u64, 510));
 }
 
-/// Of two cells with one id the lower is meant; storing removes that one only.
+/// Where two cells hold the same id the lower one counts, and storing removes that one only.
 #[test]
 fn two_cells_with_one_id() {
     let damaged = Damaged::new(|start| put_asset(&mut start.assets, 1, b"T", 6));
