@@ -66,6 +66,18 @@ edits_named() {
     ' docs/COVERAGE-*.md | sort -u
 }
 
+# functions, types and host tests that a document names as `crate::name` or `file::test`, and that aren't there; the record of
+# landings may name what is gone
+names_lost() {
+    grep -h -o '`[a-z0-9_]*\(::[a-z_]*\)*::[A-Za-z0-9_]*`' README.md ARCHITECTURE.md $(ls docs/*.md | grep -v LANDINGS) |
+        tr -d '`' | sort -u | while read -r name; do
+        of=${name%%::*}
+        case $of in crate | file | u64) continue ;; esac
+        grep -q -s "\(fn\|struct\|enum\|mod\|const\) ${name##*::}\>" "crates/$of/src"/*.rt "tests/differential/tests/$of.rs" ||
+            echo "$name"
+    done
+}
+
 # lines of code above 120 columns; a column is a character, so only the first byte of each counts
 long_lines() {
     find crates -path '*/src/*' -name '*.rt' -exec env LC_ALL=C awk '
