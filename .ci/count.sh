@@ -1,5 +1,6 @@
-# What the gate counts, and how it reads the checker's logs: functions for .ci/run, tests/run and tests/gate, which source
-# this file with the repository's top as their working folder. POSIX sh.
+# shellcheck shell=sh
+# What the gate counts, and how it reads the checker's logs: functions for .ci/run, tests/run and tests/gate, which
+# source this file with the repository's top as their working folder. POSIX sh.
 
 # the number of a bound in .ci/bounds; fails where there isn't exactly one
 bound() { # least|most NAME
@@ -39,11 +40,12 @@ programs_listed() { for crate in $(crates_listed); do [ ! -f "crates/$crate/src/
 # edits that change a proof file, or a contract rather than code: they show nothing of the code
 edits_beside_code() {
     edits_listed | while read -r edit; do
-        ! grep -q -e '^file: proofs/' -e '^old:.*\(ensures\|requires\|⌜\)' -e '^new:.*\(ensures\|requires\|⌜\)' "$edit" || echo "$edit"
+        ! grep -q -e '^file: proofs/' -e '^\(old\|new\):.*\(ensures\|requires\|⌜\)' "$edit" || echo "$edit"
     done
 }
 
-# the edits that docs/COVERAGE-*.md name, as 'crate/label, label': CRATE/LABEL lines, with those that don't exist among them
+# the edits that docs/COVERAGE-*.md name, as 'crate/label, label': CRATE/LABEL lines, with those that don't exist
+# among them
 edits_named() {
     LC_ALL=C awk '
         /^\|/ {
@@ -66,16 +68,17 @@ edits_named() {
     ' docs/COVERAGE-*.md | sort -u
 }
 
-# functions, types and host tests that a document names as `crate::name` or `file::test`, and that aren't there; the record of
-# landings may name what is gone
+# functions, types and host tests that a document names as `crate::name` or `file::test`, and that aren't there; the
+# record of landings may name what is gone
 names_lost() {
-    grep -h -o '`[a-z0-9_]*\(::[a-z_]*\)*::[A-Za-z0-9_]*`' README.md ARCHITECTURE.md $(ls docs/*.md | grep -v LANDINGS) |
-        tr -d '`' | sort -u | while read -r name; do
-        of=${name%%::*}
-        case $of in crate | file | u64) continue ;; esac
-        grep -q -s "\(fn\|struct\|enum\|mod\|const\) ${name##*::}\>" "crates/$of/src"/*.rt "tests/differential/tests/$of.rs" ||
-            echo "$name"
-    done
+    find README.md ARCHITECTURE.md docs -name '*.md' ! -name LANDINGS.md \
+        -exec grep -h -o '`[a-z0-9_]*\(::[a-z_]*\)*::[A-Za-z0-9_]*`' {} + | tr -d '`' | sort -u |
+        while read -r name; do
+            of=${name%%::*}
+            case $of in crate | file | u64) continue ;; esac
+            declared="\(fn\|struct\|enum\|mod\|const\) ${name##*::}\>"
+            grep -q -s "$declared" "crates/$of/src"/*.rt "tests/differential/tests/$of.rs" || echo "$name"
+        done
 }
 
 # lines of code above 120 columns; a column is a character, so only the first byte of each counts
@@ -92,8 +95,8 @@ long_lines() {
 crates_proved() { grep -a -c '^rt: [a-z0-9_]* proved (' "$1"; }
 programs_ran() { grep -a -c "^rt: [a-z0-9_]* ran.*, and wrote what its file 'stdout' has" "$1"; }
 
-# The first refusal in a checker's log that isn't the mere consequence of another: an error, or a promise without a proof.
-# Only its own line; what explains it follows in the log.
+# The first refusal in a checker's log that isn't the mere consequence of another: an error, or a promise without a
+# proof. Only its own line; what explains it follows in the log.
 first_refusal() { # LOG
     LC_ALL=C awk '
         /: error/ && !/ was not admitted \(it has holes / { print; exit }
@@ -101,10 +104,10 @@ first_refusal() { # LOG
     ' "$1"
 }
 
-# Whether a log refuses its edit at a fact that no longer holds. Such a refusal is either a promise of the code that no proof
-# was found for, or an error in a proof file that says of what was to be proved that it isn't so: two sides that differ, a
-# search or an equation that finds nothing. All else is red, as an edit with an unknown name, one that is no term or has
-# another type, and one that changes the steps which the proof file is about.
+# Whether a log refuses its edit at a fact that no longer holds. Such a refusal is either a promise of the code that
+# no proof was found for, or an error in a proof file that says of what was to be proved that it isn't so: two sides
+# that differ, a search or an equation that finds nothing. All else is red, as an edit with an unknown name, one that
+# is no term or has another type, and one that changes the steps which the proof file is about.
 false_fact() { # LOG
     [ -f "$1" ] && first_refusal "$1" | LC_ALL=C awk '
         /^note: [^ ]*\/src\/[^ ]*\.rt:[0-9]+:[0-9]+: it is not proved that / { fact = 1 }
@@ -122,4 +125,16 @@ false_fact() { # LOG
         }
         END { exit !fact }
     '
+}
+
+# the edits that rt refused when it last ran, a line each: 'fact CRATE/LABEL', or 'other CRATE/LABEL' and the first refusal
+edits_refused() {
+    edits_listed | sed 's|^crates/||; s|/must-fail/|/|; s|\.edit$||' | while read -r edit; do
+        [ "$(cat "target/must-fail/$edit.res" 2>/dev/null)" = refused ] || continue
+        if false_fact "target/must-fail/$edit/.log"; then
+            echo "fact $edit"
+        else
+            echo "other $edit $(first_refusal "target/must-fail/$edit/.log" | cut -c 1-300)"
+        fi
+    done
 }
