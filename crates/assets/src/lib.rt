@@ -6,6 +6,7 @@ ghost use lib.ListN.{length};
 ghost use Rattle.spec.specs.Assets as spec;
 ghost use Rattle.spec.specs.Assets.{AssetHead, maxAssets, capacity, used};
 ghost use Rattle.assets.specs.Cells.{PlaceFits, withAsset};
+use scan::Class;
 use spec::Place;
 
 // The byte as a number of 64 bits.
@@ -79,7 +80,7 @@ pub fn id_ok(id: &[u8]) -> bool
     if 32 < id.len() {
         return false;
     }
-    scan::all_id(id)
+    scan::all_of(id, Class::Id)
 }
 
 // Whether id and body are an asset's.

@@ -14,12 +14,12 @@ returns-2 : tie.Need-returns-2
 unfolding idOk
 returns-2 c = rw (le-leb 1 _ (c .before .if1 .left), lt-leb _ 32 (c .if2 .taken))
 
-all-id-requires : tie.Need-all-id-requires
-all-id-requires c κs = search needs
+all-of-requires : tie.Need-all-of-requires
+all-of-requires c κs = search needs
 
 returns-3 : tie.Need-returns-3
 unfolding idOk
-returns-3 c = rw (le-leb 1 _ (c .before .before .if1 .left), le-leb _ 32 (c .before .if2 .left), c .all-id .ensures)
+returns-3 c = rw (le-leb 1 _ (c .before .before .if1 .left), le-leb _ 32 (c .before .if2 .left), c .all-of .ensures)
 
 pub id-ok-spec : {M : Type 1} → statement M
-id-ok-spec = tie.close (tie.spec returns returns-2 all-id-requires returns-3)
+id-ok-spec = tie.close (tie.spec returns returns-2 all-of-requires returns-3)
