@@ -22,6 +22,7 @@ use Rattle.spec.specs.Calls.{startOk, start, roomFor, observeItem, obser
 use Rattle.spec.specs.History.{Call, Output, Stores, Start, Window, storesStart, storesRun, callOutputs, storesOutputs, windowsOfOutputs, windowsOf, Meets}
 use Rattle.spec.specs.History.Output.{started, observed, stored, replied, returned}
 use Rattle.spec.specs.Bench.{benchStart, benchObserves, storesAfter, benchStores}
+use Rattle.spec.proofs.Opened.{opened}
 use Rattle.spec.specs.declared.Level.the-variants.{Normal, Warning, Fault}
 use Rattle.spec.specs.declared.Value.{Value}
 use Rattle.spec.specs.declared.Value.the-variants.{Unavailable, Sample, Event, Condition}
@@ -90,7 +91,7 @@ pub models-checked :
     ([] ∷ (1 ∷ []) ∷ (0 ∷ 1 ∷ 0 ∷ []) ∷ (1 ∷ 0 ∷ 0 ∷ []) ∷ (65 ∷ 64 ∷ replicate 129 0) ∷ (64 ∷ 65 ∷ replicate 129 0) ∷ (1 ∷ 1 ∷ 0 ∷ []) ∷ (1 ∷ 1 ∷ 0 ∷ 0 ∷ 0 ∷ []) ∷ [])
     × Checks false ((1 ∷ 1 ∷ 256 ∷ 0 ∷ []) ∷ (2 ∷ 1 ∷ 0 ∷ 256 ∷ 0 ∷ []) ∷ (2 ∷ 1 ∷ 0 ∷ 4294967040 ∷ 0 ∷ []) ∷ (1 ∷ 1 ∷ 1 ∷ 0 ∷ []) ∷ [])
     × Checks false ((1 ∷ 1 ∷ 0 ∷ 262144 ∷ []) ∷ (1 ∷ 1 ∷ 0 ∷ 256 ∷ []) ∷ (1 ∷ 1 ∷ 0 ∷ 1 ∷ []) ∷ (1 ∷ 2 ∷ 0 ∷ 196608 ∷ 196608 ∷ []) ∷ [])
-unfolding every firstWhere countBelow nameByte letters zeros cellOk namesOk changeItem sizesOk componentOk itemOk componentsOk itemsOk changesOk modelOk
+unfolding opened
 models-checked = (refl, refl, refl, refl)
 
 -- one name, two alike, 24 bytes, each kind of byte; no bytes, 23 and 25, a spare cell of zeros, a byte behind a zero, a space
@@ -98,7 +99,7 @@ pub names-checked :
     Names true (cellsOf (bytes "A" ∷ []) ∷ cellsOf (bytes "A" ∷ bytes "A" ∷ []) ∷ replicate 24 65 ∷ cellsOf (bytes "_azAZ09" ∷ []) ∷ [])
     × Names false
     ([] ∷ replicate 23 65 ∷ replicate 25 65 ∷ cellsOf (bytes "A" ∷ [] ∷ []) ∷ pad 24 (65 ∷ 0 ∷ 65 ∷ []) ∷ cellsOf (bytes "A B" ∷ []) ∷ [])
-unfolding every nameByte letters zeros cellOk namesOk
+unfolding opened
 names-checked = (refl, refl)
 
 -- ---- paths
@@ -123,7 +124,7 @@ pub paths-select :
     ([] ∷ bytes "//" ∷ bytes "/Axes" ∷ bytes "///Axes" ∷ bytes "//Axes/" ∷ bytes "//Device//Axes" ∷ bytes "//DataItem[@type=\"LOAD\"]"
     ∷ bytes "////DataItem[@type=\"LOAD\"]" ∷ bytes "//Axes//DataItem[@type=\"LOAD\"" ∷ bytes "//Axes//DataItem[@type=\"]"
     ∷ bytes "//Axes//DataItem[@type=\"\"]" ∷ bytes "//Axes//DataItem[@type=\"LOAD\"]/" ∷ bytes "//Axes//DataItem[@type=%22LOAD%22]" ∷ [])
-unfolding anyBelow setOf nameByte letters same before typedForm formBehind formOf isNamed under inSubtree inTyped selectSubtree selectTyped selectForm select
+unfolding opened
 paths-select = (refl, refl, refl, refl, refl, refl, refl, refl, refl)
 
 -- ---- texts
@@ -153,7 +154,7 @@ pub texts-read :
     × Gives 0
     (bytes "/sample" ∷ bytes "/sample?path=" ∷ bytes "/sample?path=a=b?c/d" ∷ bytes "/sample?count=1&from=000" ∷ bytes "/sample?from=0000000000000000001"
     ∷ bytes "/sample?from=9223372036854775807" ∷ bytes "/current?at=0" ∷ bytes "/asset/a;b;a" ∷ bytes "/assets" ∷ [])
-unfolding textByte all same before joinFirst split digit valueFrom isNumber uriOk wordOf slotOf takesSlot addPart addParts parameters sampleRequest currentRequest idText idTexts assetRequest readWord readText
+unfolding opened
 texts-read = (refl, refl, refl, refl, refl, refl, refl)
 
 -- ---- assets
@@ -193,7 +194,7 @@ pub tools :
     ∷ (returned (1 ∷ 2 ∷ 3 ∷ []) ∷ [])
     ∷ (replied (Done 4) (4 ∷ 2 ∷ 5 ∷ 6 ∷ 2 ∷ 3 ∷ 4 ∷ 5 ∷ 1000 ∷ 1099511627776 ∷ 10 ∷ 1108101562368 ∷ 20 ∷ 1108101562369 ∷ 30 ∷ 1108101562369 ∷ []) ∷ [])
     ∷ []
-unfolding every firstWhere anyBelow countBelow pickRows setOf row put textByte nameByte idByte all same before joinFirst split digit valueFrom isNumber letters zeros cellOk namesOk changeItem sizesOk componentOk itemOk componentsOk itemsOk changesOk modelOk uriOk wordOf slotOf takesSlot addPart addParts parameters sampleRequest currentRequest idText idTexts assetRequest readWord readText typedForm formBehind formOf isNamed under inSubtree inTyped selectSubtree selectTyped selectForm select headOk evict add evictOk blank addAll startStore ringOk sampleRows currentRows newestIn atRows assetHeadOk idOk bodyOk assetOk find renew cellFor storeCells startAssets lengthOk bodyPlace numbers pairs lengths observationWords assetWords written observationReply assetReply startOk start roomFor observeItem observe keepAsset storeAsset inRange sampleBetween sampleReply currentReply currentUpTo atReply cellRows allCells cellsReply findAll namedReply downFrom answerRequest answerReading request body storesRun callOutputs storesOutputs
+unfolding opened
 tools = refl
 
 -- ---- the stores, word by word and byte by byte
@@ -207,7 +208,7 @@ pub bench-words :
     ∷ 1108101562367 ∷ 1099511627776 ∷ 1103806600072
     ∷ 1 ∷ 4 ∷ 1000 ∷ 1030 ∷ 0 ∷ 1108101562367
     ∷ 1 ∷ 0 ∷ 1000 ∷ 0 ∷ 0 ∷ 0 ∷ []
-unfolding every firstWhere anyBelow countBelow pickRows setOf row put textByte nameByte idByte all same before joinFirst split digit valueFrom isNumber letters zeros cellOk namesOk changeItem sizesOk componentOk itemOk componentsOk itemsOk changesOk modelOk uriOk wordOf slotOf takesSlot addPart addParts parameters sampleRequest currentRequest idText idTexts assetRequest readWord readText typedForm formBehind formOf isNamed under inSubtree inTyped selectSubtree selectTyped selectForm select headOk evict add evictOk blank addAll startStore ringOk sampleRows currentRows newestIn atRows assetHeadOk idOk bodyOk assetOk find renew cellFor storeCells startAssets lengthOk bodyPlace numbers pairs lengths observationWords assetWords written observationReply assetReply startOk start roomFor observeItem observe keepAsset storeAsset inRange sampleBetween sampleReply currentReply currentUpTo atReply cellRows allCells cellsReply findAll namedReply downFrom answerRequest answerReading request body storesAfter benchStores
+unfolding opened
 bench-words = refl
 
 abbrev toolStores : Stores
@@ -218,7 +219,7 @@ toolStores =
 pub tool-bytes :
     toolStores .assets
     ≡ 2 ∷ 2 ∷ (pad 32 (bytes "b") ++ (pad 32 (bytes "a") ++ (pad 512 (0 ∷ 2 ∷ 8 ∷ 9 ∷ []) ++ pad 512 (0 ∷ 3 ∷ 1 ∷ 2 ∷ 3 ∷ []))))
-unfolding every firstWhere anyBelow countBelow pickRows setOf row put textByte nameByte idByte all same before joinFirst split digit valueFrom isNumber letters zeros cellOk namesOk changeItem sizesOk componentOk itemOk componentsOk itemsOk changesOk modelOk uriOk wordOf slotOf takesSlot addPart addParts parameters sampleRequest currentRequest idText idTexts assetRequest readWord readText typedForm formBehind formOf isNamed under inSubtree inTyped selectSubtree selectTyped selectForm select headOk evict add evictOk blank addAll startStore ringOk sampleRows currentRows newestIn atRows assetHeadOk idOk bodyOk assetOk find renew cellFor storeCells startAssets lengthOk bodyPlace numbers pairs lengths observationWords assetWords written observationReply assetReply startOk start roomFor observeItem observe keepAsset storeAsset inRange sampleBetween sampleReply currentReply currentUpTo atReply cellRows allCells cellsReply findAll namedReply downFrom answerRequest answerReading request body storesAfter
+unfolding opened
 tool-bytes = refl
 
 -- ---- one client's windows
@@ -246,7 +247,7 @@ secondWindow =
 
 -- what its accepted samples deliver
 pub two-windows : windowsOf (λ i. true) 0 clientCalls (callOutputs clientStart clientCalls) ≡ firstWindow ∷ secondWindow ∷ []
-unfolding every firstWhere anyBelow countBelow pickRows setOf row put textByte nameByte idByte all same before joinFirst split digit valueFrom isNumber letters zeros cellOk namesOk changeItem sizesOk componentOk itemOk componentsOk itemsOk changesOk modelOk uriOk wordOf slotOf takesSlot addPart addParts parameters sampleRequest currentRequest idText idTexts assetRequest readWord readText typedForm formBehind formOf isNamed under inSubtree inTyped selectSubtree selectTyped selectForm select headOk evict add evictOk blank addAll startStore ringOk sampleRows currentRows newestIn atRows assetHeadOk idOk bodyOk assetOk find renew cellFor storeCells startAssets lengthOk bodyPlace numbers pairs lengths observationWords assetWords written observationReply assetReply readRows startOk start roomFor observeItem observe keepAsset storeAsset inRange sampleBetween sampleReply currentReply currentUpTo atReply cellRows allCells cellsReply findAll namedReply downFrom answerRequest answerReading request body storesRun callOutputs windowsOfOutputs windowsOf
+unfolding opened
 two-windows = refl
 
 -- and they meet

@@ -22,6 +22,8 @@ pub mod Begin
 pub mod Windows
 pub mod History
 pub mod Never
+pub mod Interface
 pub mod Bench
+pub mod Opened
 pub mod Examples
 pub mod Refusals

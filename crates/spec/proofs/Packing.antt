@@ -1,13 +1,13 @@
 -- Values and their words: the bounds of a word, each value back from its word, so that packing is one-to-one.
 use Prim.Native.Nat.{ℕ, zero, suc, _+_, _-_, _*_, _/_, _%_, _^_, _≤_, _<_}
 use mathlib.Core.Path.{_≡_, refl, sym, ap, ap₂, _∙_}
-use mathlib.Core.Bool.{Bool, true, false, and-false, and-eq-true-iff, true≢false}
+use mathlib.Core.Bool.{Bool, true, false, cond, and-false, and-eq-true-iff, true≢false}
 use native.Mathlib.Nat.{div-add-mod', mod-lt}
 use native.Mathlib.Omega.{arith}
 use lib.Arith.{digits-div, digits-mod}
 use lib.Dec.{leb, ltb, eqb, lit<}
 use lib.IntN.{ℤ, pos, negsuc}
-use borrow.Author.Tests.{lt-ltb, le-ltb, le-leb, eq-eqb, ltb-true, leb-true, eqb-true}
+use borrow.Author.Tests.{lt-ltb, le-ltb, le-leb, eq-eqb, ltb-true, ltb-false, leb-true, eqb-true}
 use Rattle.spec.specs.Value.{levelNumber, lowWord, kind, low, valueWord, pack, itemOf, nativeOk, takes, sampleOf, levelOf, noValue, decodeKind, decode, FitsSample, Fits}
 use Rattle.spec.specs.Reference.{eqSample, eqLevel, eqValue}
 use Rattle.spec.specs.declared.Level.{Level}
@@ -225,3 +225,33 @@ pub word-back : (category word : ℕ) → takes category (decode word) ≡ true 
 unfolding decode KindBack
 word-back category word h =
     kind-word (word / 2 ^ 32) (word % 2 ^ 32) (mod-lt word (lit< tt)) category h ∙ div-add-mod' word (2 ^ 32)
+
+-- ---- a decoded word fits its type, whatever the word
+
+cond-fits : (t : Bool) (v w : Value) → Fits v → Fits w → Fits (cond t v w)
+cond-fits true v w f g = f
+cond-fits false v w f g = g
+
+sample-fits : (l : ℕ) (t : Bool) → ltb l (2 ^ 31) ≡ t → FitsSample (sampleOf l)
+sample-fits l true e = rw e (ltb-true l (2 ^ 31) e)
+sample-fits l false e = rw e (omega (arith, ltb-false l (2 ^ 31) e))
+
+in-u32 : {c : ℕ} → c < 2 ^ 24 → c < 2 ^ 32
+in-u32 h = omega arith
+
+no-value-fits : Fits noValue
+no-value-fits = lit< tt
+
+kind-fits : (k l : ℕ) → l < 2 ^ 32 → Fits (decodeKind k l)
+kind-fits zero l b = cond-fits (eqb l 0) Unavailable noValue tt no-value-fits
+kind-fits (suc zero) l b = sample-fits l (ltb l (2 ^ 31)) refl
+kind-fits (suc (suc zero)) l b = b
+kind-fits (suc (suc (suc zero))) l b =
+    cond-fits (leb (l / 2 ^ 24) 2) (Condition (levelOf (l / 2 ^ 24)) (l % 2 ^ 24)) noValue
+    (in-u32 (mod-lt l (lit< tt)))
+    no-value-fits
+kind-fits (suc (suc (suc (suc k)))) l b = no-value-fits
+
+pub decode-fits : (word : ℕ) → Fits (decode word)
+unfolding decode
+decode-fits word = kind-fits (word / 2 ^ 32) (word % 2 ^ 32) (mod-lt word (lit< tt))

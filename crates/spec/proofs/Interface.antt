@@ -1,0 +1,50 @@
+-- Calls through the C interface, whose observe takes a value's word: each word decodes to a value that fits its type, so
+-- the history theorem holds of every list of them with no hypothesis on types.
+use mathlib.Core.Path.{_≡_}
+use Prim.Native.Nat.{ℕ}
+use mathlib.Core.List.{List, [], _∷_, map}
+use Rattle.spec.specs.Value.{decode}
+use Rattle.spec.specs.Reference.{State}
+use Rattle.spec.specs.Reference.Begun.{begun}
+use Rattle.spec.specs.History.{Call, Typed, AllTyped, Start, History, begins, storesOutputs, referenceAfter}
+use Rattle.spec.proofs.Packing.{decode-fits}
+use Rattle.spec.proofs.History.{Sequence, history, sequence}
+use Rattle.spec.proofs.Never.{AllFree, never-store}
+
+-- a call of `mtcore`; the reply buffer's words at the call are part of it
+pub data HostCall : Type 0 where
+  observe : (item time host word : ℕ) → HostCall
+  storeAsset : (id body : List ℕ) (host : ℕ) → HostCall
+  request : (text reply : List ℕ) → HostCall
+  body : (id : List ℕ) → HostCall
+
+-- the call that it makes
+abbrev pub made : HostCall → Call
+made (HostCall.observe item time host word) = Call.observe item time host (decode word)
+made (HostCall.storeAsset id content host) = Call.storeAsset id content host
+made (HostCall.request text reply) = Call.request text reply
+made (HostCall.body id) = Call.body id
+
+typed : (c : HostCall) → Typed (made c)
+typed (HostCall.observe item time host word) = decode-fits word
+typed (HostCall.storeAsset id content host) = tt
+typed (HostCall.request text reply) = tt
+typed (HostCall.body id) = tt
+
+-- whatever the words are
+pub all-typed : (cs : List HostCall) → AllTyped (map made cs)
+all-typed [] = tt
+all-typed (c ∷ cs) = (typed c, all-typed cs)
+
+module _ (a : Start) (p : State) (accepted : begins a ≡ begun p) (cs : List HostCall) where
+  -- demand 3
+  pub host-history : History a p (map made cs)
+  host-history = history a p accepted (map made cs) (all-typed cs)
+
+  -- H's numbers without gap or repeat
+  pub host-sequence : Sequence a p accepted (referenceAfter (a .model) (a .names) p (map made cs) .H)
+  host-sequence = sequence a p accepted (map made cs) (all-typed cs)
+
+  -- no answer is 2
+  pub host-never-store : AllFree (storesOutputs a (map made cs))
+  host-never-store = never-store a p accepted (map made cs) (all-typed cs)

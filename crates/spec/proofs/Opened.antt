@@ -1,0 +1,90 @@
+-- What a worked example computes with: the definitions of both layers that are shut elsewhere, each file's under one
+-- name. A proof by `refl` says `unfolding opened`.
+use Rattle.spec.specs.Words.{every, firstWhere, anyBelow, countBelow, pickRows, setOf, row, put}
+use Rattle.spec.specs.Bytes.{textByte, nameByte, idByte, all, same, before, joinFirst, split, digit, valueFrom}
+use Rattle.spec.specs.Bytes.{isNumber}
+use Rattle.spec.specs.Value.{decode}
+use Rattle.spec.specs.Model.{letters, zeros, cellOk, namesOk, changeItem, sizesOk, componentOk, itemOk}
+use Rattle.spec.specs.Model.{componentsOk, itemsOk, changesOk, modelOk}
+use Rattle.spec.specs.Text.{uriOk, wordOf, slotOf, takesSlot, addPart, addParts, parameters, sampleRequest}
+use Rattle.spec.specs.Text.{currentRequest, idText, idTexts, assetRequest, readWord, readText}
+use Rattle.spec.specs.Path.{typedForm, formBehind, formOf, isNamed, under, inSubtree, inTyped, selectSubtree}
+use Rattle.spec.specs.Path.{selectTyped, selectForm, select}
+use Rattle.spec.specs.Observations.{headOk, evict, add, evictOk, blank, addAll, startStore, ringOk, sampleRows}
+use Rattle.spec.specs.Observations.{currentRows, newestIn, atRows}
+use Rattle.spec.specs.Assets.{assetHeadOk, idOk, bodyOk, assetOk, find, renew, cellFor, storeCells, startAssets}
+use Rattle.spec.specs.Assets.{lengthOk, bodyPlace}
+use Rattle.spec.specs.Reply.{numbers, pairs, lengths, observationWords, assetWords, written, observationReply}
+use Rattle.spec.specs.Reply.{assetReply, readRows}
+use Rattle.spec.specs.Calls.{startOk, start, roomFor, observeItem, observe, keepAsset, storeAsset, inRange}
+use Rattle.spec.specs.Calls.{sampleBetween, sampleReply, currentReply, currentUpTo, atReply, cellRows, allCells}
+use Rattle.spec.specs.Calls.{cellsReply, findAll, namedReply, downFrom, answerRequest, answerReading, request}
+use Rattle.spec.specs.Calls.{body}
+use Rattle.spec.specs.Reference.{keep, newestOr, lastOr, sizeWrong, unavailable, begin, observeAnswer, place}
+use Rattle.spec.specs.Reference.{storeAnswer, sampleFor, currentFor, foundRows, atFor, heldRows, allHeld}
+use Rattle.spec.specs.Reference.{placesOf, newestFirst, replyTo, replyReading, reply, bodyOf}
+use Rattle.spec.specs.History.{storesRun, referenceRun, referenceAfter, callOutputs, storesOutputs}
+use Rattle.spec.specs.History.{referenceOutputs, windowsOfOutputs, windowsOf, lastNext, joined}
+use Rattle.spec.specs.Bench.{storesAfter, benchStores, benchRequest}
+
+unfoldable pub openedWords : Unit {0}
+unfolding every firstWhere anyBelow countBelow pickRows setOf row put
+openedWords = tt
+
+unfoldable pub openedBytes : Unit {0}
+unfolding textByte nameByte idByte all same before joinFirst split digit valueFrom isNumber
+openedBytes = tt
+
+unfoldable pub openedValue : Unit {0}
+unfolding decode
+openedValue = tt
+
+unfoldable pub openedModel : Unit {0}
+unfolding letters zeros cellOk namesOk changeItem sizesOk componentOk itemOk componentsOk itemsOk changesOk modelOk
+openedModel = tt
+
+unfoldable pub openedText : Unit {0}
+unfolding uriOk wordOf slotOf takesSlot addPart addParts parameters sampleRequest currentRequest idText idTexts
+    assetRequest readWord readText
+openedText = tt
+
+unfoldable pub openedPath : Unit {0}
+unfolding typedForm formBehind formOf isNamed under inSubtree inTyped selectSubtree selectTyped selectForm select
+openedPath = tt
+
+unfoldable pub openedObservations : Unit {0}
+unfolding headOk evict add evictOk blank addAll startStore ringOk sampleRows currentRows newestIn atRows
+openedObservations = tt
+
+unfoldable pub openedAssets : Unit {0}
+unfolding assetHeadOk idOk bodyOk assetOk find renew cellFor storeCells startAssets lengthOk bodyPlace
+openedAssets = tt
+
+unfoldable pub openedReply : Unit {0}
+unfolding numbers pairs lengths observationWords assetWords written observationReply assetReply readRows
+openedReply = tt
+
+unfoldable pub openedCalls : Unit {0}
+unfolding startOk start roomFor observeItem observe keepAsset storeAsset inRange sampleBetween sampleReply
+    currentReply currentUpTo atReply cellRows allCells cellsReply findAll namedReply downFrom answerRequest
+    answerReading request body
+openedCalls = tt
+
+unfoldable pub openedReference : Unit {0}
+unfolding keep newestOr lastOr sizeWrong unavailable begin observeAnswer place storeAnswer sampleFor currentFor
+    foundRows atFor heldRows allHeld placesOf newestFirst replyTo replyReading reply bodyOf
+openedReference = tt
+
+unfoldable pub openedHistory : Unit {0}
+unfolding storesRun referenceRun referenceAfter callOutputs storesOutputs referenceOutputs windowsOfOutputs windowsOf
+    lastNext joined
+openedHistory = tt
+
+unfoldable pub openedBench : Unit {0}
+unfolding storesAfter benchStores benchRequest
+openedBench = tt
+
+unfoldable pub opened : Unit {0}
+unfolding openedWords openedBytes openedValue openedModel openedText openedPath openedObservations openedAssets
+    openedReply openedCalls openedReference openedHistory openedBench
+opened = tt
