@@ -1,5 +1,5 @@
--- Calls through the C interface, whose observe takes a value's word: each word decodes to a value that fits its type, so
--- the history theorem holds of every list of them with no hypothesis on types.
+-- Calls through the C interface, whose observe takes a value's word: each word decodes to a value that fits its
+-- type, so the history theorem holds of every list of them with no hypothesis on types.
 use mathlib.Core.Path.{_≡_}
 use Prim.Native.Nat.{ℕ}
 use mathlib.Core.List.{List, [], _∷_, map}

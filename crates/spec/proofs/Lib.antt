@@ -25,5 +25,7 @@ pub mod Never
 pub mod Interface
 pub mod Bench
 pub mod Opened
+pub mod Fixtures
+pub mod Bounds
 pub mod Examples
 pub mod Refusals

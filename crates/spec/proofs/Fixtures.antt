@@ -1,0 +1,152 @@
+-- Models, stores and states that the worked examples share, and lists of calls with what each is to give.
+use Prim.Native.Nat.{ℕ, zero, suc, _+_, _*_}
+use Prim.Native.String.{String}
+use mathlib.Core.Path.{_≡_}
+use mathlib.Core.List.{List, [], _∷_, _++_, map}
+use lib.IntN.{pos, negsuc}
+use lib.ListN.{length, getD, replicate}
+use Rattle.spec.specs.Bytes.{bytes, pad}
+use Rattle.spec.specs.Reference.{State, Observation}
+use Rattle.spec.specs.History.{Call, Output, Stores, Start, storesRun, referenceRun, storesOutputs}
+use Rattle.spec.specs.History.{referenceOutputs}
+use Rattle.spec.specs.History.Output.{started, stored, replied}
+use Rattle.spec.specs.Bench.{benchModel, benchNames}
+use Rattle.spec.specs.declared.Value.the-variants.{Unavailable, Sample}
+use Rattle.spec.specs.declared.Refusal.{Refusal}
+use Rattle.spec.specs.declared.Answer.the-variants.{Done, Refused}
+use Rattle.spec.specs.declared.StoreAnswer.{StoreAnswer}
+
+infix 80 _gives_
+-- ---- calls and what they are to give
+
+pub data Step : Type 0 where
+  _gives_ : Call → Output → Step
+
+abbrev pub callOf : Step → Call
+callOf (c gives o) = c
+
+abbrev pub outputOf : Step → List Output
+outputOf (c gives o) = o ∷ []
+
+-- a request whose reply fills the buffer; the first word is the answer's k
+abbrev pub shows : String → List ℕ → Step
+shows text words = Call.request (bytes text) (replicate (length words) 7) gives replied (Done (getD words 0 0)) words
+
+-- a request that is refused and leaves so many words as they are
+abbrev pub refusesIn : ℕ → String → Refusal → Step
+refusesIn words text r = Call.request (bytes text) (replicate words 7) gives replied (Refused r) (replicate words 7)
+
+abbrev pub refuses : String → Refusal → Step
+refuses = refusesIn 64
+
+-- an asset that is stored
+abbrev pub stores : List ℕ → List ℕ → StoreAnswer → Step
+stores id content r = Call.storeAsset id content 10 gives stored r
+
+-- the stores' calls give so, each over the stores that the one before left
+abbrev pub StoresGive : List ℕ → List ℕ → Stores → List Step → Type 0
+StoresGive model names s ss = storesRun model names s (map callOf ss) ≡ map outputOf ss
+
+-- both layers give so
+abbrev pub BothGive : List ℕ → List ℕ → Stores → State → List Step → Type 0
+BothGive model names s p ss =
+    StoresGive model names s ss × (referenceRun model names p (map callOf ss) ≡ map outputOf ss)
+
+-- ---- names
+
+abbrev pub cellsOf : List (List ℕ) → List ℕ
+cellsOf [] = []
+cellsOf (s ∷ ss) = pad 24 s ++ cellsOf ss
+
+-- ---- one sample item; a second component without items, so that //Spare selects none and a reply has four words
+
+abbrev pub plainModel : List ℕ
+plainModel = 2 ∷ 1 ∷ 0 ∷ 1 ∷ 2 ∷ []
+
+abbrev pub plainNames : List ℕ
+plainNames = cellsOf (bytes "Device" ∷ bytes "Spare" ∷ bytes "POSITION" ∷ [])
+
+-- A 1, nothing stored
+abbrev pub noAssets : List ℕ
+noAssets = 1 ∷ 0 ∷ replicate 544 0
+
+-- numbers 1 to l, each item 0 Unavailable at time 0
+abbrev pub plainStore : ℕ → ℕ → List ℕ
+plainStore N l = N ∷ 1 ∷ 1 ∷ l ∷ replicate (2 * N + 6) 0
+
+abbrev pub plainRun : ℕ → ℕ → List Observation
+plainRun zero n = []
+plainRun (suc k) n = record { number = n; item = 0; time = 0; value = Unavailable } ∷ plainRun k (suc n)
+
+abbrev pub PlainGives : ℕ → ℕ → List Step → Type 0
+PlainGives N l =
+    BothGive plainModel plainNames (record { observations = plainStore N l; assets = noAssets })
+    (record { N = N; A = 1; B = 1; H = plainRun l 1; T = [] })
+
+-- ---- one component, a sample item and an asset change item; N 4, A 2, into stores that were full of something else
+
+abbrev pub toolModel : List ℕ
+toolModel = 1 ∷ 2 ∷ 0 ∷ 1 ∷ 196610 ∷ []
+
+abbrev pub toolNames : List ℕ
+toolNames = cellsOf (bytes "Device" ∷ bytes "POSITION" ∷ bytes "ASSET_CHANGED" ∷ [])
+
+abbrev pub toolStart : ℕ → Start
+toolStart B =
+    record {
+      model = toolModel;
+      names = toolNames;
+      observations = replicate 24 99;
+      assets = replicate 1090 99;
+      N = 4;
+      A = 2;
+      B = B;
+      host = 1000;
+    }
+
+abbrev pub toolState : ℕ → State
+toolState B =
+    record {
+      N = 4;
+      A = 2;
+      B = B;
+      H = record { number = B; item = 0; time = 1000; value = Unavailable }
+          ∷ record { number = suc B; item = 1; time = 1000; value = Unavailable }
+          ∷ [];
+      T = [];
+    }
+
+-- behind an accepted start
+abbrev pub ToolsGive : ℕ → List Step → Type 0
+ToolsGive B ss =
+    (storesOutputs (toolStart B) (map callOf ss) ≡ (started (Done 0) ∷ []) ∷ map outputOf ss)
+    × (referenceOutputs (toolStart B) (toolState B) (map callOf ss) ≡ (started (Done 0) ∷ []) ∷ map outputOf ss)
+
+-- ---- the bench case behind its observes: N 3, first 2, last 4
+
+-- the store with these packed words for the numbers 2, 3 and 4, which are at the ring's places 1, 2 and 0
+abbrev pub benchWith : ℕ → ℕ → ℕ → List ℕ
+benchWith x y z =
+    3 ∷ 2 ∷ 1 ∷ 4
+    ∷ 1030 ∷ 1000 ∷ 1010
+    ∷ z ∷ x ∷ y
+    ∷ 1 ∷ 4 ∷ 1000 ∷ 1030 ∷ 0 ∷ 1108101562367
+    ∷ 1 ∷ 0 ∷ 1000 ∷ 0 ∷ 0 ∷ 0 ∷ []
+
+abbrev pub benchWords : List ℕ
+benchWords = benchWith 1099511627776 1103806600072 1108101562367
+
+abbrev pub BenchGives : List Step → Type 0
+BenchGives =
+    BothGive benchModel benchNames (record { observations = benchWords; assets = noAssets })
+    (record {
+      N = 3;
+      A = 1;
+      B = 1;
+      H = record { number = 1; item = 0; time = 1000; value = Unavailable }
+          ∷ record { number = 2; item = 1; time = 1000; value = Unavailable }
+          ∷ record { number = 3; item = 1; time = 1010; value = Sample (pos 5000) }
+          ∷ record { number = 4; item = 1; time = 1030; value = Sample (negsuc 0) }
+          ∷ [];
+      T = [];
+    })
