@@ -27,5 +27,7 @@ pub mod Bench
 pub mod Opened
 pub mod Fixtures
 pub mod Bounds
+pub mod Orders
+pub mod Damaged
 pub mod Examples
 pub mod Refusals
