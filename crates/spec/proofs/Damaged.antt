@@ -1,5 +1,5 @@
--- What start leaves in the stores; and stores that start did not make: what is read of them is tested, refusal 2, the rest
--- is taken as it stands.
+-- What start leaves in the stores; and stores that start did not make: what is read of them is tested, refusal 2,
+-- the rest is taken as it stands.
 use Prim.Native.Nat.{ℕ}
 use mathlib.Core.Path.{_≡_, refl}
 use mathlib.Core.List.{List, [], _∷_, _++_}

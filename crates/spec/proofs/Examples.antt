@@ -1,55 +1,57 @@
--- Worked examples, by computation, of what stores and reference model share: packed words, which values an item takes, texts and
--- their refusals, replies of assets; and one client's two windows, so that the history theorem's second field speaks of something.
-use Prim.Native.Nat.{ℕ}
+-- Worked examples, by computation, of what stores and reference model share: packed words, which values an item
+-- takes, models and names, paths, texts and their refusals, replies of assets; and one client's two windows, so that
+-- the history theorem's second field speaks of something. Bounds, Orders and Damaged have the rest.
+use Prim.Native.Nat.{ℕ, zero, suc, _+_, _*_}
 use mathlib.Core.Path.{_≡_, refl}
 use mathlib.Core.Bool.{Bool, true, false}
 use mathlib.Core.List.{List, [], _∷_, _++_, map}
 use mathlib.Core.Option.{Option, none, some}
 use lib.IntN.{pos, negsuc}
 use lib.ListN.{length, replicate}
-use Rattle.spec.specs.Words.{every, firstWhere, anyBelow, countBelow, pickRows, setOf, row, put}
-use Rattle.spec.specs.Bytes.{bytes, pad, textByte, nameByte, idByte, all, same, before, joinFirst, split, digit, valueFrom, isNumber}
-use Rattle.spec.specs.Value.{takes, pack}
-use Rattle.spec.specs.Model.{letters, zeros, cellOk, namesOk, changeItem, sizesOk, componentOk, itemOk, componentsOk, itemsOk, changesOk, modelOk}
-use Rattle.spec.specs.Text.{Reading, uriOk, wordOf, slotOf, takesSlot, addPart, addParts, parameters, sampleRequest, currentRequest, idText, idTexts, assetRequest, readWord, readText}
+use Rattle.spec.specs.Bytes.{bytes, pad}
+use Rattle.spec.specs.Value.{takes, pack, decode}
+use Rattle.spec.specs.Model.{namesOk, modelOk}
+use Rattle.spec.specs.Text.{Reading, readText}
 use Rattle.spec.specs.Text.Reading.{unread, asked}
-use Rattle.spec.specs.Path.{typedForm, formBehind, formOf, isNamed, under, inSubtree, inTyped, selectSubtree, selectTyped, selectForm, select}
-use Rattle.spec.specs.Observations.{headOk, evict, add, evictOk, blank, addAll, startStore, ringOk, sampleRows, currentRows, newestIn, atRows}
-use Rattle.spec.specs.Assets.{assetHeadOk, idOk, bodyOk, assetOk, find, renew, cellFor, storeCells, startAssets, lengthOk, bodyPlace}
-use Rattle.spec.specs.Reply.{numbers, pairs, lengths, observationWords, assetWords, written, observationReply, assetReply, readRows}
+use Rattle.spec.specs.Path.{select}
 use Rattle.spec.specs.Answers.{refusalNumber, observeWord, storeWord}
-use Rattle.spec.specs.Calls.{startOk, start, roomFor, observeItem, observe, keepAsset, storeAsset, inRange, sampleBetween, sampleReply, currentReply, currentUpTo, atReply, cellRows, allCells, cellsReply, findAll, namedReply, downFrom, answerRequest, answerReading, request, body}
-use Rattle.spec.specs.History.{Call, Output, Stores, Start, Window, storesStart, storesRun, callOutputs, storesOutputs, windowsOfOutputs, windowsOf, Meets}
-use Rattle.spec.specs.History.Output.{started, observed, stored, replied, returned}
+use Rattle.spec.specs.History.{Call, Stores, Start, Window, storesStart, callOutputs, windowsOf, Meets}
+use Rattle.spec.specs.History.Output.{stored, returned}
 use Rattle.spec.specs.Bench.{benchStart, benchObserves, storesAfter, benchStores}
-use Rattle.spec.proofs.Opened.{opened}
 use Rattle.spec.specs.declared.Level.the-variants.{Normal, Warning, Fault}
 use Rattle.spec.specs.declared.Value.{Value}
 use Rattle.spec.specs.declared.Value.the-variants.{Unavailable, Sample, Event, Condition}
 use Rattle.spec.specs.declared.Selection.{Selection}
 use Rattle.spec.specs.declared.Selection.the-variants.{Items, NotFound}
-use Rattle.spec.specs.declared.Answer.the-variants.{Done}
 use Rattle.spec.specs.declared.Refusal.the-variants.{Spent, Asset}
 use Rattle.spec.specs.declared.ObserveAnswer.the-variants.{Recorded, Same, Refused as Unrecorded}
 use Rattle.spec.specs.declared.StoreAnswer.the-variants.{Stored, Refused as Unstored}
+use Rattle.spec.proofs.Opened.{opened}
+use Rattle.spec.proofs.Fixtures.{Step, callOf, shows, ToolsGive, cellsOf, toolModel, toolNames, toolStart}
+use Rattle.spec.proofs.Fixtures.{benchWords}
+use Rattle.spec.proofs.Fixtures.Step.{_gives_}
 
 -- ---- values
 
--- packed words of each kind: item 5 Unavailable, item 1 the samples 5000 and -1, item 3 the event 7, item 2 the conditions
+-- packed words of each kind: item 5 Unavailable, item 1 the samples 5000 and -1, item 3 the event 7, item 2 the
+-- conditions
 pub packed-words :
     (pack 5 Unavailable ∷ pack 1 (Sample (pos 5000)) ∷ pack 1 (Sample (negsuc 0)) ∷ pack 3 (Event 7)
     ∷ pack 2 (Condition Normal 0) ∷ pack 2 (Condition Warning 5) ∷ pack 2 (Condition Fault 16777215) ∷ [])
-    ≡ 5497558138880 ∷ 1103806600072 ∷ 1108101562367 ∷ 3307124817927 ∷ 2211908157440 ∷ 2211924934661 ∷ 2211958489087 ∷ []
+    ≡ 5497558138880 ∷ 1103806600072 ∷ 1108101562367 ∷ 3307124817927
+    ∷ 2211908157440 ∷ 2211924934661 ∷ 2211958489087 ∷ []
 packed-words = refl
 
 -- Unavailable, a sample, an event, Normal 0, Normal 1, Fault 2^24 - 1, Fault 2^24
 abbrev values : List Value
 values =
-    Unavailable ∷ Sample (pos 1) ∷ Event 1 ∷ Condition Normal 0 ∷ Condition Normal 1 ∷ Condition Fault 16777215 ∷ Condition Fault 16777216 ∷ []
+    Unavailable ∷ Sample (pos 1) ∷ Event 1
+    ∷ Condition Normal 0 ∷ Condition Normal 1 ∷ Condition Fault 16777215 ∷ Condition Fault 16777216 ∷ []
 
 -- answers as words: number, Same, spent; cell, asset
 pub answer-words :
-    (observeWord (Recorded 3) ∷ observeWord Same ∷ observeWord (Unrecorded Spent) ∷ storeWord (Stored 2) ∷ storeWord (Unstored Asset) ∷ [])
+    (observeWord (Recorded 3) ∷ observeWord Same ∷ observeWord (Unrecorded Spent)
+    ∷ storeWord (Stored 2) ∷ storeWord (Unstored Asset) ∷ [])
     ≡ 3 ∷ 0 ∷ 9223372036854775814 ∷ 2 ∷ 9223372036854775822 ∷ []
 answer-words = refl
 
@@ -62,16 +64,33 @@ pub values-taken :
     ∷ (false ∷ false ∷ false ∷ false ∷ false ∷ false ∷ false ∷ []) ∷ []
 values-taken = refl
 
--- ---- models and names
+-- a value's word back: the lowest and the highest of each kind
+pub words-decoded :
+    map decode
+    (0 ∷ 4294967296 ∷ 6442450943 ∷ 6442450944 ∷ 8589934591 ∷ 8589934592 ∷ 12884901887
+    ∷ 12884901888 ∷ 12901679104 ∷ 12935233535 ∷ [])
+    ≡ Unavailable ∷ Sample (pos 0) ∷ Sample (pos 2147483647) ∷ Sample (negsuc 2147483647) ∷ Sample (negsuc 0)
+    ∷ Event 0 ∷ Event 4294967295
+    ∷ Condition Normal 0 ∷ Condition Warning 0 ∷ Condition Fault 16777215 ∷ []
+unfolding opened
+words-decoded = refl
 
-abbrev cellsOf : List (List ℕ) → List ℕ
-cellsOf [] = []
-cellsOf (s ∷ ss) = pad 24 s ++ cellsOf ss
+-- the words beside them are no value's, and no item takes what they give
+pub words-refused :
+    map (λ w. map (λ c. takes c (decode w)) (0 ∷ 1 ∷ 2 ∷ 3 ∷ []))
+    (1 ∷ 4294967295 ∷ 12884901889 ∷ 12935233536 ∷ 17179869183 ∷ 17179869184 ∷ 18446744073709551615 ∷ [])
+    ≡ replicate 7 (replicate 4 false)
+unfolding opened
+words-refused = refl
+
+-- ---- models and names
 
 -- Device over Axes and Controller, Axes over Linear; an event, two positions and a load
 abbrev treeNames : List ℕ
 treeNames =
-    cellsOf (bytes "Device" ∷ bytes "Axes" ∷ bytes "Linear" ∷ bytes "Controller" ∷ bytes "AVAILABILITY" ∷ bytes "POSITION" ∷ bytes "LOAD" ∷ [])
+    cellsOf
+    (bytes "Device" ∷ bytes "Axes" ∷ bytes "Linear" ∷ bytes "Controller"
+    ∷ bytes "AVAILABILITY" ∷ bytes "POSITION" ∷ bytes "LOAD" ∷ [])
 
 abbrev tree : List ℕ
 tree = 4 ∷ 4 ∷ 0 ∷ 1 ∷ 258 ∷ 3 ∷ 65540 ∷ 517 ∷ 261 ∷ 518 ∷ []
@@ -83,24 +102,47 @@ Checks r ws = map (λ w. modelOk w (cellsOf (bytes "A" ∷ []))) ws ≡ replicat
 abbrev Names : Bool → List (List ℕ) → Type 0
 Names r ss = map namesOk ss ≡ replicate (length ss) r
 
--- the smallest, one with an asset change item, the largest; sizes of 0 and 65, other lengths; component 0 with parent 1, a component
--- its own parent, a parent of 2^24 - 1; category 4, a component and a name that aren't there, two asset change items
+-- the smallest, one with an asset change item, the largest; sizes of 0 and 65, other lengths; component 0 with
+-- parent 1, a component its own parent, parents of 256 and 2^24 - 1, a name that isn't there; categories 4 and 256,
+-- a component and a name that aren't there, two asset change items
 pub models-checked :
     Checks true ((1 ∷ 1 ∷ 0 ∷ 0 ∷ []) ∷ (1 ∷ 2 ∷ 0 ∷ 0 ∷ 196608 ∷ []) ∷ (64 ∷ 64 ∷ replicate 128 0) ∷ [])
     × Checks false
-    ([] ∷ (1 ∷ []) ∷ (0 ∷ 1 ∷ 0 ∷ []) ∷ (1 ∷ 0 ∷ 0 ∷ []) ∷ (65 ∷ 64 ∷ replicate 129 0) ∷ (64 ∷ 65 ∷ replicate 129 0) ∷ (1 ∷ 1 ∷ 0 ∷ []) ∷ (1 ∷ 1 ∷ 0 ∷ 0 ∷ 0 ∷ []) ∷ [])
-    × Checks false ((1 ∷ 1 ∷ 256 ∷ 0 ∷ []) ∷ (2 ∷ 1 ∷ 0 ∷ 256 ∷ 0 ∷ []) ∷ (2 ∷ 1 ∷ 0 ∷ 4294967040 ∷ 0 ∷ []) ∷ (1 ∷ 1 ∷ 1 ∷ 0 ∷ []) ∷ [])
-    × Checks false ((1 ∷ 1 ∷ 0 ∷ 262144 ∷ []) ∷ (1 ∷ 1 ∷ 0 ∷ 256 ∷ []) ∷ (1 ∷ 1 ∷ 0 ∷ 1 ∷ []) ∷ (1 ∷ 2 ∷ 0 ∷ 196608 ∷ 196608 ∷ []) ∷ [])
+    ([] ∷ (1 ∷ []) ∷ (0 ∷ 1 ∷ 0 ∷ []) ∷ (1 ∷ 0 ∷ 0 ∷ []) ∷ (65 ∷ 64 ∷ replicate 129 0) ∷ (64 ∷ 65 ∷ replicate 129 0)
+    ∷ (1 ∷ 1 ∷ 0 ∷ []) ∷ (1 ∷ 1 ∷ 0 ∷ 0 ∷ 0 ∷ []) ∷ [])
+    × Checks false
+    ((1 ∷ 1 ∷ 256 ∷ 0 ∷ []) ∷ (2 ∷ 1 ∷ 0 ∷ 256 ∷ 0 ∷ []) ∷ (1 ∷ 1 ∷ 65536 ∷ 0 ∷ []) ∷ (2 ∷ 1 ∷ 0 ∷ 65536 ∷ 0 ∷ [])
+    ∷ (2 ∷ 1 ∷ 0 ∷ 4294967040 ∷ 0 ∷ []) ∷ (1 ∷ 1 ∷ 1 ∷ 0 ∷ []) ∷ [])
+    × Checks false
+    ((1 ∷ 1 ∷ 0 ∷ 262144 ∷ []) ∷ (1 ∷ 1 ∷ 0 ∷ 16777216 ∷ []) ∷ (1 ∷ 1 ∷ 0 ∷ 256 ∷ []) ∷ (1 ∷ 1 ∷ 0 ∷ 1 ∷ [])
+    ∷ (1 ∷ 2 ∷ 0 ∷ 196608 ∷ 196608 ∷ []) ∷ [])
 unfolding opened
 models-checked = (refl, refl, refl, refl)
 
--- one name, two alike, 24 bytes, each kind of byte; no bytes, 23 and 25, a spare cell of zeros, a byte behind a zero, a space
+-- one name, two alike, 24 bytes, each kind of byte; no bytes, 23 and 25, a spare cell of zeros, a byte behind a
+-- zero, a space
 pub names-checked :
-    Names true (cellsOf (bytes "A" ∷ []) ∷ cellsOf (bytes "A" ∷ bytes "A" ∷ []) ∷ replicate 24 65 ∷ cellsOf (bytes "_azAZ09" ∷ []) ∷ [])
+    Names true
+    (cellsOf (bytes "A" ∷ []) ∷ cellsOf (bytes "A" ∷ bytes "A" ∷ []) ∷ replicate 24 65
+    ∷ cellsOf (bytes "_azAZ09" ∷ []) ∷ [])
     × Names false
-    ([] ∷ replicate 23 65 ∷ replicate 25 65 ∷ cellsOf (bytes "A" ∷ [] ∷ []) ∷ pad 24 (65 ∷ 0 ∷ 65 ∷ []) ∷ cellsOf (bytes "A B" ∷ []) ∷ [])
+    ([] ∷ replicate 23 65 ∷ replicate 25 65 ∷ cellsOf (bytes "A" ∷ [] ∷ []) ∷ pad 24 (65 ∷ 0 ∷ 65 ∷ [])
+    ∷ cellsOf (bytes "A B" ∷ []) ∷ [])
 unfolding opened
 names-checked = (refl, refl)
+
+-- the bytes beside digits, letters and '_'
+pub name-bytes :
+    Names false (map (λ x. pad 24 (x ∷ [])) (47 ∷ 58 ∷ 64 ∷ 91 ∷ 94 ∷ 96 ∷ 123 ∷ []))
+unfolding opened
+name-bytes = refl
+
+-- 256 names, of which a word's name field reaches the last; 257 names
+pub names-counted :
+    (modelOk (1 ∷ 1 ∷ 255 ∷ 255 ∷ []) (replicate 6144 65) ≡ true)
+    × (modelOk (1 ∷ 1 ∷ 0 ∷ 0 ∷ []) (replicate 6168 65) ≡ false)
+unfolding opened
+names-counted = (refl, refl)
 
 -- ---- paths
 
@@ -108,8 +150,8 @@ names-checked = (refl, refl)
 abbrev Selects : Selection → List (List ℕ) → Type 0
 Selects s ps = map (λ p. select tree treeNames (some p)) ps ≡ replicate (length ps) s
 
--- no path; //T of the root, of a part, of a leaf, of a component without items; items of a type; no component's type or no item
--- of that type; other forms
+-- no path; //T of the root, of a part, of a leaf, of a component without items; items of a type; no component's type
+-- or no item of that type; other forms
 pub paths-select :
     (select tree treeNames none ≡ Items 15)
     × Selects (Items 15) (bytes "//Device" ∷ [])
@@ -119,13 +161,39 @@ pub paths-select :
     × Selects (Items 6) (bytes "//Axes//DataItem[@type=\"POSITION\"]" ∷ [])
     × Selects (Items 8) (bytes "//Linear//DataItem[@type=\"LOAD\"]" ∷ [])
     × Selects NotFound
-    (bytes "//Linear//DataItem[@type=\"AVAILABILITY\"]" ∷ bytes "//Spindle//DataItem[@type=\"LOAD\"]" ∷ bytes "//axes" ∷ bytes "//Axe" ∷ bytes "//LOAD" ∷ [])
+    (bytes "//Linear//DataItem[@type=\"AVAILABILITY\"]"
+    ∷ bytes "//Spindle//DataItem[@type=\"LOAD\"]"
+    ∷ bytes "//axes" ∷ bytes "//Axe" ∷ bytes "//Axess" ∷ bytes "//LOAD" ∷ [])
     × Selects NotFound
-    ([] ∷ bytes "//" ∷ bytes "/Axes" ∷ bytes "///Axes" ∷ bytes "//Axes/" ∷ bytes "//Device//Axes" ∷ bytes "//DataItem[@type=\"LOAD\"]"
-    ∷ bytes "////DataItem[@type=\"LOAD\"]" ∷ bytes "//Axes//DataItem[@type=\"LOAD\"" ∷ bytes "//Axes//DataItem[@type=\"]"
-    ∷ bytes "//Axes//DataItem[@type=\"\"]" ∷ bytes "//Axes//DataItem[@type=\"LOAD\"]/" ∷ bytes "//Axes//DataItem[@type=%22LOAD%22]" ∷ [])
+    ([] ∷ bytes "//" ∷ bytes "/Axes" ∷ bytes "///Axes" ∷ bytes "//Axes/" ∷ bytes "//Device//Axes"
+    ∷ bytes "//DataItem[@type=\"LOAD\"]" ∷ bytes "////DataItem[@type=\"LOAD\"]"
+    ∷ bytes "//Axes//DataItem[@type=\"LOAD\"" ∷ bytes "//Axes//DataItem[@type=\"]"
+    ∷ bytes "//Axes//DataItem[@type=\"\"]" ∷ bytes "//Axes//DataItem[@type=\"LOAD\"]/"
+    ∷ bytes "//Axes//DataItem[@type=%22LOAD%22]" ∷ [])
 unfolding opened
 paths-select = (refl, refl, refl, refl, refl, refl, refl, refl, refl)
+
+-- a name that fills its cell is found by its 24 bytes, and not by 23 or 25
+pub full-name :
+    map (λ n. select (1 ∷ 1 ∷ 0 ∷ 0 ∷ []) (replicate 24 65) (some (47 ∷ 47 ∷ replicate n 65))) (23 ∷ 24 ∷ 25 ∷ [])
+    ≡ NotFound ∷ Items 1 ∷ NotFound ∷ []
+unfolding opened
+full-name = refl
+
+-- n words, each a component below the one before, named 1 from the last on
+abbrev chain : ℕ → ℕ → List ℕ
+chain zero i = []
+chain (suc zero) i = (i * 256 + 1) ∷ []
+chain (suc (suc n)) i = (i * 256) ∷ chain (suc n) (suc i)
+
+-- 64 components, each below the one before, and 64 items, the last of the last component: all 64 bits, and bit 63
+pub largest-selected :
+    map (select (64 ∷ 64 ∷ 0 ∷ (chain 63 0 ++ (replicate 63 0 ++ (16128 ∷ []))))
+    (cellsOf (bytes "A" ∷ bytes "B" ∷ [])))
+    (none ∷ some (bytes "//A") ∷ some (bytes "//B") ∷ [])
+    ≡ Items 18446744073709551615 ∷ Items 18446744073709551615 ∷ Items 9223372036854775808 ∷ []
+unfolding opened
+largest-selected = refl
 
 -- ---- texts
 
@@ -142,83 +210,74 @@ Gives n ts = map (λ t. numberRead (readText t)) ts ≡ replicate (length ts) n
 pub texts-read :
     Gives 7 ([] ∷ bytes "sample" ∷ bytes "/sample x" ∷ (47 ∷ 127 ∷ []) ∷ (47 ∷ replicate 256 97) ∷ [])
     × Gives 8
-    ((47 ∷ replicate 255 97) ∷ bytes "/" ∷ bytes "//sample" ∷ bytes "/Sample" ∷ bytes "/sample/" ∷ bytes "/asset" ∷ bytes "/assets/" ∷ bytes "/assets?x" ∷ [])
+    ((47 ∷ replicate 255 97) ∷ bytes "/" ∷ bytes "//sample" ∷ bytes "/Sample" ∷ bytes "/sample/" ∷ bytes "/asset"
+    ∷ bytes "/assets/" ∷ bytes "/assets?x" ∷ [])
     × Gives 8
-    (bytes "/sample?" ∷ bytes "/sample?from=1&" ∷ bytes "/sample?&from=1" ∷ bytes "/sample?from" ∷ bytes "/sample?from=1&from=1"
-    ∷ bytes "/sample?From=1" ∷ bytes "/sample?at=1" ∷ bytes "/current?from=1" ∷ bytes "/current?interval=5&at=3" ∷ [])
+    (bytes "/sample?" ∷ bytes "/sample?from=1&" ∷ bytes "/sample?&from=1" ∷ bytes "/sample?from"
+    ∷ bytes "/sample?from=1&from=1" ∷ bytes "/sample?From=1" ∷ bytes "/sample?at=1" ∷ bytes "/current?from=1"
+    ∷ bytes "/current?count=1" ∷ bytes "/current?interval=5&at=3" ∷ [])
     × Gives 8
-    (bytes "/sample?from=" ∷ bytes "/sample?from=-1" ∷ bytes "/sample?from=00000000000000000001" ∷ bytes "/sample?from=9223372036854775808"
-    ∷ bytes "/sample?count=000" ∷ bytes "/sample?interval=x" ∷ bytes "/current?interval=x" ∷ bytes "/current?at=x" ∷ [])
-    × Gives 8 (bytes "/asset/" ∷ bytes "/asset/a;" ∷ bytes "/asset/;a" ∷ bytes "/asset/a;;b" ∷ bytes "/asset/a/b" ∷ bytes "/asset/a?b" ∷ [])
+    (bytes "/sample?from=" ∷ bytes "/sample?from=-1" ∷ bytes "/sample?from=00000000000000000001"
+    ∷ bytes "/sample?count=00000000000000000001" ∷ bytes "/current?at=00000000000000000001"
+    ∷ bytes "/sample?from=9223372036854775808" ∷ bytes "/sample?count=9223372036854775808"
+    ∷ bytes "/current?at=9223372036854775808" ∷ bytes "/sample?count=000" ∷ bytes "/sample?interval=x"
+    ∷ bytes "/current?interval=x" ∷ bytes "/current?at=x" ∷ [])
+    × Gives 8
+    (bytes "/asset/" ∷ bytes "/asset/a;" ∷ bytes "/asset/;a" ∷ bytes "/asset/a;;b" ∷ bytes "/asset/a/b"
+    ∷ bytes "/asset/a?b" ∷ [])
     × Gives 9 (bytes "/probe" ∷ bytes "/probe/x?y" ∷ bytes "/sample?interval=5" ∷ bytes "/current?interval=5" ∷ [])
     × Gives 0
-    (bytes "/sample" ∷ bytes "/sample?path=" ∷ bytes "/sample?path=a=b?c/d" ∷ bytes "/sample?count=1&from=000" ∷ bytes "/sample?from=0000000000000000001"
-    ∷ bytes "/sample?from=9223372036854775807" ∷ bytes "/current?at=0" ∷ bytes "/asset/a;b;a" ∷ bytes "/assets" ∷ [])
+    (bytes "/sample" ∷ bytes "/sample?path=" ∷ bytes "/sample?path=a=b?c/d" ∷ bytes "/sample?count=1&from=000"
+    ∷ bytes "/sample?from=0000000000000000001" ∷ bytes "/sample?count=0000000000000000001"
+    ∷ bytes "/current?at=0000000000000000001" ∷ bytes "/sample?from=9223372036854775807"
+    ∷ bytes "/sample?count=9223372036854775807" ∷ bytes "/current?at=9223372036854775807" ∷ bytes "/current?at=0"
+    ∷ bytes "/asset/a;b;a" ∷ bytes "/asset/!~" ∷ (bytes "/asset/" ++ replicate 249 97) ∷ bytes "/assets" ∷ [])
 unfolding opened
 texts-read = (refl, refl, refl, refl, refl, refl, refl)
 
 -- ---- assets
 
--- one component, a sample item and an asset change item, room for two assets
-abbrev toolModel : List ℕ
-toolModel = 1 ∷ 2 ∷ 0 ∷ 1 ∷ 196610 ∷ []
-
-abbrev toolNames : List ℕ
-toolNames = pad 24 (bytes "Device") ++ (pad 24 (bytes "POSITION") ++ pad 24 (bytes "ASSET_CHANGED"))
-
-abbrev toolStart : Start
-toolStart =
-    record { model = toolModel; names = toolNames; observations = replicate 24 0; assets = replicate 1090 0; N = 4; A = 2; B = 1; host = 1000 }
-
 -- an asset is stored, another, the first anew; then what is asked for
-abbrev toolCalls : List Call
-toolCalls =
-    Call.storeAsset (bytes "a") (7 ∷ []) 10
-    ∷ Call.storeAsset (bytes "b") (8 ∷ 9 ∷ []) 20
-    ∷ Call.storeAsset (bytes "a") (1 ∷ 2 ∷ 3 ∷ []) 30
-    ∷ Call.request (bytes "/assets") (replicate 10 0)
-    ∷ Call.request (bytes "/asset/b;a;b") (replicate 10 0)
-    ∷ Call.body (bytes "a")
-    ∷ Call.request (bytes "/sample?path=//Device//DataItem[@type=\"ASSET_CHANGED\"]") (replicate 16 0)
-    ∷ []
+abbrev toolSteps : List Step
+toolSteps =
+    Call.storeAsset (bytes "a") (7 ∷ []) 10 gives stored (Stored 0)
+    ∷ Call.storeAsset (bytes "b") (8 ∷ 9 ∷ []) 20 gives stored (Stored 1)
+    ∷ Call.storeAsset (bytes "a") (1 ∷ 2 ∷ 3 ∷ []) 30 gives stored (Stored 1)
+    ∷ shows "/assets" (2 ∷ 2 ∷ 2 ∷ 0 ∷ 1 ∷ 0 ∷ 3 ∷ 2 ∷ 7 ∷ 7 ∷ [])
+    ∷ shows "/asset/b;a;b" (3 ∷ 2 ∷ 2 ∷ 0 ∷ 0 ∷ 1 ∷ 0 ∷ 2 ∷ 3 ∷ 2 ∷ [])
+    ∷ Call.body (bytes "a") gives returned (1 ∷ 2 ∷ 3 ∷ [])
+    ∷ shows "/sample?path=//Device//DataItem[@type=\"ASSET_CHANGED\"]"
+    (4 ∷ 2 ∷ 5 ∷ 6 ∷ 2 ∷ 3 ∷ 4 ∷ 5
+    ∷ 1000 ∷ 1099511627776 ∷ 10 ∷ 1108101562368 ∷ 20 ∷ 1108101562369 ∷ 30 ∷ 1108101562369 ∷ []) ∷ []
 
--- the cells; newest first; the text's order with a repeat; the newest body; an event each time, the last one equal to the one before
-pub tools :
-    storesOutputs toolStart toolCalls
-    ≡ (started (Done 0) ∷ [])
-    ∷ (stored (Stored 0) ∷ [])
-    ∷ (stored (Stored 1) ∷ [])
-    ∷ (stored (Stored 1) ∷ [])
-    ∷ (replied (Done 2) (2 ∷ 2 ∷ 2 ∷ 0 ∷ 1 ∷ 0 ∷ 3 ∷ 2 ∷ 0 ∷ 0 ∷ []) ∷ [])
-    ∷ (replied (Done 3) (3 ∷ 2 ∷ 2 ∷ 0 ∷ 0 ∷ 1 ∷ 0 ∷ 2 ∷ 3 ∷ 2 ∷ []) ∷ [])
-    ∷ (returned (1 ∷ 2 ∷ 3 ∷ []) ∷ [])
-    ∷ (replied (Done 4) (4 ∷ 2 ∷ 5 ∷ 6 ∷ 2 ∷ 3 ∷ 4 ∷ 5 ∷ 1000 ∷ 1099511627776 ∷ 10 ∷ 1108101562368 ∷ 20 ∷ 1108101562369 ∷ 30 ∷ 1108101562369 ∷ []) ∷ [])
-    ∷ []
+-- the cells; newest first; the text's order with a repeat; the newest body; an event each time, the last one equal
+-- to the one before
+pub tools : ToolsGive 1 toolSteps
 unfolding opened
-tools = refl
+tools = (refl, refl)
 
 -- ---- the stores, word by word and byte by byte
 
--- behind the bench case's observes: N, m, B, last; ring times; ring packed words; latest numbers, times, packed words; the same of the
--- checkpoint, which holds number 1 of item 0
-pub bench-words :
-    benchStores .observations
-    ≡ 3 ∷ 2 ∷ 1 ∷ 4
-    ∷ 1030 ∷ 1000 ∷ 1010
-    ∷ 1108101562367 ∷ 1099511627776 ∷ 1103806600072
-    ∷ 1 ∷ 4 ∷ 1000 ∷ 1030 ∷ 0 ∷ 1108101562367
-    ∷ 1 ∷ 0 ∷ 1000 ∷ 0 ∷ 0 ∷ 0 ∷ []
+-- behind the bench case's observes
+pub bench-words : benchStores .observations ≡ benchWords
 unfolding opened
 bench-words = refl
 
 abbrev toolStores : Stores
 toolStores =
-    storesAfter toolModel toolNames (record { observations = storesStart toolStart .observations; assets = storesStart toolStart .assets }) toolCalls
+    let r = storesStart (toolStart 1) in
+    storesAfter toolModel toolNames (record { observations = r .observations; assets = r .assets })
+    (map callOf toolSteps)
 
--- behind the calls above: A and u; the id cells, b and then a; the body cells, the length in two bytes before each body
+-- behind the calls above: A and u; the id cells, b and then a; the body cells, the length in two bytes before each
+-- body
 pub tool-bytes :
     toolStores .assets
-    ≡ 2 ∷ 2 ∷ (pad 32 (bytes "b") ++ (pad 32 (bytes "a") ++ (pad 512 (0 ∷ 2 ∷ 8 ∷ 9 ∷ []) ++ pad 512 (0 ∷ 3 ∷ 1 ∷ 2 ∷ 3 ∷ []))))
+    ≡ 2 ∷ 2
+    ∷ (pad 32 (bytes "b")
+    ++ (pad 32 (bytes "a")
+    ++ (pad 512 (0 ∷ 2 ∷ 8 ∷ 9 ∷ [])
+    ++ pad 512 (0 ∷ 3 ∷ 1 ∷ 2 ∷ 3 ∷ []))))
 unfolding opened
 tool-bytes = refl
 
@@ -239,14 +298,25 @@ clientCalls =
 
 abbrev firstWindow : Window
 firstWindow =
-    record { path = none; begin = 2; next = 4; rows = (2 ∷ 1000 ∷ 1099511627776 ∷ []) ∷ (3 ∷ 1010 ∷ 1103806600072 ∷ []) ∷ [] }
+    record {
+      path = none;
+      begin = 2;
+      next = 4;
+      rows = (2 ∷ 1000 ∷ 1099511627776 ∷ []) ∷ (3 ∷ 1010 ∷ 1103806600072 ∷ []) ∷ [];
+    }
 
 abbrev secondWindow : Window
 secondWindow =
-    record { path = none; begin = 4; next = 6; rows = (4 ∷ 1030 ∷ 1108101562367 ∷ []) ∷ (5 ∷ 1040 ∷ 1103806595079 ∷ []) ∷ [] }
+    record {
+      path = none;
+      begin = 4;
+      next = 6;
+      rows = (4 ∷ 1030 ∷ 1108101562367 ∷ []) ∷ (5 ∷ 1040 ∷ 1103806595079 ∷ []) ∷ [];
+    }
 
 -- what its accepted samples deliver
-pub two-windows : windowsOf (λ i. true) 0 clientCalls (callOutputs clientStart clientCalls) ≡ firstWindow ∷ secondWindow ∷ []
+pub two-windows :
+    windowsOf (λ i. true) 0 clientCalls (callOutputs clientStart clientCalls) ≡ firstWindow ∷ secondWindow ∷ []
 unfolding opened
 two-windows = refl
 
