@@ -10,7 +10,8 @@ use lib.IntN.{pos, negsuc}
 use lib.ListN.{length, replicate}
 use Rattle.spec.specs.Bytes.{bytes, pad}
 use Rattle.spec.specs.Value.{takes, pack, decode}
-use Rattle.spec.specs.Model.{namesOk, modelOk}
+use Rattle.spec.specs.Words.{every}
+use Rattle.spec.specs.Model.{nameCell, cellOk, namesOk, modelOk}
 use Rattle.spec.specs.Text.{Reading, readText}
 use Rattle.spec.specs.Text.Reading.{unread, asked}
 use Rattle.spec.specs.Path.{select}
@@ -137,12 +138,12 @@ pub name-bytes :
 unfolding opened
 name-bytes = refl
 
--- 256 names, of which a word's name field reaches the last; 257 names
+-- 256 cells are as right as each of them is; 257 are not
 pub names-counted :
-    (modelOk (1 ∷ 1 ∷ 255 ∷ 255 ∷ []) (replicate 6144 65) ≡ true)
-    × (modelOk (1 ∷ 1 ∷ 0 ∷ 0 ∷ []) (replicate 6168 65) ≡ false)
-unfolding opened
-names-counted = (refl, refl)
+    ((names : List ℕ) → length names ≡ 6144 → namesOk names ≡ every (λ k. cellOk (nameCell names k)) 256 0)
+    × ((names : List ℕ) → length names ≡ 6168 → namesOk names ≡ false)
+unfolding namesOk
+names-counted = (λ names h. rw h, λ names h. rw h)
 
 -- ---- paths
 
