@@ -16,8 +16,8 @@ use Rattle.spec.specs.Text.{Request, Reading, readText}
 use Rattle.spec.specs.Text.Request.{sample, current, currentAt, assets, allAssets}
 use Rattle.spec.specs.Text.Reading.{unread, asked}
 use Rattle.spec.specs.Path.{select}
-use Rattle.spec.specs.Observations.{ringSize, base, last, storeWords, latestAt, headOk, add, evictOk, ringOk, sampleRows, heldRow, currentRows, atRows}
-use Rattle.spec.specs.Assets.{used, assetHeadOk, assetOk, idOk, bodyOk, cellFor, storeCells, lengthAt, lengthOk, bodyStart, bodyPlace, part}
+use Rattle.spec.specs.Observations.{maxRing, ringSize, base, last, storeWords, latestAt, headOk, add, evictOk, ringOk, sampleRows, heldRow, currentRows, atRows}
+use Rattle.spec.specs.Assets.{maxBody, used, assetHeadOk, assetOk, idOk, bodyOk, cellFor, storeCells, lengthAt, lengthOk, bodyStart, bodyPlace, part}
 use Rattle.spec.specs.Reply.{Replied, refuse, assetReply}
 use Rattle.spec.specs.Calls.{Observed, Kept, roomFor, observeBy, timeOr, observeItem, keepBy, keepAsset, unless, inRange, sampleBetween, sampleReply, currentReply, currentUpTo, atReply, cellRows, allCells, cellsReply, namedReply, downFrom, answerRequest, answerReading, added}
 use Rattle.spec.specs.Calls
@@ -50,7 +50,7 @@ pub record Good (model names : List ℕ) (p : State) (st : List ℕ) : Type 0 wh
   pub right : modelOk model names ≡ true
   pub rep : Rep (p .N) (items model) (p .B) (p .H) st
   pub each : (i : ℕ) → i < items model → newest i (p .H) .item ≡ i
-  pub size : p .N ≤ 131072
+  pub size : p .N ≤ maxRing
   pub all : items model ≤ length (p .H)
   pub top : p .B + length (p .H) ≤ 9223372036854775808
   pub A-low : 0 < p .A
@@ -257,8 +257,11 @@ module _ (model names : List ℕ) (p : State) (st : List ℕ) (G : Good model na
     asset-ok : Ok asset
     unfolding assetOk bodyOk lengthOk asset
     asset-ok =
-        let b = and-right (idOk id) _ ok in
-        (and-left (idOk id) _ ok, leb-true 1 (length content) (and-left (leb 1 (length content)) _ b), leb-true (length content) 510 (and-right (leb 1 (length content)) _ b))
+        let b = and-right (idOk id) _ ok in (
+          and-left (idOk id) _ ok,
+          leb-true 1 (length content) (and-left (leb 1 (length content)) _ b),
+          leb-true (length content) maxBody (and-right (leb 1 (length content)) _ b),
+        )
 
     stands : Stands (p .A) (storeCells id content (bytes p)) (assetsAfter p id content)
     unfolding asset

@@ -153,9 +153,9 @@ not-back false e = sym e
 -- the facts of a start that is right
 record Sizes (m N A B : ℕ) : Type 0 where
   N-low : 1 ≤ N
-  N-high : N ≤ 131072
+  N-high : N ≤ maxRing
   A-low : 1 ≤ A
-  A-high : A ≤ 128
+  A-high : A ≤ maxAssets
   B-low : 1 ≤ B
   B-high : B + m ≤ 2 ^ 63
 

@@ -8,10 +8,11 @@ use lib.ListN.{length, replicate}
 use Rattle.spec.specs.Bytes.{bytes}
 use Rattle.spec.specs.Calls
 use Rattle.spec.specs.Reference
+use Rattle.spec.specs.Reference.{State}
 use Rattle.spec.specs.History.{Call}
 use Rattle.spec.specs.History.Output.{observed, replied, returned}
 use Rattle.spec.specs.Bench.{benchModel, benchNames}
-use Rattle.spec.specs.declared.Value.the-variants.{Sample}
+use Rattle.spec.specs.declared.Value.the-variants.{Unavailable, Sample}
 use Rattle.spec.specs.declared.Answer.{Answer}
 use Rattle.spec.specs.declared.Answer.the-variants.{Done, Refused}
 use Rattle.spec.specs.declared.ObserveAnswer.the-variants.{Recorded, Same, Refused as Unrecorded}
@@ -162,6 +163,25 @@ asset-heads = (
 )
 
 -- ---- sample: a count that isn't given is 100; one that is given is at most N, refusal 10
+
+-- the reference model with number l only
+abbrev lastly : ℕ → State
+lastly l =
+    record {
+      N = 101;
+      A = 1;
+      B = 1;
+      H = record { number = l; item = 0; time = 0; value = Unavailable } ∷ [];
+      T = [];
+    }
+
+-- the end of the numbers considered from 1 on, where last is 99, 100 and 101; and with a count of 101
+pub default-ends :
+    ((Calls.endOf 1 0 99 ∷ Calls.endOf 1 0 100 ∷ Calls.endOf 1 0 101 ∷ Calls.endOf 1 101 101 ∷ [])
+    ≡ 100 ∷ 101 ∷ 101 ∷ 102 ∷ [])
+    × (map (λ l. Reference.sampleEnd (lastly l) 1 0) (99 ∷ 100 ∷ 101 ∷ []) ≡ 100 ∷ 101 ∷ 101 ∷ [])
+unfolding opened
+default-ends = (refl, refl)
 
 -- 99, 100 and 101 numbers held: next is 100, 101, and 101 again
 pub default-count :

@@ -16,7 +16,7 @@ use Rattle.spec.specs.declared.StoreAnswer.the-variants.{Stored, Refused
 use Rattle.spec.specs.declared.Refusal.the-variants.{Store, AssetNotFound}
 use Rattle.spec.proofs.Opened.{opened}
 use Rattle.spec.proofs.Fixtures.{Step, shows, refuses, stores, StoresGive}
-use Rattle.spec.proofs.Fixtures.{noAssets, toolModel, toolNames, toolStart, benchWith, benchWords}
+use Rattle.spec.proofs.Fixtures.{noAssets, toolModel, toolNames, toolStart, benchWith, benchStore}
 use Rattle.spec.proofs.Fixtures.Step.{_gives_}
 
 -- ---- what start leaves, whatever stood in the stores
@@ -186,7 +186,7 @@ twice u h l h' l' =
     ++ pad 512 (h' ∷ l' ∷ 7 ∷ 8 ∷ []))))
 
 abbrev AssetsGive : List ℕ → List Step → Type 0
-AssetsGive bs = StoresGive benchModel benchNames (record { observations = benchWords; assets = bs })
+AssetsGive bs = StoresGive benchModel benchNames (record { observations = benchStore; assets = bs })
 
 -- the lower is meant; stored anew, it is removed and the other stays
 pub lower-cell :

@@ -29,7 +29,7 @@ use Rattle.spec.specs.declared.ObserveAnswer.the-variants.{Recorded, Sam
 use Rattle.spec.specs.declared.StoreAnswer.the-variants.{Stored, Refused as Unstored}
 use Rattle.spec.proofs.Opened.{opened}
 use Rattle.spec.proofs.Fixtures.{Step, callOf, shows, ToolsGive, cellsOf, toolModel, toolNames, toolStart}
-use Rattle.spec.proofs.Fixtures.{benchWords}
+use Rattle.spec.proofs.Fixtures.{benchStore}
 use Rattle.spec.proofs.Fixtures.Step.{_gives_}
 
 -- ---- values
@@ -260,7 +260,7 @@ tools = (refl, refl)
 -- ---- the stores, word by word and byte by byte
 
 -- behind the bench case's observes
-pub bench-words : benchStores .observations ≡ benchWords
+pub bench-words : benchStores .observations ≡ benchStore
 unfolding opened
 bench-words = refl
 

@@ -133,12 +133,12 @@ benchWith x y z =
     ∷ 1 ∷ 4 ∷ 1000 ∷ 1030 ∷ 0 ∷ 1108101562367
     ∷ 1 ∷ 0 ∷ 1000 ∷ 0 ∷ 0 ∷ 0 ∷ []
 
-abbrev pub benchWords : List ℕ
-benchWords = benchWith 1099511627776 1103806600072 1108101562367
+abbrev pub benchStore : List ℕ
+benchStore = benchWith 1099511627776 1103806600072 1108101562367
 
 abbrev pub BenchGives : List Step → Type 0
 BenchGives =
-    BothGive benchModel benchNames (record { observations = benchWords; assets = noAssets })
+    BothGive benchModel benchNames (record { observations = benchStore; assets = noAssets })
     (record {
       N = 3;
       A = 1;

@@ -22,7 +22,7 @@ use Rattle.spec.specs.declared.Refusal.the-variants.{OutOfRange, AssetNo
 use Rattle.spec.proofs.Opened.{opened}
 use Rattle.spec.proofs.Fixtures.{Step, refuses, refusesIn, stores, StoresGive, BothGive, ToolsGive}
 use Rattle.spec.proofs.Fixtures.{BenchGives, plainNames, noAssets, toolModel, toolNames, toolState}
-use Rattle.spec.proofs.Fixtures.{benchWith, benchWords}
+use Rattle.spec.proofs.Fixtures.{benchWith, benchStore}
 use Rattle.spec.proofs.Fixtures.Step.{_gives_}
 
 -- ---- requests
@@ -87,7 +87,7 @@ noLength = 2 ∷ 1 ∷ (pad 64 (bytes "a") ++ replicate 1024 0)
 
 -- 13 before 2, whichever id comes first; 2 before 15
 pub asset-orders :
-    StoresGive benchModel benchNames (record { observations = benchWords; assets = noLength })
+    StoresGive benchModel benchNames (record { observations = benchStore; assets = noLength })
     (refuses "/asset/a" Store
     ∷ refuses "/asset/a;b" AssetNotFound
     ∷ refuses "/asset/b;a" AssetNotFound
@@ -180,7 +180,7 @@ pub head-orders :
     ∷ stores [] [] (Unstored Store)
     ∷ refuses "x" Store
     ∷ refuses "/assets" Store ∷ [])
-    × StoresGive benchModel benchNames (record { observations = benchWords; assets = [] })
+    × StoresGive benchModel benchNames (record { observations = benchStore; assets = [] })
     (Call.observe 9 10 10 Unavailable gives observed (Unrecorded Item)
     ∷ stores [] [] (Unstored Store)
     ∷ refuses "x" Store
