@@ -2,7 +2,8 @@
 -- The figures are written out here as the document has them, so that they follow no definition.
 use Prim.Native.Nat.{ℕ}
 use mathlib.Core.Path.{_≡_, refl}
-use mathlib.Core.List.{List, [], _∷_, _++_, map}
+use mathlib.Core.Bool.{true, false}
+use mathlib.Core.List.{List, [], _∷_, map}
 use lib.IntN.{pos}
 use lib.ListN.{length, replicate}
 use Rattle.spec.specs.Bytes.{bytes}
@@ -26,6 +27,17 @@ use Rattle.spec.proofs.Fixtures.{plainModel, plainNames, noAssets, plai
 use Rattle.spec.proofs.Fixtures.Step.{_gives_}
 
 -- ---- start, refusal 3: N 1..131,072; A 1..128; B 1..2^63 - m; 4 + 2N + 6m words and 2 + 544A bytes
+
+-- the tests of both layers
+pub sizes-tested :
+    ((Calls.startOk 1 131072 1 1 262154 546 ∷ Calls.startOk 1 131073 1 1 262156 546
+    ∷ Calls.startOk 1 1 128 1 12 69634 ∷ Calls.startOk 1 1 129 1 12 70178 ∷ [])
+    ≡ true ∷ false ∷ true ∷ false ∷ [])
+    × ((Reference.sizeWrong 1 131072 1 1 262154 546 ∷ Reference.sizeWrong 1 131073 1 1 262156 546
+    ∷ Reference.sizeWrong 1 1 128 1 12 69634 ∷ Reference.sizeWrong 1 1 129 1 12 70178 ∷ [])
+    ≡ false ∷ true ∷ false ∷ true ∷ [])
+unfolding opened
+sizes-tested = (refl, refl)
 
 -- both layers' answer to a start with N, A, B into stores of so many words and bytes, whatever stands there
 abbrev Starts : List ℕ → List ℕ → Answer → ℕ → ℕ → ℕ → ℕ → ℕ → Type 0
