@@ -11,6 +11,7 @@ use Rattle.spec.specs.History.{Call, storesStart}
 use Rattle.spec.specs.History.Output.{observed, returned}
 use Rattle.spec.specs.Bench.{benchModel, benchNames}
 use Rattle.spec.specs.declared.Value.the-variants.{Unavailable, Sample}
+use Rattle.spec.specs.declared.Answer.the-variants.{Done}
 use Rattle.spec.specs.declared.ObserveAnswer.the-variants.{Recorded, Same, Refused as Unrecorded}
 use Rattle.spec.specs.declared.StoreAnswer.the-variants.{Stored, Refused as Unstored}
 use Rattle.spec.specs.declared.Refusal.the-variants.{Store, AssetNotFound}
@@ -35,6 +36,20 @@ started-observations = refl
 pub started-assets : storesStart (toolStart 1) .assets ≡ 2 ∷ 0 ∷ replicate 1088 0
 unfolding opened
 started-assets = refl
+
+-- N 1 is below m 2: number 5 of item 0 is overwritten at once and stands in the checkpoint
+pub started-below :
+    Calls.start benchModel benchNames (replicate 18 99) (replicate 546 99) 1 1 5 1000
+    ≡ record {
+      answer = Done 0;
+      observations = 1 ∷ 2 ∷ 5 ∷ 6
+          ∷ 1000 ∷ 1099511627776
+          ∷ 5 ∷ 6 ∷ 1000 ∷ 1000 ∷ 0 ∷ 1099511627776
+          ∷ 5 ∷ 0 ∷ 1000 ∷ 0 ∷ 0 ∷ 0 ∷ [];
+      assets = 1 ∷ 0 ∷ replicate 544 0;
+    }
+unfolding opened
+started-below = refl
 
 -- ---- ring words: m is 2, so that 2 × 2^40 is the first word of an item that isn't there
 

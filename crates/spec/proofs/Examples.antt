@@ -17,7 +17,7 @@ use Rattle.spec.specs.Text.Reading.{unread, asked}
 use Rattle.spec.specs.Path.{select}
 use Rattle.spec.specs.Answers.{refusalNumber, observeWord, storeWord}
 use Rattle.spec.specs.History.{Call, Stores, Start, Window, storesStart, callOutputs, windowsOf, Meets}
-use Rattle.spec.specs.History.Output.{stored, returned}
+use Rattle.spec.specs.History.Output.{observed, stored, returned}
 use Rattle.spec.specs.Bench.{benchStart, benchObserves, storesAfter, benchStores}
 use Rattle.spec.specs.declared.Level.the-variants.{Normal, Warning, Fault}
 use Rattle.spec.specs.declared.Value.{Value}
@@ -256,6 +256,21 @@ toolSteps =
 pub tools : ToolsGive 1 toolSteps
 unfolding opened
 tools = (refl, refl)
+
+-- ---- times
+
+-- a time of 0 is missing: the host's, which may be 0 too; times need not rise
+pub times :
+    ToolsGive 1
+    (Call.observe 0 0 50 (Sample (pos 1)) gives observed (Recorded 3)
+    ∷ Call.observe 0 60 70 (Sample (pos 2)) gives observed (Recorded 4)
+    ∷ Call.observe 0 40 70 (Sample (pos 3)) gives observed (Recorded 5)
+    ∷ Call.observe 0 0 0 (Sample (pos 4)) gives observed (Recorded 6)
+    ∷ shows "/sample"
+    (4 ∷ 3 ∷ 6 ∷ 7 ∷ 3 ∷ 4 ∷ 5 ∷ 6
+    ∷ 50 ∷ 4294967297 ∷ 60 ∷ 4294967298 ∷ 40 ∷ 4294967299 ∷ 0 ∷ 4294967300 ∷ []) ∷ [])
+unfolding opened
+times = (refl, refl)
 
 -- ---- the stores, word by word and byte by byte
 
