@@ -6,21 +6,23 @@ use mathlib.Core.List.{List, [], _∷_}
 use lib.IntN.{pos}
 use lib.Dec.{leb, ltb, eqb}
 use lib.ListN.{length, getD, replicate}
-use Rattle.spec.specs.Words.{every, firstWhere, anyBelow, countBelow, pickRows, setOf, row, put}
-use Rattle.spec.specs.Bytes.{bytes, textByte, nameByte, idByte, all, same, before, joinFirst, split, digit, valueFrom, isNumber}
+use Rattle.spec.specs.Bytes.{bytes}
 use Rattle.spec.specs.Value.{takes, pack}
-use Rattle.spec.specs.Model.{items, category, hasChange, letters, zeros, cellOk, namesOk, changeItem, sizesOk, componentOk, itemOk, componentsOk, itemsOk, changesOk, modelOk}
-use Rattle.spec.specs.Text.{uriOk, wordOf, slotOf, takesSlot, addPart, addParts, parameters, sampleRequest, currentRequest, idText, idTexts, assetRequest, readWord, readText}
-use Rattle.spec.specs.Path.{typedForm, formBehind, formOf, isNamed, under, inSubtree, inTyped, selectSubtree, selectTyped, selectForm, select}
-use Rattle.spec.specs.Observations.{ringSize, base, last, latestRow, headOk, evict, add, evictOk, blank, addAll, startStore, ringOk, sampleRows, currentRows, newestIn, atRows}
-use Rattle.spec.specs.Assets.{used, lengthAt, assetHeadOk, idOk, bodyOk, assetOk, find, renew, cellFor, storeCells, startAssets, lengthOk, bodyPlace}
-use Rattle.spec.specs.Reply.{Replied, refuse, over, numbers, pairs, lengths, observationWords, assetWords, written, observationReply, assetReply}
+use Rattle.spec.specs.Model.{items, category, hasChange, modelOk}
+use Rattle.spec.specs.Text.{readText}
+use Rattle.spec.specs.Path.{select}
+use Rattle.spec.specs.Observations.{ringSize, base, last, latestRow, headOk, ringOk}
+use Rattle.spec.specs.Assets.{used, lengthAt, assetHeadOk, assetOk, cellFor, storeCells, lengthOk}
+use Rattle.spec.specs.Reply.{Replied, refuse, over, observationWords, written, observationReply, assetReply}
 use Rattle.spec.specs.Answers.{answerNumber, observeWord, storeWord}
 use Rattle.spec.specs.Text.{Request, Reading}
 use Rattle.spec.specs.Text.Request.{sample, current, currentAt, assets, allAssets}
 use Rattle.spec.specs.Text.Reading.{unread, asked}
-use Rattle.spec.specs.Calls.{timeOr, Started, Observed, Kept, first, startOf, endOf, startOk, start, roomFor, observeBy, observeItem, observe, keepBy, keepAsset, storeAsset, unless, inRange, sampleBetween, sampleReply, currentReply, currentUpTo, atReply, cellRows, allCells, cellsReply, findAll, namedReply, downFrom, answerRequest, answerReading, request, body}
-use Rattle.spec.specs.Bench.{benchModel, benchNames, benchStores, storesAfter, benchRequest}
+use Rattle.spec.specs.Calls.{timeOr, Started, Observed, Kept, first, startOf, endOf, startOk, start, roomFor}
+use Rattle.spec.specs.Calls.{observeBy, observeItem, observe, keepBy, keepAsset, storeAsset, unless, inRange}
+use Rattle.spec.specs.Calls.{sampleBetween, sampleReply, currentReply, currentUpTo, atReply, cellRows, allCells}
+use Rattle.spec.specs.Calls.{cellsReply, findAll, namedReply, answerRequest, answerReading, request}
+use Rattle.spec.specs.Bench.{benchModel, benchNames, benchStores, benchRequest}
 use Rattle.spec.specs.declared.Value.{Value}
 use Rattle.spec.specs.declared.Value.the-variants.{Sample}
 use Rattle.spec.specs.declared.Refusal.{Refusal}
@@ -32,6 +34,7 @@ use Rattle.spec.specs.declared.Verdict.{Verdict}
 use Rattle.spec.specs.declared.Verdict.the-variants.{Fine, Refused as Against}
 use Rattle.spec.specs.declared.Selection.{Selection}
 use Rattle.spec.specs.declared.Selection.the-variants.{Items, NotFound}
+use Rattle.spec.proofs.Opened.{opened}
 use Rattle.spec.proofs.Words.{by-cond}
 
 -- ---- each refusal is given
@@ -71,7 +74,7 @@ given =
     ∷ []
 
 pub each-given : given ≡ 1 ∷ 2 ∷ 3 ∷ 4 ∷ 5 ∷ 6 ∷ 7 ∷ 8 ∷ 9 ∷ 10 ∷ 11 ∷ 12 ∷ 13 ∷ 14 ∷ 15 ∷ []
-unfolding asks observes spentObserve given every firstWhere anyBelow countBelow pickRows setOf row put textByte nameByte idByte all same before joinFirst split digit valueFrom isNumber letters zeros cellOk namesOk changeItem sizesOk componentOk itemOk componentsOk itemsOk changesOk modelOk uriOk wordOf slotOf takesSlot addPart addParts parameters sampleRequest currentRequest idText idTexts assetRequest readWord readText typedForm formBehind formOf isNamed under inSubtree inTyped selectSubtree selectTyped selectForm select headOk evict add evictOk blank addAll startStore ringOk sampleRows currentRows newestIn atRows assetHeadOk idOk bodyOk assetOk find renew cellFor storeCells startAssets lengthOk bodyPlace numbers pairs lengths observationWords assetWords written observationReply assetReply startOk start roomFor observeItem observe keepAsset storeAsset inRange sampleBetween sampleReply currentReply currentUpTo atReply cellRows allCells cellsReply findAll namedReply downFrom answerRequest answerReading request body storesAfter benchStores benchRequest
+unfolding asks observes spentObserve given opened
 each-given = refl
 
 -- ---- a refused call changes nothing
