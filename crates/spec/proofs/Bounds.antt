@@ -11,12 +11,12 @@ use Rattle.spec.specs.Calls
 use Rattle.spec.specs.Reference
 use Rattle.spec.specs.Reference.{State}
 use Rattle.spec.specs.History.{Call}
-use Rattle.spec.specs.History.Output.{observed, replied, returned}
+use Rattle.spec.specs.History.Output.{observed, returned}
 use Rattle.spec.specs.Bench.{benchModel, benchNames}
 use Rattle.spec.specs.declared.Value.the-variants.{Unavailable, Sample}
 use Rattle.spec.specs.declared.Answer.{Answer}
 use Rattle.spec.specs.declared.Answer.the-variants.{Done, Refused}
-use Rattle.spec.specs.declared.ObserveAnswer.the-variants.{Recorded, Same, Refused as Unrecorded}
+use Rattle.spec.specs.declared.ObserveAnswer.the-variants.{Recorded, Refused as Unrecorded}
 use Rattle.spec.specs.declared.StoreAnswer.the-variants.{Stored, Refused as Unstored}
 use Rattle.spec.specs.declared.Refusal.the-variants.{Size, Store, Spent, InvalidRequest, TooMany, OutOfRange}
 use Rattle.spec.specs.declared.Refusal.the-variants.{AssetNotFound, Asset, Space}

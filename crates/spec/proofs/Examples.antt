@@ -5,7 +5,7 @@ use Prim.Native.Nat.{ℕ, zero, suc, _+_, _*_}
 use mathlib.Core.Path.{_≡_, refl}
 use mathlib.Core.Bool.{Bool, true, false}
 use mathlib.Core.List.{List, [], _∷_, _++_, map}
-use mathlib.Core.Option.{Option, none, some}
+use mathlib.Core.Option.{none, some}
 use lib.IntN.{pos, negsuc}
 use lib.ListN.{length, replicate}
 use Rattle.spec.specs.Bytes.{bytes, pad}
@@ -13,6 +13,7 @@ use Rattle.spec.specs.Value.{takes, pack, decode}
 use Rattle.spec.specs.Words.{every}
 use Rattle.spec.specs.Model.{nameCell, cellOk, namesOk, modelOk}
 use Rattle.spec.specs.Text.{Reading, readText}
+use Rattle.spec.specs.Text.Request.{sample, current, currentAt, assets, allAssets}
 use Rattle.spec.specs.Text.Reading.{unread, asked}
 use Rattle.spec.specs.Path.{select}
 use Rattle.spec.specs.Answers.{refusalNumber, observeWord, storeWord}
@@ -235,6 +236,17 @@ pub texts-read :
     ∷ bytes "/asset/a;b;a" ∷ bytes "/asset/!~" ∷ (bytes "/asset/" ++ replicate 249 97) ∷ bytes "/assets" ∷ [])
 unfolding opened
 texts-read = (refl, refl, refl, refl, refl, refl, refl)
+
+-- the requests: parts in any order, a name up to the first '=', absent numbers 0, ids in the text's order
+pub texts-asked :
+    map readText
+    (bytes "/sample" ∷ bytes "/sample?count=9&path=//A&from=7" ∷ bytes "/current" ∷ bytes "/current?path=x=y"
+    ∷ bytes "/current?at=8&path=z" ∷ bytes "/asset/a;bc;a" ∷ bytes "/assets" ∷ [])
+    ≡ asked (sample none 0 0) ∷ asked (sample (some (bytes "//A")) 7 9) ∷ asked (current none)
+    ∷ asked (current (some (bytes "x=y"))) ∷ asked (currentAt (some (bytes "z")) 8)
+    ∷ asked (assets (bytes "a" ∷ bytes "bc" ∷ bytes "a" ∷ [])) ∷ asked allAssets ∷ []
+unfolding opened
+texts-asked = refl
 
 -- ---- assets
 
