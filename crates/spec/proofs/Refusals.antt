@@ -22,7 +22,7 @@ use Rattle.spec.specs.Calls.{timeOr, Started, Observed, Kept, first, sta
 use Rattle.spec.specs.Calls.{observeBy, observeItem, observe, keepBy, keepAsset, storeAsset, unless, inRange}
 use Rattle.spec.specs.Calls.{sampleBetween, sampleReply, currentReply, currentUpTo, atReply, cellRows, allCells}
 use Rattle.spec.specs.Calls.{cellsReply, findAll, namedReply, answerRequest, answerReading, request}
-use Rattle.spec.specs.Bench.{benchModel, benchNames, benchStores, benchRequest}
+use Rattle.spec.specs.Bench.{benchModel, benchNames}
 use Rattle.spec.specs.declared.Value.{Value}
 use Rattle.spec.specs.declared.Value.the-variants.{Sample}
 use Rattle.spec.specs.declared.Refusal.{Refusal}
@@ -35,17 +35,21 @@ use Rattle.spec.specs.declared.Verdict.the-variants.{Fine, Refused as Ag
 use Rattle.spec.specs.declared.Selection.{Selection}
 use Rattle.spec.specs.declared.Selection.the-variants.{Items, NotFound}
 use Rattle.spec.proofs.Opened.{opened}
+use Rattle.spec.proofs.Fixtures.{noAssets, benchStore}
 use Rattle.spec.proofs.Words.{by-cond}
 
 -- ---- each refusal is given
 
--- a request of the bench case
+-- a request of the bench case, into so many words
+pub asksIn : ℕ → List ℕ → ℕ
+asksIn words text = answerNumber (request benchModel benchNames benchStore noAssets text (replicate words 0) .answer)
+
 pub asks : List ℕ → ℕ
-asks text = answerNumber (benchRequest text (replicate 64 0) .answer)
+asks text = asksIn 64 text
 
 -- an observe of the bench case, as its word without 2^63
 pub observes : ℕ → Value → ℕ
-observes item v = observeWord (observe benchModel benchNames (benchStores .observations) item 1 1 v .answer) - 2 ^ 63
+observes item v = observeWord (observe benchModel benchNames benchStore item 1 1 v .answer) - 2 ^ 63
 
 -- the same at the highest sequence number
 pub spentObserve : ℕ
@@ -56,8 +60,8 @@ spentObserve =
 -- the bench case's model with model [], a store [], N = 0, and so on
 pub given : List ℕ
 given =
-    answerNumber (request [] benchNames (benchStores .observations) (benchStores .assets) (bytes "/current") [] .answer)
-    ∷ answerNumber (request benchModel benchNames [] (benchStores .assets) (bytes "/current") [] .answer)
+    answerNumber (request [] benchNames benchStore noAssets (bytes "/current") [] .answer)
+    ∷ answerNumber (request benchModel benchNames [] noAssets (bytes "/current") [] .answer)
     ∷ answerNumber (start benchModel benchNames (replicate 22 0) (replicate 546 0) 0 1 1 1000 .answer)
     ∷ observes 2 (Sample (pos 5))
     ∷ observes 0 (Sample (pos 5))
@@ -69,12 +73,12 @@ given =
     ∷ asks (bytes "/current?path=//Spindle")
     ∷ asks (bytes "/sample?from=1")
     ∷ asks (bytes "/asset/T1")
-    ∷ (storeWord (storeAsset benchModel benchNames (benchStores .observations) (benchStores .assets) [] (1 ∷ []) 1 .answer) - 2 ^ 63)
-    ∷ answerNumber (request benchModel benchNames (benchStores .observations) (benchStores .assets) (bytes "/current") (0 ∷ []) .answer)
+    ∷ (storeWord (storeAsset benchModel benchNames benchStore noAssets [] (1 ∷ []) 1 .answer) - 2 ^ 63)
+    ∷ asksIn 1 (bytes "/current")
     ∷ []
 
 pub each-given : given ≡ 1 ∷ 2 ∷ 3 ∷ 4 ∷ 5 ∷ 6 ∷ 7 ∷ 8 ∷ 9 ∷ 10 ∷ 11 ∷ 12 ∷ 13 ∷ 14 ∷ 15 ∷ []
-unfolding asks observes spentObserve given opened
+unfolding asksIn asks observes spentObserve given opened
 each-given = refl
 
 -- ---- a refused call changes nothing
