@@ -23,11 +23,11 @@ pub mod Windows
 pub mod History
 pub mod Never
 pub mod Interface
-pub mod Bench
 pub mod Opened
 pub mod Fixtures
+pub mod Bench
+pub mod Examples
 pub mod Bounds
 pub mod Orders
 pub mod Damaged
-pub mod Examples
 pub mod Refusals
