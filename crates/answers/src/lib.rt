@@ -7,10 +7,10 @@ use spec::ObserveAnswer;
 use spec::Refusal;
 use spec::StoreAnswer;
 
-// The refusal's number.
+// The refusal's number, of five bits.
 fn refusal_number(refusal: Refusal) -> u64
     ensures { λ r. ⌜ r ≡ refusalNumber refusal ⌝ }
-    ensures { λ r. ⌜ r < 16 ⌝ }
+    ensures { λ r. ⌜ r < 32 ⌝ }
 {
     match refusal {
         Refusal::Model => 1,

@@ -8,8 +8,12 @@ use borrow.Author.Tests.{le-leb, leb-true, ltb-true, lt-ltb, le-ltb}
 use lib.Dec.{leb, ltb, eqb}
 use lib.ListN.{length, getD, set, take, drop, replicate, length-replicate, length-drop, drop-of-length-le}
 use lib.Seq.{sets, sets-eq, length-take-le}
-use Rattle.spec.specs.Bytes.{same, pad}
-use Rattle.spec.specs.Assets.{capacity, used, bodiesAt, assetHeadOk, storeBytes, startAssets, lengthAt, idsAt, cell, idCell, idOk, find, lengthOk, bodyPlace, AssetHead, bodyCell, renew, usedAfter, outFor, cellFor, storeCells}
+use Rattle.spec.specs.Bytes.{same}
+use Rattle.spec.specs.Assets.{maxAssets, idBytes, cellBytes, assetBytes, maxBody, capacity, used, idsAt, bodiesAt}
+use Rattle.spec.specs.Assets.{storeBytes}
+use Rattle.spec.specs.Assets.{AssetHead, assetHeadOk, startAssets, idOk, lengthOk, cell, idCell, bodyCell, find}
+use Rattle.spec.specs.Assets.{lengthAt, bodyPlace}
+use Rattle.spec.specs.Assets.{renew, usedAfter, outFor, cellFor, storeCells}
 use Rattle.cells.proofs.Laws.{padded-length}
 use Rattle.spec.proofs.Assets.{id-max, given-up-room, given-up-max, used-after-more, used-after-max}
 use Rattle.assets.specs.Cells.{withAsset}
@@ -18,32 +22,38 @@ use Rattle.spec.specs.Words.{firstWhere}
 use Rattle.spec.proofs.Words.{and-left, and-right, not-so, first-here, first-on, first-end}
 
 -- the last test decides
-pub head-last : (bs : List ℕ) (a : ℕ) → a ≡ capacity bs → 1 ≤ a → a ≤ 128 → used bs ≤ a → eqb (length bs) (2 + a * 544) ≡ assetHeadOk bs
+pub head-last : (bs : List ℕ) (a : ℕ) → a ≡ capacity bs → 1 ≤ a → a ≤ maxAssets → used bs ≤ a → (n : ℕ)
+    → n ≡ storeBytes a
+    → eqb (length bs) n ≡ assetHeadOk bs
 unfolding assetHeadOk
-head-last bs a e b c d = rw (← e, le-leb _ _ b, le-leb _ _ c, le-leb _ _ d)
+head-last bs a e b c d n f = rw (f, ← e, le-leb _ _ b, le-leb _ _ c, le-leb _ _ d)
 
 -- ---- start
 
-pub start-is : (bs l : List ℕ) (a : ℕ) → length bs ≡ storeBytes a → l ≡ sets bs 0 (replicate (length bs) 0) → set l 0 a ≡ startAssets a
+pub start-is : (bs l : List ℕ) (a : ℕ) → length bs ≡ storeBytes a → l ≡ sets bs 0 (replicate (length bs) 0)
+    → set l 0 a ≡ startAssets a
 unfolding startAssets
 start-is bs l a h e =
     let n = length-replicate {A = ℕ} (length bs) 0 in
     let k : length bs ≤ 0 + length (replicate {A = ℕ} (length bs) 0) = omega arith in
     let z : l ≡ replicate (length bs) 0 =
-    e ∙ sets-eq (replicate (length bs) 0) bs 0 (omega arith) ∙ rw (drop-of-length-le bs k) (append-nil (replicate (length bs) 0)) in
-    let q : length bs ≡ suc (suc (a * 544)) = omega arith in
+    e
+    ∙ sets-eq (replicate (length bs) 0) bs 0 (omega arith)
+    ∙ rw (drop-of-length-le bs k) (append-nil (replicate (length bs) 0)) in
+    let q : length bs ≡ suc (suc (a * assetBytes)) = omega arith in
     rw (z, q)
 
 -- ---- bodies
 
-pub length-is : (bs : List ℕ) (i b x y : ℕ) → b ≡ bodiesAt (capacity bs) → x ≡ getD bs (b + i * 512) 0 → y ≡ getD bs (b + i * 512 + 1) 0 → x * 256 + y ≡ lengthAt bs i
+pub length-is : (bs : List ℕ) (i b x y : ℕ) → b ≡ bodiesAt (capacity bs) → x ≡ getD bs (b + i * cellBytes) 0
+    → y ≡ getD bs (b + i * cellBytes + 1) 0 → x * 256 + y ≡ lengthAt bs i
 length-is bs i b x y eb ex ey = rw (ex, ey, eb)
 
 -- ---- find
 
 -- id cell i holds the id
 abbrev pub holdsAt : List ℕ → List ℕ → ℕ → Bool
-holdsAt bs id i = same (cell 32 idsAt i bs) (idCell id)
+holdsAt bs id i = same (cell idBytes idsAt i bs) (idCell id)
 
 zeros-left : (w n : ℕ) → drop {A = ℕ} n (replicate w 0) ≡ replicate (w - n) 0
 zeros-left w zero = let q : w - 0 ≡ w = omega arith in rw q
@@ -51,10 +61,12 @@ zeros-left zero (suc n) = let q : 0 - suc n ≡ 0 = omega arith in rw q
 zeros-left (suc w) (suc n) = let q : suc w - suc n ≡ w - n = omega arith in rw q (zeros-left w n)
 
 -- the id, written over the front of zeros
-key-of : (id key : List ℕ) → length id ≤ 32 → key ≡ sets (replicate 32 0) 0 id → key ≡ idCell id
+key-of : (id key : List ℕ) → length id ≤ idBytes → key ≡ sets (replicate idBytes 0) 0 id → key ≡ idCell id
 key-of id key h e =
     let q : 0 + length id ≡ length id = omega arith in
-    e ∙ sets-eq id (replicate 32 0) 0 (omega (arith, length-replicate {A = ℕ} 32 0)) ∙ rw (q, zeros-left 32 (length id))
+    e
+    ∙ sets-eq id (replicate idBytes 0) 0 (omega (arith, length-replicate {A = ℕ} idBytes 0))
+    ∙ rw (q, zeros-left idBytes (length id))
 
 -- the cells from i on decide, and each is compared with the key
 pub record Searching (bs id key : List ℕ) (u i : ℕ) : Type 0 where
@@ -62,29 +74,33 @@ pub record Searching (bs id key : List ℕ) (u i : ℕ) : Type 0 where
   pub end : u ≡ used bs
   pub rest : find bs id ≡ firstWhere (holdsAt bs id) (u - i) i
   pub key-is : key ≡ idCell id
-  pub key-length : length key ≡ 32
+  pub key-length : length key ≡ idBytes
 
-pub searching-none : (bs id key : List ℕ) (u : ℕ) → u ≡ used bs → idOk id ≡ true → key ≡ sets (replicate 32 0) 0 id → Searching bs id key u 0
+pub searching-none : (bs id key : List ℕ) (u : ℕ) → u ≡ used bs → idOk id ≡ true
+    → key ≡ sets (replicate idBytes 0) 0 id
+    → Searching bs id key u 0
 unfolding find
 searching-none bs id key u e h k =
     let q : u - 0 ≡ used bs = omega arith in
     let z = key-of id key (id-max id h) k in
-    record { below = omega arith; end = e; rest = rw (h, q); key-is = z; key-length = ap length z ∙ padded-length 32 id (id-max id h) }
+    let n : length key ≡ idBytes = ap length z ∙ padded-length idBytes id (id-max id h) in
+    record { below = omega arith; end = e; rest = rw (h, q); key-is = z; key-length = n }
 
 -- the code's part of the store, and what it is
 abbrev pub idPart : List ℕ → ℕ → List ℕ
-idPart bs i = take (2 + i * 32 + 32 - (2 + i * 32)) (drop (2 + i * 32) bs)
+idPart bs i = take (idsAt + i * idBytes + idBytes - (idsAt + i * idBytes)) (drop (idsAt + i * idBytes) bs)
 
-cell-is : (bs : List ℕ) (i : ℕ) → idPart bs i ≡ cell 32 idsAt i bs
-cell-is bs i = let q : 2 + i * 32 + 32 - (2 + i * 32) ≡ 32 = omega arith in rw q
+cell-is : (bs : List ℕ) (i : ℕ) → idPart bs i ≡ cell idBytes idsAt i bs
+cell-is bs i = let q : idsAt + i * idBytes + idBytes - (idsAt + i * idBytes) ≡ idBytes = omega arith in rw q
 
 module _ {bs id key : List ℕ} {u i : ℕ} (r : Searching bs id key u i) where
   holds-is : (t : Bool) → t ≡ same (idPart bs i) key → t ≡ holdsAt bs id i
   holds-is t g = g ∙ rw (cell-is bs i, r .key-is)
 
-  pub searching-lengths : 2 + i * 32 + 32 ≤ length bs → length (idPart bs i) ≡ length key
+  pub searching-lengths : idsAt + i * idBytes + idBytes ≤ length bs → length (idPart bs i) ≡ length key
   searching-lengths h =
-      rw (cell-is bs i) (length-take-le 32 (drop (2 + i * 32) bs) (omega (arith, length-drop (2 + i * 32) bs)) ∙ sym (r .key-length))
+      let at = idsAt + i * idBytes in
+      rw (cell-is bs i) (length-take-le idBytes (drop at bs) (omega (arith, length-drop at bs)) ∙ sym (r .key-length))
 
   pub searching-here : i < u → (t : Bool) → t ≡ same (idPart bs i) key → t ≡ true → i ≡ find bs id
   searching-here h t g e = first-here (holdsAt bs id) (find bs id) i u (r .rest) h (sym (holds-is t g) ∙ e)
@@ -113,12 +129,13 @@ pub length-pos : (n : ℕ) → lengthOk n ≡ true → 1 ≤ n
 unfolding lengthOk
 length-pos n e = leb-true 1 n (and-left (leb 1 n) _ e)
 
-pub length-max : (n : ℕ) → lengthOk n ≡ true → n ≤ 510
+pub length-max : (n : ℕ) → lengthOk n ≡ true → n ≤ maxBody
 unfolding lengthOk
-length-max n e = leb-true n 510 (and-right (leb 1 n) _ e)
+length-max n e = leb-true n maxBody (and-right (leb 1 n) _ e)
 
 -- any fault gives nothing
-pub no-place : (bs id : List ℕ) → (assetHeadOk bs ≡ true → find bs id < used bs → lengthOk (lengthAt bs (find bs id)) ≡ true → ⊥)
+pub no-place : (bs id : List ℕ)
+    → (assetHeadOk bs ≡ true → find bs id < used bs → lengthOk (lengthAt bs (find bs id)) ≡ true → ⊥)
     → Nothing ≡ bodyPlace bs id
 unfolding bodyPlace
 no-place bs id h =
@@ -129,20 +146,24 @@ no-place bs id h =
     h (and-left _ _ e) (ltb-true _ _ (and-left _ _ e1)) (and-right (ltb i (used bs)) _ e1)) in
     rw (sym z)
 
-pub place-is : (bs id : List ℕ) (i b n : ℕ) → assetHeadOk bs ≡ true → i ≡ find bs id → i < used bs → b ≡ bodiesAt (capacity bs) → n ≡ lengthAt bs i → lengthOk n ≡ true
-    → At (b + i * 512 + 2) n ≡ bodyPlace bs id
+pub place-is : (bs id : List ℕ) (i b n : ℕ) → assetHeadOk bs ≡ true → i ≡ find bs id → i < used bs
+    → b ≡ bodiesAt (capacity bs) → n ≡ lengthAt bs i → lengthOk n ≡ true
+    → At (b + i * cellBytes + 2) n ≡ bodyPlace bs id
 unfolding bodyPlace
 place-is bs id i b n h ei l eb en g =
     let k : lengthOk (lengthAt bs i) ≡ true = rw (sym en) g in
     rw (← ei, h, lt-ltb _ _ l, k, eb, en)
 
-pub wrong-length : (bs id : List ℕ) (i n : ℕ) (t : Bool) → i ≡ find bs id → n ≡ lengthAt bs i → t ≡ lengthOk n → t ≡ false → Nothing ≡ bodyPlace bs id
-wrong-length bs id i n t ei en et f = no-place bs id (λ h l g. false≢true (sym f ∙ et ∙ ap lengthOk (en ∙ ap (lengthAt bs) ei) ∙ g))
+pub wrong-length : (bs id : List ℕ) (i n : ℕ) (t : Bool) → i ≡ find bs id → n ≡ lengthAt bs i → t ≡ lengthOk n
+    → t ≡ false → Nothing ≡ bodyPlace bs id
+wrong-length bs id i n t ei en et f =
+    no-place bs id (λ h l g. false≢true (sym f ∙ et ∙ ap lengthOk (en ∙ ap (lengthAt bs) ei) ∙ g))
 
 -- ---- store
 
-pub with-asset-is : (out n b : ℕ) (id body o l₁ l₂ : List ℕ) → b ≡ bodiesAt (capacity o) → l₁ ≡ renew 32 2 out n (pad 32 id) o
-    → l₂ ≡ renew 512 b out n (bodyCell body) l₁ → set l₂ 1 n ≡ withAsset out n id body o
+pub with-asset-is : (out n b : ℕ) (id body o l₁ l₂ : List ℕ) → b ≡ bodiesAt (capacity o)
+    → l₁ ≡ renew idBytes idsAt out n (idCell id) o → l₂ ≡ renew cellBytes b out n (bodyCell body) l₁
+    → set l₂ 1 n ≡ withAsset out n id body o
 unfolding withAsset
 with-asset-is out n b id body o l₁ l₂ eb e₁ e₂ = rw (e₂, e₁, eb)
 
@@ -164,7 +185,8 @@ pub record Renewal (bs id : List ℕ) (out n : ℕ) : Type 0 where
   pub more : out < n
   pub most : n ≤ capacity bs
 
-pub renewal : (bs id : List ℕ) (u out n : ℕ) → AssetHead bs → u ≡ used bs → out ≡ outFor id bs → n ≡ usedAfter u out → Renewal bs id out n
+pub renewal : (bs id : List ℕ) (u out n : ℕ) → AssetHead bs → u ≡ used bs → out ≡ outFor id bs → n ≡ usedAfter u out
+    → Renewal bs id out n
 renewal bs id u out n h eu eo en =
     let r = given-up-room (capacity bs) (used bs) (find bs id) (h .a-pos) (h .u-max) in
     let m = given-up-max (capacity bs) (used bs) (find bs id) (h .a-pos) (h .u-max) in
@@ -176,7 +198,8 @@ renewal bs id u out n h eu eo en =
       most = rw k (used-after-max (capacity bs) (used bs) (outFor id bs) r m (h .u-max));
     }
 
-pub store-is : (bs id body l : List ℕ) (out n : ℕ) → Renewal bs id out n → l ≡ withAsset out n id body bs → l ≡ storeCells id body bs
+pub store-is : (bs id body l : List ℕ) (out n : ℕ) → Renewal bs id out n → l ≡ withAsset out n id body bs
+    → l ≡ storeCells id body bs
 unfolding withAsset storeCells
 store-is bs id body l out n r e = e ∙ rw (r .n-is, r .out-is)
 

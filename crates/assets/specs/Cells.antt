@@ -2,7 +2,7 @@
 use Prim.Native.Nat.{ℕ, _+_, _≤_}
 use mathlib.Core.List.{List}
 use lib.ListN.{length, set}
-use Rattle.spec.specs.Assets.{capacity, idsAt, bodiesAt, idCell, bodyCell, renew}
+use Rattle.spec.specs.Assets.{capacity, idBytes, cellBytes, idsAt, bodiesAt, idCell, bodyCell, renew}
 use Rattle.spec.specs.declared.Place.{Place}
 use Rattle.spec.specs.declared.Place.the-variants.{At, Nothing}
 
@@ -14,4 +14,4 @@ PlaceFits bs Nothing = Unit {0}
 -- storeCells, of the cell given up and the cells used then
 unfoldable pub withAsset : ℕ → ℕ → List ℕ → List ℕ → List ℕ → List ℕ
 withAsset out n id body bs =
-    set (renew 512 (bodiesAt (capacity bs)) out n (bodyCell body) (renew 32 idsAt out n (idCell id) bs)) 1 n
+    set (renew cellBytes (bodiesAt (capacity bs)) out n (bodyCell body) (renew idBytes idsAt out n (idCell id) bs)) 1 n

@@ -4,10 +4,21 @@ ghost use mathlib.Core.Bool.{true};
 ghost use Prim.Native.Nat.{_<_, _≤_};
 ghost use lib.ListN.{length};
 ghost use Rattle.spec.specs.Assets as spec;
-ghost use Rattle.spec.specs.Assets.{AssetHead, maxAssets, capacity, used};
+ghost use Rattle.spec.specs.Assets.{AssetHead, maxAssets, idBytes, maxBody, capacity, used};
 ghost use Rattle.assets.specs.Cells.{PlaceFits, withAsset};
 use scan::Class;
+use spec::CELL_BYTES;
+use spec::ID_BYTES;
+use spec::MAX_ASSETS;
+use spec::MAX_BODY;
 use spec::Place;
+
+// Where the id cells begin; the bytes of one asset's two cells, and of the length in front of a body.
+const IDS_AT: usize = 2;
+
+const ASSET_BYTES: usize = ID_BYTES + CELL_BYTES;
+
+const LENGTH_BYTES: u64 = 2;
 
 // The byte as a number of 64 bits.
 fn wide(x: u8) -> u64
@@ -22,7 +33,7 @@ pub fn bytes_for(a: u64) -> u64
     requires { ⌜ a ≤ maxAssets ⌝ }
     ensures { λ r. ⌜ r ≡ spec.storeBytes a ⌝ }
 {
-    2 + a * 544
+    IDS_AT as u64 + a * ASSET_BYTES as u64
 }
 
 // How many assets the store holds at most.
@@ -47,27 +58,27 @@ pub fn used(bs: &[u8]) -> u64
 pub fn head_ok(bs: &[u8]) -> bool
     ensures { λ r. ⌜ r ≡ spec.assetHeadOk (now (bs .entry)) ⌝ }
 {
-    if bs.len() < 2 {
+    if bs.len() < IDS_AT {
         return false;
     }
     let a = wide(bs[0]);
     if a < 1 {
         return false;
     }
-    if 128 < a {
+    if MAX_ASSETS < a {
         return false;
     }
     if a < wide(bs[1]) {
         return false;
     }
-    bs.len() as u64 == 2 + a * 544
+    bs.len() as u64 == bytes_for(a)
 }
 
 // Whether a stored length is one that a body may have.
 pub fn length_ok(n: u64) -> bool
     ensures { λ r. ⌜ r ≡ spec.lengthOk n ⌝ }
 {
-    1 <= n && n <= 510
+    1 <= n && n <= MAX_BODY
 }
 
 // Whether the bytes are an asset's id.
@@ -77,7 +88,7 @@ pub fn id_ok(id: &[u8]) -> bool
     if id.len() < 1 {
         return false;
     }
-    if 32 < id.len() {
+    if ID_BYTES < id.len() {
         return false;
     }
     scan::all_of(id, Class::Id)
@@ -99,16 +110,16 @@ pub fn find(bs: &[u8], id: &[u8]) -> u64
     ensures { λ r. ⌜ r ≡ spec.find (now (bs .entry)) (now (id .entry)) ⌝ }
     ensures { λ r. ⌜ r ≤ used (now (bs .entry)) ⌝ }
 {
-    let u = wide(bs[1]);
+    let u = used(bs);
     if !id_ok(id) {
         return u;
     }
-    let mut key = [0u8; 32];
+    let mut key = [0u8; ID_BYTES];
     cells::write(&mut key, 0, id);
     let mut i: u64 = 0;
     while i < u {
-        let start = (2 + i * 32) as usize;
-        let end = start + 32;
+        let start = IDS_AT + i as usize * ID_BYTES;
+        let end = start + ID_BYTES;
         if cells::same_bytes(&bs[start..end], &key) {
             return i;
         }
@@ -122,7 +133,7 @@ fn bodies_at(bs: &[u8]) -> u64
     requires { ⌜ AssetHead (now bs) ⌝ }
     ensures { λ r. ⌜ r ≡ spec.bodiesAt (capacity (now (bs .entry))) ⌝ }
 {
-    2 + wide(bs[0]) * 32
+    IDS_AT as u64 + capacity(bs) * ID_BYTES as u64
 }
 
 // The length that stands in body cell i.
@@ -132,7 +143,7 @@ pub fn length_at(bs: &[u8], i: u64) -> u64
     ensures { λ r. ⌜ r ≡ spec.lengthAt (now (bs .entry)) i ⌝ }
     ensures { λ r. ⌜ r < 65536 ⌝ }
 {
-    let at = bodies_at(bs) + i * 512;
+    let at = bodies_at(bs) + i * CELL_BYTES as u64;
     wide(bs[at as usize]) * 256 + wide(bs[(at + 1) as usize])
 }
 
@@ -143,14 +154,14 @@ fn place_in(bs: &[u8], id: &[u8]) -> Place
     ensures { λ r. ⌜ PlaceFits (now (bs .entry)) r ⌝ }
 {
     let i = find(bs, id);
-    if wide(bs[1]) <= i {
+    if used(bs) <= i {
         return Place::Nothing;
     }
     let n = length_at(bs, i);
     if !length_ok(n) {
         return Place::Nothing;
     }
-    let start = bodies_at(bs) + i * 512 + 2;
+    let start = bodies_at(bs) + i * CELL_BYTES as u64 + LENGTH_BYTES;
     Place::At(start as usize, n as usize)
 }
 
@@ -167,8 +178,7 @@ pub fn body_place(bs: &[u8], id: &[u8]) -> Place
 
 // An empty store of a cells.
 pub fn start(bs: &mut [u8], a: u64)
-    requires { ⌜ 1 ≤ a ⌝ }
-    requires { ⌜ a ≤ 128 ⌝ }
+    requires { ⌜ (1 ≤ a) × (a ≤ maxAssets) ⌝ }
     requires { ⌜ length (now bs) ≡ spec.storeBytes a ⌝ }
     ensures { λ r. ⌜ now (bs .exit) ≡ spec.startAssets a ⌝ }
 {
@@ -182,12 +192,12 @@ fn out_for(bs: &[u8], id: &[u8]) -> u64
     requires { ⌜ AssetHead (now bs) ⌝ }
     ensures { λ r. ⌜ r ≡ spec.outFor (now (id .entry)) (now (bs .entry)) ⌝ }
 {
-    let u = wide(bs[1]);
+    let u = used(bs);
     let i = find(bs, id);
     if i < u {
         return i;
     }
-    if u < wide(bs[0]) {
+    if u < capacity(bs) {
         return u;
     }
     0
@@ -195,7 +205,7 @@ fn out_for(bs: &[u8], id: &[u8]) -> u64
 
 // How many cells are used once cell `out` is given up and one is written.
 fn used_after(u: u64, out: u64) -> u64
-    requires { ⌜ u < 256 ⌝ }
+    requires { ⌜ u ≤ maxAssets ⌝ }
     ensures { λ r. ⌜ r ≡ spec.usedAfter u out ⌝ }
 {
     if out == u { u + 1 } else { u }
@@ -205,17 +215,34 @@ fn used_after(u: u64, out: u64) -> u64
 fn put_asset(bs: &mut [u8], out: u64, n: u64, id: &[u8], body: &[u8])
     requires { ⌜ AssetHead (now bs) ⌝ }
     requires { ⌜ (out < n) × (n ≤ capacity (now bs)) ⌝ }
-    requires { ⌜ (length (now id) ≤ 32) × (length (now body) ≤ 510) ⌝ }
+    requires { ⌜ (length (now id) ≤ idBytes) × (length (now body) ≤ maxBody) ⌝ }
     ensures { λ r. ⌜ now (bs .exit) ≡ withAsset out n (now (id .entry)) (now (body .entry)) (now (bs .entry)) ⌝ }
 {
     let bodies = bodies_at(bs) as usize;
     let head = [(body.len() / 256) as u8, (body.len() % 256) as u8];
-    cells::renew_cells(bs, 32, 2, out as usize, n as usize, &id[0..0], id);
-    cells::renew_cells(bs, 512, bodies, out as usize, n as usize, &head, body);
+    cells::renew_cells(
+        bs,
+        ID_BYTES,
+        IDS_AT,
+        out as usize,
+        n as usize,
+        &id[0..0],
+        id,
+    );
+    cells::renew_cells(
+        bs,
+        CELL_BYTES,
+        bodies,
+        out as usize,
+        n as usize,
+        &head,
+        body,
+    );
     bs[1] = n as u8;
 }
 
-// The asset replaces the one with its id, goes into a free cell, or takes the oldest one's place. The answer is its cell.
+// The asset replaces the one with its id, goes into a free cell, or takes the oldest one's place. The answer is its
+// cell.
 pub fn store(bs: &mut [u8], id: &[u8], body: &[u8]) -> u64
     requires { ⌜ AssetHead (now bs) ⌝ }
     requires { ⌜ spec.assetOk (now id) (now body) ≡ true ⌝ }
@@ -223,7 +250,7 @@ pub fn store(bs: &mut [u8], id: &[u8], body: &[u8]) -> u64
     ensures { λ r. ⌜ r ≡ spec.cellFor (now (id .entry)) (now (bs .entry)) ⌝ }
 {
     let out = out_for(bs, id);
-    let n = used_after(wide(bs[1]), out);
+    let n = used_after(used(bs), out);
     put_asset(bs, out, n, id, body);
     n - 1
 }

@@ -6,13 +6,14 @@ use mathlib.Core.List.{List}
 use lib.IntN.{pos, negsuc}
 use lib.ListN.{length, replicate}
 use Rattle.spec.specs.Calls
-use Rattle.spec.specs.Bench.{benchModel, benchNames, storesAfter, benchStores, benchRequest}
+use Rattle.spec.specs.Bench.{benchModel, benchNames, benchWords, benchBytes, storesAfter, benchStores, benchRequest}
 use Rattle.spec.specs.declared.Answer.{Answer}
 use Rattle.spec.specs.declared.Value.the-variants.{Sample}
 use Rattle.bench.specs.Print.{replyLength}
 use Rattle.bench.proofs.Lengths.{request-within}
 
-module _ {model names st bs : List ℕ} (em : model ≡ benchModel) (en : names ≡ benchNames) (es : st ≡ replicate 22 0) (eb : bs ≡ replicate 546 0) where
+module _ {model names st bs : List ℕ} (em : model ≡ benchModel) (en : names ≡ benchNames)
+    (es : st ≡ replicate benchWords 0) (eb : bs ≡ replicate benchBytes 0) where
   pub bench-stores : {s₀ a₀ s₁ s₂ s₃ : List ℕ}
       → s₀ ≡ Calls.start model names st bs 3 1 1 1000 .observations
       → a₀ ≡ Calls.start model names st bs 3 1 1 1000 .assets
@@ -32,8 +33,8 @@ pub bench-asked : (text b : List ℕ) {model names st bs e : List ℕ} {r : Answ
     → length b ≡ 64
     → r ≡ Calls.request model names st bs text b .answer
     → e ≡ Calls.request model names st bs text b .reply
-    → (r ≡ benchRequest text b .answer) × ((e ≡ benchRequest text b .reply) × (replyLength r e ≤ 64))
+    → ((r ≡ benchRequest text b .answer) × (e ≡ benchRequest text b .reply)) × (replyLength r e ≤ 64)
 unfolding benchRequest
 bench-asked text b {model} {names} {st} {bs} em en es eb l er ee =
     let h = request-within model names st bs b text .fits in
-    (rw (er, em, en, es, eb), (rw (ee, em, en, es, eb), rw (er, ee) (omega arith)))
+    ((rw (er, em, en, es, eb), rw (ee, em, en, es, eb)), rw (er, ee) (omega arith))

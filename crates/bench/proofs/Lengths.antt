@@ -14,8 +14,11 @@ use Rattle.spec.specs.Text.Reading.{unread, asked}
 use Rattle.spec.specs.Path.{select}
 use Rattle.spec.specs.Observations.{ringSize, base, last, headOk, ringOk, sampleRows, atRows}
 use Rattle.spec.specs.Assets.{capacity, used, assetHeadOk, lengthAt, lengthOk}
-use Rattle.spec.specs.Reply.{Replied, refuse, numbers, pairs, lengths, observationWords, assetWords, written, observationReply, assetReply}
-use Rattle.spec.specs.Calls.{unless, inRange, first, startOf, countOr, endOf, sampleBetween, sampleReply, currentReply, currentUpTo, atReply, cellRows, allCells, cellsReply, findAll, namedReply, answerRequest, answerReading, request}
+use Rattle.spec.specs.Reply.{Replied, refuse, numbers, pairs, lengths, observationWords, assetWords, written}
+use Rattle.spec.specs.Reply.{observationReply, assetReply}
+use Rattle.spec.specs.Calls.{unless, inRange, first, startOf, defaultCount, countOr, endOf, sampleBetween, sampleReply}
+use Rattle.spec.specs.Calls.{currentReply, currentUpTo, atReply, cellRows, allCells, cellsReply, findAll}
+use Rattle.spec.specs.Calls.{namedReply, answerRequest, answerReading, request}
 use Rattle.spec.specs.declared.Refusal.{Refusal}
 use Rattle.spec.specs.declared.Refusal.the-variants.{Model, Store, TooMany, AssetNotFound}
 use Rattle.spec.specs.declared.Verdict.{Verdict}
@@ -39,21 +42,25 @@ choice : {b : List ℕ} {x y : Replied} (t : Bool) → Within b x → Within b y
 choice true h g = h
 choice false h g = g
 
-observations-within : (first last next : ℕ) (rows : List (List ℕ)) (b : List ℕ) → 1 ≤ next → Within b (observationReply first last next rows b)
+observations-within : (first last next : ℕ) (rows : List (List ℕ)) (b : List ℕ) → 1 ≤ next
+    → Within b (observationReply first last next rows b)
 unfolding observationReply written observationWords
 observations-within first last next rows b h =
     by-cond (Within b) (leb (length (observationWords first last next rows)) (length b)) _ _
-    (λ e. record {
-      fits = rw (ne-eqb next 0 (λ z. omega arith))
-          (omega (arith, leb-true (length (observationWords first last next rows)) (length b) e, length-append (numbers rows) (pairs rows), length-numbers rows, length-pairs rows));
-    })
+    (λ e.
+    let g = leb-true (length (observationWords first last next rows)) (length b) e in
+    let n = length-append (numbers rows) (pairs rows) in
+    record { fits = rw (ne-eqb next 0 (λ z. omega arith)) (omega (arith, length-numbers rows, length-pairs rows)) })
     (λ e. none _ b)
 
 assets-within : (u A : ℕ) (rows : List (List ℕ)) (b : List ℕ) → Within b (assetReply u A rows b)
 unfolding assetReply written assetWords
 assets-within u A rows b =
     by-cond (Within b) (leb (length (assetWords u A rows)) (length b)) _ _
-    (λ e. record { fits = omega (arith, leb-true (length (assetWords u A rows)) (length b) e, length-append (numbers rows) (lengths rows), length-numbers rows, length-lengths rows) })
+    (λ e.
+    let g = leb-true (length (assetWords u A rows)) (length b) e in
+    let n = length-append (numbers rows) (lengths rows) in
+    record { fits = omega (arith, length-numbers rows, length-lengths rows) })
     (λ e. none _ b)
 
 unless-within : {r : Replied} (v : Verdict) (b : List ℕ) → Within b r → Within b (unless v b r)
@@ -62,7 +69,9 @@ unless-within (Refused x) b h = none x b
 
 end-pos : (f count last : ℕ) → 1 ≤ endOf f count last
 end-pos f count last =
-    let h : 1 ≤ countOr count = by-cond (λ n. 1 ≤ n) (eqb count 0) 100 count (λ e. omega arith) (λ e. let h = eqb-false count 0 e in omega arith) in
+    let h : 1 ≤ countOr count =
+    by-cond (λ n. 1 ≤ n) (eqb count 0) defaultCount count (λ e. omega arith)
+    (λ e. let h = eqb-false count 0 e in omega arith) in
     omega arith
 
 module _ (m : ℕ) (st b : List ℕ) where
@@ -77,7 +86,8 @@ module _ (m : ℕ) (st b : List ℕ) where
       b
       (choice
       (ringOk (ringSize st) m (base st) st (e - f) f)
-      (observations-within (first st) (last st) e (sampleRows (ringSize st) (base st) st selection (e - f) f) b (end-pos f count (last st)))
+      (observations-within (first st) (last st) e (sampleRows (ringSize st) (base st) st selection (e - f) f) b
+      (end-pos f count (last st)))
       (none Store b))
 
   current-within : (s : Selection) → Within b (currentReply m st b s)
@@ -95,23 +105,27 @@ module _ (m : ℕ) (st b : List ℕ) where
       b
       (choice
       (ringOk (ringSize st) m (base st) st k (first st))
-      (observations-within (first st) (last st) (suc (last st)) (atRows (ringSize st) m (base st) st selection k (first st)) b (omega arith))
+      (observations-within (first st) (last st) (suc (last st))
+      (atRows (ringSize st) m (base st) st selection k (first st)) b (omega arith))
       (none Store b))
 
 cells-within : (bs cells b : List ℕ) → Within b (cellsReply bs cells b)
 unfolding cellsReply
 cells-within bs cells b =
-    choice (allCells (λ i. lengthOk (lengthAt bs i)) cells) (assets-within (used bs) (capacity bs) (cellRows bs cells) b) (none Store b)
+    choice (allCells (λ i. lengthOk (lengthAt bs i)) cells)
+    (assets-within (used bs) (capacity bs) (cellRows bs cells) b) (none Store b)
 
 module _ (model names st bs b : List ℕ) where
   asked-within : (q : Request) → Within b (answerRequest model names st bs b q)
   unfolding answerRequest namedReply
   asked-within (sample path from count) =
-      choice (ltb (ringSize st) count) (none TooMany b) (sample-within (items model) st b from count (select model names path))
+      choice (ltb (ringSize st) count) (none TooMany b)
+      (sample-within (items model) st b from count (select model names path))
   asked-within (current path) = current-within (items model) st b (select model names path)
   asked-within (currentAt path number) = at-within (items model) st b number (select model names path)
   asked-within (assets ids) =
-      choice (allCells (λ i. ltb i (used bs)) (findAll bs ids)) (cells-within bs (findAll bs ids) b) (none AssetNotFound b)
+      choice (allCells (λ i. ltb i (used bs)) (findAll bs ids)) (cells-within bs (findAll bs ids) b)
+      (none AssetNotFound b)
   asked-within allAssets = cells-within bs _ b
 
   reading-within : (r : Reading) → Within b (answerReading model names st bs b r)

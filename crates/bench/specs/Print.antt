@@ -1,5 +1,5 @@
--- How many of the reply buffer's words are the reply's: document 01, "Reply words". Only an asset reply has 0 as its fourth
--- word: an observation reply has next there, which is at least 1.
+-- How many of the reply buffer's words are the reply's: document 01, "Reply words". Only an asset reply has 0 as its
+-- fourth word: an observation reply has next there, which is at least 1.
 use Prim.Native.Nat.{ℕ, _+_, _*_}
 use mathlib.Core.Bool.{cond}
 use mathlib.Core.List.{List}

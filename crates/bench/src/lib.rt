@@ -7,6 +7,14 @@ ghost use Rattle.bench.specs.Print.{wordsOf, replyLength};
 use spec::Answer;
 use spec::Value;
 
+// Its stores: the words for a ring of 3 and 2 items, and the bytes for 1 asset.
+const STORE_WORDS: usize = 22;
+
+const STORE_BYTES: usize = 546;
+
+// The words of a reply's buffer.
+const REPLY_WORDS: usize = 64;
+
 // Two components and two items.
 fn model() -> [u32; 6]
     ensures { λ r. ⌜ r ≡ benchModel ⌝ }
@@ -61,7 +69,7 @@ fn words_of(next: u64, k: u64) -> u64
 }
 
 // How many of the reply buffer's words are the reply's.
-pub fn word_count(answer: Answer, reply: &[u64; 64]) -> usize
+pub fn word_count(answer: Answer, reply: &[u64; REPLY_WORDS]) -> usize
     requires { ⌜ replyLength answer (now reply) ≤ 64 ⌝ }
     ensures { λ r. ⌜ r ≡ replyLength answer (now (reply .entry)) ⌝ }
 {
@@ -72,15 +80,17 @@ pub fn word_count(answer: Answer, reply: &[u64; 64]) -> usize
 }
 
 // The answer of one request behind the bench case's calls, and its reply.
-pub fn ask(text: &[u8], reply: &mut [u64; 64]) -> Answer
-    ensures { λ r. ⌜ r ≡ benchRequest (now (text .entry)) (now (reply .entry)) .answer ⌝ }
-    ensures { λ r. ⌜ now (reply .exit) ≡ benchRequest (now (text .entry)) (now (reply .entry)) .reply ⌝ }
+pub fn ask(text: &[u8], reply: &mut [u64; REPLY_WORDS]) -> Answer
+    ensures { λ r. ⌜
+        (let x = benchRequest (now (text .entry)) (now (reply .entry)) in
+        (r ≡ x .answer) × (now (reply .exit) ≡ x .reply))
+        ⌝ }
     ensures { λ r. ⌜ replyLength r (now (reply .exit)) ≤ 64 ⌝ }
 {
     let model = model();
     let names = names();
-    let mut observations = [0u64; 22];
-    let mut assets = [0u8; 546];
+    let mut observations = [0u64; STORE_WORDS];
+    let mut assets = [0u8; STORE_BYTES];
     prepare(&model, &names, &mut observations, &mut assets);
     agent::request(&model, &names, &observations, &assets, text, reply)
 }

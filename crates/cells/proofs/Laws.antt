@@ -7,7 +7,8 @@ use native.Mathlib.Numerals.{add-one}
 use native.Mathlib.Omega.{arith}
 use mathlib.Core.Bool.{Bool, true, _&&_, and-assoc, and-true}
 use lib.Dec.{eqb}
-use lib.ListN.{length, getD, set, take, drop, replicate, length-set, length-append, length-drop, length-replicate, drop-of-length-le}
+use lib.ListN.{length, getD, set, take, drop, replicate, length-set, length-append, length-drop, length-replicate}
+use lib.ListN.{drop-of-length-le}
 use lib.Seq.{sets, sets-eq, drop-cons, drop-set-lt, getD-drop, getD-take, drop-drop, length-take-le}
 use Rattle.spec.specs.Bytes.{same, pad}
 use Rattle.spec.specs.Assets.{renew}
@@ -24,7 +25,8 @@ pub comparing-none : (s t : List ℕ) → length s ≡ length t → Comparing s 
 comparing-none s t e = record { inside = omega arith; lengths = e; rest = refl }
 
 module _ {s t : List ℕ} {fine : Bool} {j : ℕ} (r : Comparing s t fine j) where
-  same-step : j < length s → same (drop j s) (drop j t) ≡ eqb (getD s j 0) (getD t j 0) && same (drop (j + 1) s) (drop (j + 1) t)
+  same-step : j < length s
+      → same (drop j s) (drop j t) ≡ eqb (getD s j 0) (getD t j 0) && same (drop (j + 1) s) (drop (j + 1) t)
   unfolding same
   same-step h = let k : j < length t = omega (arith, r .lengths) in rw (add-one, drop-cons s j 0, drop-cons t j 0)
 
@@ -54,7 +56,8 @@ pub record Writing (v o : List ℕ) (at : ℕ) (l : List ℕ) (j : ℕ) : Type 0
 pub writing-none : (v o : List ℕ) (at : ℕ) → Writing v o at o 0
 writing-none v o at = record { below = omega arith; len = refl; rest = rw (add-zero at); ahead = refl }
 
-pub writing-more : {v o : List ℕ} {at : ℕ} {l : List ℕ} {j : ℕ} → Writing v o at l j → j < length v → (x : ℕ) → x ≡ getD v j 0
+pub writing-more : {v o : List ℕ} {at : ℕ} {l : List ℕ} {j : ℕ} → Writing v o at l j → j < length v → (x : ℕ)
+    → x ≡ getD v j 0
     → Writing v o at (set l (at + j) x) (j + 1)
 writing-more {v} {o} {at} {l} {j} r h x e =
     let q : at + (j + 1) ≡ suc (at + j) = omega arith in
@@ -83,12 +86,21 @@ pub moved-byte : (o l : List ℕ) (at gap n j : ℕ) → Writing (take n (drop (
     → getD l (at + gap + j) 0 ≡ getD (take n (drop (at + gap) o)) j 0
 moved-byte o l at gap n j r h =
     let q : at + gap + j ≡ at + j + gap = omega arith in
-    rw (getD-take n (drop (at + gap) o) j 0 h, getD-drop (at + gap) o j 0, q, ← getD-drop (at + j) l gap 0, ← getD-drop (at + j) o gap 0, r .ahead)
+    rw (
+      getD-take n (drop (at + gap) o) j 0 h,
+      getD-drop (at + gap) o j 0,
+      q,
+      ← getD-drop (at + j) l gap 0,
+      ← getD-drop
+          (at + j) o gap 0,
+      r .ahead,
+    )
 
 -- ---- padded cells
 
 pub padded-length : (w : ℕ) (s : List ℕ) → length s ≤ w → length (pad w s) ≡ w
-padded-length w s h = omega (arith, length-append s (replicate (w - length s) 0), length-replicate {A = ℕ} (w - length s) 0)
+padded-length w s h =
+    omega (arith, length-append s (replicate (w - length s) 0), length-replicate {A = ℕ} (w - length s) 0)
 
 -- ---- cells renewed
 
@@ -100,7 +112,8 @@ sets-append l (a ∷ x) y i =
     rw q (sets-append (set l i a) x y (suc i))
 
 -- the moved bytes, then the new cell in three runs
-pub renew-runs : (at w moved : ℕ) (head s o l₁ l₂ l₃ l₄ : List ℕ) → at + w + moved ≤ length o → length head + length s ≤ w
+pub renew-runs : (at w moved : ℕ) (head s o l₁ l₂ l₃ l₄ : List ℕ) → at + w + moved ≤ length o
+    → length head + length s ≤ w
     → l₁ ≡ sets o at (take moved (drop (at + w) o))
     → l₂ ≡ sets l₁ (at + moved) head
     → l₃ ≡ sets l₂ (at + moved + length head) s
@@ -110,10 +123,21 @@ renew-runs at w moved head s o l₁ l₂ l₃ l₄ hb hs e₁ e₂ e₃ e₄ =
     let m = take moved (drop (at + w) o) in
     let lm : length m ≡ moved = part-length (at + w) moved o (omega arith) in
     let z : w - length head - length s ≡ w - length (head ++ s) = omega (arith, length-append head s) in
-    let q : at + moved + length head + length s ≡ at + moved + length (head ++ s) = omega (arith, length-append head s) in
+    let q : at + moved + length head + length s ≡ at + moved + length (head ++ s) =
+    omega (arith, length-append head s) in
     let k : at + moved ≡ at + length m = omega arith in
     e₄
-    ∙ rw (e₃, e₂, z, q, sets-append l₁ head s (at + moved), sets-append l₁ (head ++ s) (replicate (w - length (head ++ s)) 0) (at + moved), e₁, k)
+    ∙ rw (
+      e₃,
+      e₂,
+      z,
+      q,
+      sets-append l₁ head s (at + moved),
+      sets-append l₁ (head ++ s)
+          (replicate (w - length (head ++ s)) 0) (at + moved),
+      e₁,
+      k,
+    )
     (sets-append o m (pad w (head ++ s)) at)
 
 -- where the cells begin, without the base: cell n - 1 is the last, and behind `out` stand n - 1 - out more

@@ -7,7 +7,8 @@ ghost use lib.Seq.{sets};
 ghost use Rattle.spec.specs.Bytes.{same, pad};
 ghost use Rattle.spec.specs.Assets.{renew};
 
-// Whether two runs of bytes of one length are the same. It takes no branch by a byte, so that it goes over many at once.
+// Whether two runs of bytes of one length are the same. It takes no branch by a byte, so that it goes over many at
+// once.
 pub fn same_bytes(a: &[u8], b: &[u8]) -> bool
     requires { ⌜ length (now a) ≡ length (now b) ⌝ }
     ensures { λ r. ⌜ r ≡ same (now (a .entry)) (now (b .entry)) ⌝ }
@@ -57,12 +58,15 @@ pub fn move_down(bs: &mut [u8], at: usize, gap: usize, n: usize)
     }
 }
 
-// The `moved` bytes behind the cell of w bytes at `at` move down over it, and behind them stands a cell of `head` and `s`, zero
-// padded to its end.
+// The `moved` bytes behind the cell of w bytes at `at` move down over it, and behind them stands a cell of `head`
+// and `s`, zero padded to its end.
 fn renew_at(bs: &mut [u8], at: usize, w: usize, moved: usize, head: &[u8], s: &[u8])
     requires { ⌜ at + w + moved ≤ length (now bs) ⌝ }
     requires { ⌜ length (now head) + length (now s) ≤ w ⌝ }
-    ensures { λ r. ⌜ now (bs .exit) ≡ sets (now (bs .entry)) at (take moved (drop (at + w) (now (bs .entry))) ++ pad w (now (head .entry) ++ now (s .entry))) ⌝ }
+    ensures { λ r. ⌜
+        now (bs .exit) ≡ sets (now (bs .entry)) at
+        (take moved (drop (at + w) (now (bs .entry))) ++ pad w (now (head .entry) ++ now (s .entry)))
+        ⌝ }
 {
     let last = at + moved;
     let left = w - head.len() - s.len();
@@ -72,13 +76,15 @@ fn renew_at(bs: &mut [u8], at: usize, w: usize, moved: usize, head: &[u8], s: &[
     clear(bs, last + head.len() + s.len(), left);
 }
 
-// Of n cells of w bytes from b on, cell `out` is given up, those behind it move down whole, and the last one becomes `head`
-// and `s`, zero padded to its end.
+// Of n cells of w bytes from b on, cell `out` is given up, those behind it move down whole, and the last one becomes
+// `head` and `s`, zero padded to its end.
 pub fn renew_cells(bs: &mut [u8], w: usize, b: usize, out: usize, n: usize, head: &[u8], s: &[u8])
     requires { ⌜ out < n ⌝ }
     requires { ⌜ b + n * w ≤ length (now bs) ⌝ }
     requires { ⌜ length (now head) + length (now s) ≤ w ⌝ }
-    ensures { λ r. ⌜ now (bs .exit) ≡ renew w b out n (pad w (now (head .entry) ++ now (s .entry))) (now (bs .entry)) ⌝ }
+    ensures { λ r. ⌜
+        now (bs .exit) ≡ renew w b out n (pad w (now (head .entry) ++ now (s .entry))) (now (bs .entry))
+        ⌝ }
 {
     renew_at(bs, b + out * w, w, (n - 1 - out) * w, head, s);
 }

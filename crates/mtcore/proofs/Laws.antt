@@ -12,14 +12,16 @@ use Rattle.mtcore.specs.Part.{placeStart, placeLength}
 -- the start and length of the place that was found: those of the definition, and they cut out the body
 abbrev pub Names : List ℕ → List ℕ → ℕ → ℕ → Type 0
 Names bs id start n =
-    (start ≡ placeStart (bodyPlace bs id)) × ((n ≡ placeLength (bodyPlace bs id)) × (take n (drop start bs) ≡ calls.body bs id))
+    let place = bodyPlace bs id in
+    (start ≡ placeStart place) × (n ≡ placeLength place) × (take n (drop start bs) ≡ calls.body bs id)
 
 cut-out : (bs : List ℕ) (p : Place) → take (placeLength p) (drop (placeStart p) bs) ≡ part bs p
 cut-out bs (At start n) = refl
 cut-out bs Nothing = refl
 
-pub place-names : (bs id : List ℕ) (p q : Place) → p ≡ q → p ≡ bodyPlace bs id → Names bs id (placeStart q) (placeLength q)
+pub place-names : (bs id : List ℕ) (p q : Place) → p ≡ q → p ≡ bodyPlace bs id
+    → Names bs id (placeStart q) (placeLength q)
 unfolding calls.body
 place-names bs id p q h e =
     let f : q ≡ bodyPlace bs id = sym h ∙ e in
-    (ap placeStart f, (ap placeLength f, cut-out bs q ∙ ap (part bs) f))
+    (ap placeStart f, ap placeLength f, cut-out bs q ∙ ap (part bs) f)

@@ -45,10 +45,12 @@ pub extern "C" fn mtcore_start(
     b: u64,
     host: u64,
 ) -> Outcome
-    ensures { λ r. ⌜ r .number ≡ answerNumber (calls.start (now (model .entry)) (now (names .entry)) (now (observations .entry)) (now (assets .entry)) n a b host .answer) ⌝ }
-    ensures { λ r. ⌜ r .count ≡ answerCount (calls.start (now (model .entry)) (now (names .entry)) (now (observations .entry)) (now (assets .entry)) n a b host .answer) ⌝ }
-    ensures { λ r. ⌜ now (observations .exit) ≡ calls.start (now (model .entry)) (now (names .entry)) (now (observations .entry)) (now (assets .entry)) n a b host .observations ⌝ }
-    ensures { λ r. ⌜ now (assets .exit) ≡ calls.start (now (model .entry)) (now (names .entry)) (now (observations .entry)) (now (assets .entry)) n a b host .assets ⌝ }
+    ensures { λ r. ⌜
+        (let x = calls.start (now (model .entry)) (now (names .entry)) (now (observations .entry))
+        (now (assets .entry)) n a b host in
+        (r .number ≡ answerNumber (x .answer)) × (r .count ≡ answerCount (x .answer))
+        × (now (observations .exit) ≡ x .observations) × (now (assets .exit) ≡ x .assets))
+        ⌝ }
 {
     let answer = agent::start(model, names, observations, assets, n, a, b, host);
     outcome_of(answer)
@@ -65,8 +67,11 @@ pub extern "C" fn mtcore_observe(
     host: u64,
     value: u64,
 ) -> u64
-    ensures { λ r. ⌜ r ≡ observeWord (calls.observe (now (model .entry)) (now (names .entry)) (now (observations .entry)) item time host (decode value) .answer) ⌝ }
-    ensures { λ r. ⌜ now (observations .exit) ≡ calls.observe (now (model .entry)) (now (names .entry)) (now (observations .entry)) item time host (decode value) .observations ⌝ }
+    ensures { λ r. ⌜
+        (let x = calls.observe (now (model .entry)) (now (names .entry)) (now (observations .entry))
+        item time host (decode value) in
+        (r ≡ observeWord (x .answer)) × (now (observations .exit) ≡ x .observations))
+        ⌝ }
 {
     let v = value::decode(value);
     let answer = agent::observe(model, names, observations, item, time, host, v);
@@ -84,9 +89,11 @@ pub extern "C" fn mtcore_store_asset(
     body: &[u8],
     host: u64,
 ) -> u64
-    ensures { λ r. ⌜ r ≡ storeWord (calls.storeAsset (now (model .entry)) (now (names .entry)) (now (observations .entry)) (now (assets .entry)) (now (id .entry)) (now (body .entry)) host .answer) ⌝ }
-    ensures { λ r. ⌜ now (observations .exit) ≡ calls.storeAsset (now (model .entry)) (now (names .entry)) (now (observations .entry)) (now (assets .entry)) (now (id .entry)) (now (body .entry)) host .observations ⌝ }
-    ensures { λ r. ⌜ now (assets .exit) ≡ calls.storeAsset (now (model .entry)) (now (names .entry)) (now (observations .entry)) (now (assets .entry)) (now (id .entry)) (now (body .entry)) host .assets ⌝ }
+    ensures { λ r. ⌜
+        (let x = calls.storeAsset (now (model .entry)) (now (names .entry)) (now (observations .entry))
+        (now (assets .entry)) (now (id .entry)) (now (body .entry)) host in
+        (r ≡ storeWord (x .answer)) × (now (observations .exit) ≡ x .observations) × (now (assets .exit) ≡ x .assets))
+        ⌝ }
 {
     let answer = agent::store_asset(model, names, observations, assets, id, body, host);
     answers::store_word(answer)
@@ -102,9 +109,12 @@ pub extern "C" fn mtcore_request(
     text: &[u8],
     reply: &mut [u64],
 ) -> Outcome
-    ensures { λ r. ⌜ r .number ≡ answerNumber (calls.request (now (model .entry)) (now (names .entry)) (now (observations .entry)) (now (assets .entry)) (now (text .entry)) (now (reply .entry)) .answer) ⌝ }
-    ensures { λ r. ⌜ r .count ≡ answerCount (calls.request (now (model .entry)) (now (names .entry)) (now (observations .entry)) (now (assets .entry)) (now (text .entry)) (now (reply .entry)) .answer) ⌝ }
-    ensures { λ r. ⌜ now (reply .exit) ≡ calls.request (now (model .entry)) (now (names .entry)) (now (observations .entry)) (now (assets .entry)) (now (text .entry)) (now (reply .entry)) .reply ⌝ }
+    ensures { λ r. ⌜
+        (let x = calls.request (now (model .entry)) (now (names .entry)) (now (observations .entry))
+        (now (assets .entry)) (now (text .entry)) (now (reply .entry)) in
+        (r .number ≡ answerNumber (x .answer)) × (r .count ≡ answerCount (x .answer))
+        × (now (reply .exit) ≡ x .reply))
+        ⌝ }
 {
     let answer = agent::request(model, names, observations, assets, text, reply);
     outcome_of(answer)
@@ -113,9 +123,12 @@ pub extern "C" fn mtcore_request(
 // Where the body of the asset stands in the asset store; length 0 on any fault or missing id.
 #[no_mangle]
 pub extern "C" fn mtcore_body(assets: &[u8], id: &[u8]) -> Part
-    ensures { λ r. ⌜ r .start ≡ placeStart (bodyPlace (now (assets .entry)) (now (id .entry))) ⌝ }
-    ensures { λ r. ⌜ r .length ≡ placeLength (bodyPlace (now (assets .entry)) (now (id .entry))) ⌝ }
-    ensures { λ r. ⌜ take (r .length) (drop (r .start) (now (assets .entry))) ≡ calls.body (now (assets .entry)) (now (id .entry)) ⌝ }
+    ensures { λ r. ⌜
+        (let place = bodyPlace (now (assets .entry)) (now (id .entry)) in
+        (r .start ≡ placeStart place) × (r .length ≡ placeLength place)
+        × (take (r .length) (drop (r .start) (now (assets .entry)))
+        ≡ calls.body (now (assets .entry)) (now (id .entry))))
+        ⌝ }
 {
     let place = assets::body_place(assets, id);
     match place {

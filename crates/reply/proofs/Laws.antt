@@ -1,41 +1,42 @@
--- Laws of replies: words written behind the sizes, cells written and read one by one, and the ids of a text looked up in order.
-use Prim.Native.Nat.{ℕ, zero, suc, _+_, _-_, _*_, _≤_, _<_}
-use mathlib.Core.Path.{_≡_, refl, sym, ap, _∙_, subst}
-use mathlib.Core.Bool.{Bool, true, false}
+-- Laws of replies: words written one behind the other, the arrays behind the sizes, and what answer and buffer then
+-- are.
+use Prim.Native.Nat.{ℕ, suc, _+_, _-_, _≤_, _<_}
+use mathlib.Core.Path.{_≡_, refl, sym, ap, _∙_}
+use mathlib.Core.Logic.{_≢_}
 use mathlib.Core.List.{List, [], _∷_, _++_, append-nil}
-use native.Mathlib.Numerals.{add-one}
 use native.Mathlib.Omega.{arith}
-use lib.Dec.{ltb, eqb}
-use lib.ListN.{length, getD, set, take, drop, length-set, length-append, length-take, length-drop, drop-of-length-le}
-use lib.Seq.{sets, sets-eq, length-sets, take-all, take-at, drop-append-add, drop-drop, drop-cons, getD-take, length-take-le, take-suc-set, append-snoc, getD-set-same, getD-set-other}
-use borrow.Author.Tests.{le-leb, lt-leb, lt-ltb, le-ltb, leb-true, ltb-true, ltb-false, eqb-true, eqb-false}
-use Rattle.spec.specs.Bytes.{before, split}
-use Rattle.spec.specs.Text.{idText, idTexts}
-use Rattle.spec.specs.Assets.{capacity, used, lengthAt, lengthOk, find}
-use Rattle.spec.specs.Reply.{Replied, refuse, numbers, lengths, assetWords, over, written, assetReply}
-use Rattle.spec.specs.Calls.{cellRows, allCells, cellsReply, findAll, namedReply, downFrom}
-use Rattle.spec.specs.declared.Refusal.the-variants.{Store, Space, AssetNotFound}
+use lib.ListN.{length, set, take, drop, length-append, length-drop, drop-of-length-le}
+use lib.Seq.{sets, sets-eq, set-comm, length-sets, take-all, take-at, drop-append-add, drop-drop}
+use borrow.Author.Tests.{le-leb, lt-leb}
+use Rattle.spec.specs.Reply.{Replied, refuse, over, written}
+use Rattle.spec.specs.declared.Refusal.the-variants.{Space}
 use Rattle.spec.specs.declared.Answer.{Answer}
 use Rattle.spec.specs.declared.Answer.the-variants.{Done}
-use Rattle.spec.proofs.Words.{and-left, and-right}
-use Rattle.reply.specs.declared.Found.{Found}
-use Rattle.reply.specs.Cells.{Cells, FoundAll}
-use Rattle.spec.proofs.Reply.{length-numbers, length-lengths}
-use Rattle.rows.proofs.Writing.{sets-set}
-use Rattle.text.proofs.Laws.{split-at-more, split-at-last}
-use Rattle.reply.specs.declared.Found.the-variants as found
+
+-- a word behind those that are set
+pub sets-set : (vs l : List ℕ) (i q x : ℕ) → i + length vs ≤ q → sets (set l q x) i vs ≡ set (sets l i vs) q x
+sets-set [] l i q x h = refl
+sets-set (a ∷ vs) l i q x h =
+    let n : q ≢ i = λ z. omega arith in
+    ap (λ (y : List ℕ). sets y (suc i) vs) (set-comm l q i x a n) ∙ sets-set vs (set l i a) (suc i) q x (omega arith)
 
 -- ---- the arrays behind the sizes
 
 -- two runs of words, the second behind the first, and what stood behind them
-columns-over : (o C L : List ℕ) → length C + length L ≤ length o → sets (sets o 0 C) (length C) L ≡ (C ++ L) ++ drop (length C + length L) o
+columns-over : (o C L : List ℕ) → length C + length L ≤ length o
+    → sets (sets o 0 C) (length C) L ≡ (C ++ L) ++ drop (length C + length L) o
 columns-over o C L h =
     let z : 0 + length C ≡ length C = omega arith in
     let e : sets o 0 C ≡ C ++ drop (length C) o = sets-eq C o 0 (omega arith) ∙ rw z in
-    let l : length (C ++ drop (length C) o) ≡ length o = omega (arith, length-append C (drop (length C) o), length-drop (length C) o) in
+    let l : length (C ++ drop (length C) o) ≡ length o =
+    omega (arith, length-append C (drop (length C) o), length-drop (length C) o) in
     rw e
     (sets-eq L (C ++ drop (length C) o) (length C) (omega arith)
-    ∙ rw (take-at C (drop (length C) o) (length C) refl, drop-append-add C (drop (length C) o) (length L), drop-drop (length L) (length C) o))
+    ∙ rw (
+      take-at C (drop (length C) o) (length C) refl,
+      drop-append-add C (drop (length C) o) (length L),
+      drop-drop (length L) (length C) o,
+    ))
 
 -- x is a reply whose sizes are written, and of which the part behind them is lent
 module _ (r x : List ℕ) (a b c d : ℕ) (sized : x ≡ sets r 0 (a ∷ b ∷ c ∷ d ∷ [])) where
@@ -50,24 +51,38 @@ module _ (r x : List ℕ) (a b c d : ℕ) (sized : x ≡ sets r 0 (a ∷ b ∷ c
   lent-room n h = rw lent (omega (arith, same-size, length-drop 4 x))
 
   -- the part comes back as y, with C and L written: the reply is all these words, then those that stood behind them
-  pub lent-over : (y C L : List ℕ) (k : ℕ) → k ≡ length C → 4 + (length C + length L) ≤ length r → y ≡ sets (sets (take (length x - 4) (drop 4 x)) 0 C) k L
+  pub lent-over : (y C L : List ℕ) (k : ℕ) → k ≡ length C → 4 + (length C + length L) ≤ length r
+      → y ≡ sets (sets (take (length x - 4) (drop 4 x)) 0 C) k L
       → take 4 x ++ (y ++ drop (length x - 4) (drop 4 x)) ≡ over (a ∷ b ∷ c ∷ d ∷ (C ++ L)) r
   lent-over y C L k ek h ey =
       let e : x ≡ (a ∷ b ∷ c ∷ d ∷ []) ++ drop 4 r = sized ∙ sets-eq (a ∷ b ∷ c ∷ d ∷ []) r 0 (omega arith) in
       let f : drop 4 x ≡ drop 4 r = ap (drop 4) e in
       let t : take 4 x ≡ a ∷ b ∷ c ∷ d ∷ [] = ap (take 4) e in
-      let u : drop (length x - 4) (drop 4 x) ≡ [] = drop-of-length-le (drop 4 x) {i = length x - 4} (omega (arith, length-drop 4 x)) in
+      let u : drop (length x - 4) (drop 4 x) ≡ [] =
+      drop-of-length-le (drop 4 x) {i = length x - 4} (omega (arith, length-drop 4 x)) in
       let n : 4 + (length C + length L) ≡ length (a ∷ b ∷ c ∷ d ∷ (C ++ L)) = omega (arith, length-append C L) in
-      rw (t, u, append-nil y, ey, lent, f, ek, columns-over (drop 4 r) C L (omega (arith, length-drop 4 r)), drop-drop (length C + length L) 4 r)
+      rw (
+        t,
+        u,
+        append-nil y,
+        ey,
+        lent,
+        f,
+        ek,
+        columns-over (drop 4 r) C L (omega (arith, length-drop 4 r)),
+        drop-drop (length C + length L) 4 r,
+      )
       (ap (λ (z : ℕ). a ∷ b ∷ c ∷ d ∷ ((C ++ L) ++ drop z r)) n)
 
 -- ---- answer and reply
 
-pub both : (o : Replied) {x : Answer} {y : List ℕ} → o ≡ record { answer = x; reply = y } → (x ≡ o .answer) × (y ≡ o .reply)
+pub both : (o : Replied) {x : Answer} {y : List ℕ} → o ≡ record { answer = x; reply = y }
+    → (x ≡ o .answer) × (y ≡ o .reply)
 both o {x} {y} e = (sym (ap (λ (z : Replied). z .answer) e), sym (ap (λ (z : Replied). z .reply) e))
 
 -- what one definition says, another that equals it says
-pub passed : (o p : Replied) {x : Answer} {y : List ℕ} → o ≡ p → (x ≡ o .answer) × (y ≡ o .reply) → (x ≡ p .answer) × (y ≡ p .reply)
+pub passed : (o p : Replied) {x : Answer} {y : List ℕ} → o ≡ p → (x ≡ o .answer) × (y ≡ o .reply)
+    → (x ≡ p .answer) × (y ≡ p .reply)
 passed o p {x} {y} e h = (h .0 ∙ ap (λ (z : Replied). z .answer) e, h .1 ∙ ap (λ (z : Replied). z .reply) e)
 
 module _ (k : ℕ) (words reply : List ℕ) where
@@ -75,290 +90,7 @@ module _ (k : ℕ) (words reply : List ℕ) where
   unfolding written
   written-short h = rw (lt-leb _ _ h)
 
-  pub written-whole : (l : List ℕ) → length words ≤ length reply → l ≡ over words reply → written k words reply ≡ record { answer = Done k; reply = l }
+  pub written-whole : (l : List ℕ) → length words ≤ length reply → l ≡ over words reply
+      → written k words reply ≡ record { answer = Done k; reply = l }
   unfolding written
   written-whole l h e = rw (le-leb _ _ h, e)
-
--- ---- rows of cells
-
-length-rows : (bs cells : List ℕ) → length (cellRows bs cells) ≡ length cells
-unfolding cellRows
-length-rows bs [] = refl
-length-rows bs (c ∷ cells) = ap suc (length-rows bs cells)
-
--- ---- the first k cells, one by one
-
-module _ (bs cells : List ℕ) (k : ℕ) (is : Cells bs cells k) where
-  length-first : length (take k cells) ≡ k
-  length-first = length-take-le k cells (is .there)
-
-  first-step : (i : ℕ) → i < k → drop i (take k cells) ≡ getD cells i 0 ∷ drop (i + 1) (take k cells)
-  first-step i h =
-      rw (add-one i, drop-cons (take k cells) i 0 (omega (arith, length-first)), getD-take k cells i 0 h)
-
-  first-end : (i : ℕ) → k ≤ i → drop i (take k cells) ≡ []
-  first-end i h = drop-of-length-le (take k cells) {i = i} (omega (arith, length-first))
-
-  -- a turn of a loop that tests them: whole is what it is to answer
-  module _ (p : ℕ → Bool) (whole : Bool) (i : ℕ) (rest : whole ≡ allCells p (drop i (take k cells))) where
-    pub test-no : i < k → p (getD cells i 0) ≡ false → false ≡ whole
-    unfolding allCells
-    test-no h e = sym (rest ∙ rw (first-step i h, e))
-
-    pub test-yes : i < k → p (getD cells i 0) ≡ true → whole ≡ allCells p (drop (i + 1) (take k cells))
-    unfolding allCells
-    test-yes h e = rest ∙ rw (first-step i h, e)
-
-    pub test-end : k ≤ i → true ≡ whole
-    unfolding allCells
-    test-end h = sym (rest ∙ rw (first-end i h))
-
--- two runs of words: what the first word of each leaves to store
-two-more : (l : List ℕ) (i q c x : ℕ) (C L : List ℕ) → suc i + length C ≤ q → sets (sets l i (c ∷ C)) q (x ∷ L) ≡ sets (sets (set (set l i c) q x) (i + 1) C) (q + 1) L
-two-more l i q c x C L h = rw (add-one i, add-one q) (ap (λ (y : List ℕ). sets y (suc q) L) (sym (sets-set C (set l i c) (suc i) q x h)))
-
--- a turn of a loop that writes the cells from word 0 and their lengths from word k: l is what it has of o
-pub record Writing (bs cells : List ℕ) (k : ℕ) (o l : List ℕ) (i : ℕ) : Type 0 where
-  pub below : i ≤ k
-  pub size : length l ≡ length o
-  pub all : sets (sets o 0 (numbers (cellRows bs (take k cells)))) k (lengths (cellRows bs (take k cells)))
-      ≡ sets (sets l i (numbers (cellRows bs (drop i (take k cells))))) (k + i) (lengths (cellRows bs (drop i (take k cells))))
-
-pub writing-none : (bs cells : List ℕ) (k : ℕ) (o : List ℕ) → Writing bs cells k o o 0
-writing-none bs cells k o = let z : k + 0 ≡ k = omega arith in record { below = omega arith; size = refl; all = rw z }
-
-module _ {bs cells : List ℕ} {k : ℕ} {o l : List ℕ} {i : ℕ} (w : Writing bs cells k o l i) (is : Cells bs cells k) where
-  pub writing-more : i < k → (n : ℕ) → n ≡ lengthAt bs (getD cells i 0) → Writing bs cells k o (set (set l i (getD cells i 0)) (k + i) n) (i + 1)
-  unfolding numbers lengths cellRows
-  writing-more h n e =
-      let more = drop (i + 1) (take k cells) in
-      let z : k + (i + 1) ≡ k + i + 1 = omega arith in
-      record {
-        below = omega arith;
-        size = simp length-set (w .size);
-        all =
-            w .all
-            ∙ rw (first-step bs cells k is i h, ← e, z)
-            (two-more l i (k + i) (getD cells i 0) n (numbers (cellRows bs more)) (lengths (cellRows bs more))
-            (omega (arith, length-numbers (cellRows bs more), length-rows bs more, length-drop (i + 1) (take k cells), length-first bs cells k is)));
-      }
-
-  pub writing-end : k ≤ i → l ≡ sets (sets o 0 (numbers (cellRows bs (take k cells)))) k (lengths (cellRows bs (take k cells)))
-  unfolding numbers lengths cellRows
-  writing-end h = sym (w .all ∙ rw (first-end bs cells k is i h))
-
--- ---- the reply of the first k cells: t says whether their lengths are right
-
-module _ (bs cells reply : List ℕ) (k : ℕ) (is : Cells bs cells k) where
-  asset-size : length (assetWords (used bs) (capacity bs) (cellRows bs (take k cells))) ≡ 4 + 2 * k
-  unfolding assetWords
-  asset-size =
-      let rows = cellRows bs (take k cells) in
-      let n : length rows ≡ k = length-rows bs (take k cells) ∙ length-first bs cells k is in
-      omega (arith, length-append (numbers rows) (lengths rows), length-numbers rows, length-lengths rows)
-
-  module _ (t : Bool) (e : t ≡ allCells (λ i. lengthOk (lengthAt bs i)) (take k cells)) where
-    pub cells-wrong : t ≡ false → cellsReply bs (take k cells) reply ≡ refuse Store reply
-    unfolding cellsReply
-    cells-wrong f = rw (← e, f)
-
-    pub cells-short : t ≡ true → length reply < 4 + 2 * k → cellsReply bs (take k cells) reply ≡ refuse Space reply
-    unfolding cellsReply assetReply
-    cells-short f h = rw (← e, f) (written-short _ _ _ (omega (arith, asset-size)))
-
-    -- x with its sizes, y the part behind them
-    pub cells-whole : (x y : List ℕ) (u a : ℕ) → t ≡ true → 4 + 2 * k ≤ length reply → u ≡ used bs → a ≡ capacity bs
-        → x ≡ sets reply 0 (k ∷ u ∷ a ∷ 0 ∷ [])
-        → y ≡ sets (sets (take (length x - 4) (drop 4 x)) 0 (numbers (cellRows bs (take k cells)))) k (lengths (cellRows bs (take k cells)))
-        → cellsReply bs (take k cells) reply ≡ record { answer = Done k; reply = take 4 x ++ (y ++ drop (length x - 4) (drop 4 x)) }
-    unfolding cellsReply assetReply assetWords
-    cells-whole x y u a f h eu ea ex ey =
-        let rows = cellRows bs (take k cells) in
-        let n : length rows ≡ k = length-rows bs (take k cells) ∙ length-first bs cells k is in
-        let c = length-numbers rows in
-        let l = length-lengths rows in
-        let o = lent-over reply x k u a 0 ex y (numbers rows) (lengths rows) k (omega arith) (omega arith) ey in
-        rw (← e, f, n)
-        (written-whole k (k ∷ used bs ∷ capacity bs ∷ 0 ∷ (numbers rows ++ lengths rows)) reply _ (omega (arith, length-append (numbers rows) (lengths rows))) (rw (eu, ea) at o))
-
--- one more cell is kept behind the first i
-kept-more : (cells : List ℕ) (i x : ℕ) → i < length cells → take (i + 1) (set cells i x) ≡ take i cells ++ (x ∷ [])
-kept-more cells i x h = rw (add-one i) (take-suc-set cells i x h)
-
--- ---- u - 1, .. 0
-
-pub record Falling (u : ℕ) (cells : List ℕ) (i : ℕ) : Type 0 where
-  pub below : i ≤ u
-  pub size : length cells ≡ 128
-  pub all : take i cells ++ downFrom (u - i) ≡ downFrom u
-
-pub falling-none : (u : ℕ) (cells : List ℕ) → length cells ≡ 128 → Falling u cells 0
-falling-none u cells h = let z : u - 0 ≡ u = omega arith in record { below = omega arith; size = h; all = rw z }
-
-pub falling-more : {u : ℕ} {cells : List ℕ} {i : ℕ} → Falling u cells i → i < u → u ≤ 128 → Falling u (set cells i (u - 1 - i)) (i + 1)
-unfolding downFrom
-falling-more {u} {cells} {i} w h few =
-    let x = u - 1 - i in
-    let s = w .size in
-    let z : u - i ≡ suc (u - (i + 1)) = omega arith in
-    let v : u - (i + 1) ≡ x = omega arith in
-    let d : downFrom (u - i) ≡ x ∷ downFrom (u - (i + 1)) = rw z (ap (λ (y : ℕ). y ∷ downFrom (u - (i + 1))) v) in
-    record {
-      below = omega arith;
-      size = simp length-set s;
-      all = rw (kept-more cells i x (omega arith)) (append-snoc (take i cells) x (downFrom (u - (i + 1))) ∙ rw d at (w .all));
-    }
-
-pub falling-end : {u : ℕ} {cells : List ℕ} {i : ℕ} → Falling u cells i → u ≤ i → take u cells ≡ downFrom u
-unfolding downFrom
-falling-end {u} {cells} {i} w h =
-    let e : i ≡ u = omega (arith, w .below) in
-    let z : u - u ≡ 0 = omega arith in
-    sym (append-nil (take u cells)) ∙ rw (e, z) at (w .all)
-
-length-down : (n : ℕ) → length (downFrom n) ≡ n
-unfolding downFrom
-length-down zero = refl
-length-down (suc n) = ap suc (length-down n)
-
-down-below : (n i : ℕ) → i < n → getD (downFrom n) i 0 < n
-unfolding downFrom
-down-below zero i h = absurd (omega arith)
-down-below (suc n) zero h = omega arith
-down-below (suc n) (suc i) h = omega (arith, down-below n i (omega arith))
-
-pub down-cells : (bs cells : List ℕ) (u : ℕ) → u ≡ used bs → u ≤ 128 → take u cells ≡ downFrom u → Cells bs cells u
-down-cells bs cells u eu few e =
-    let n : length (take u cells) ≡ u = ap length e ∙ length-down u in
-    record {
-      few = few;
-      there = omega (arith, length-take u cells);
-      below = λ i h. rw (← eu, ← getD-take u cells i 0 h, e) (down-below u i h);
-    }
-
--- ---- the cells of the ids from `start` on, found up to `at`
-
-abbrev stored : List ℕ → ℕ → Bool
-stored bs i = ltb i (used bs)
-
-pub record Finding (bs text : List ℕ) (start at k : ℕ) (cells : List ℕ) : Type 0 where
-  pub inside : at ≤ length text
-  pub size : length cells ≡ 128
-  pub kept : Cells bs cells k
-  pub apart : start + 2 * k ≤ at
-  pub ids : idTexts (split 59 (drop at text)) ≡ true
-  pub done : findAll bs (split 59 (drop start text)) ≡ take k cells ++ findAll bs (split 59 (drop at text))
-  pub all : allCells (stored bs) (findAll bs (split 59 (drop start text))) ≡ allCells (stored bs) (findAll bs (split 59 (drop at text)))
-
-pub finding-none : (bs text : List ℕ) (start : ℕ) (cells : List ℕ) → start ≤ length text → length cells ≡ 128 → idTexts (split 59 (drop start text)) ≡ true
-    → Finding bs text start start 0 cells
-finding-none bs text start cells h n ids =
-    record {
-      inside = h;
-      size = n;
-      kept = record { few = omega arith; there = omega arith; below = λ i l. absurd (omega arith) };
-      apart = omega arith;
-      ids = ids;
-      done = refl;
-      all = refl;
-    }
-
--- of a turn: the id from `at` to `end`, and its cell
-module _ (bs text : List ℕ) (at end : ℕ) (ends : end ≡ at + before 59 59 (drop at text)) where
-  abbrev here : List ℕ
-  here = take (end - at) (drop at text)
-
-  -- what holds of the ids from `at` on, by whether there is another
-  by-more : (P : List (List ℕ) → Type 0) → (end < length text → P (here ∷ split 59 (drop (end + 1) text))) → (length text ≤ end → P (here ∷ [])) → P (split 59 (drop at text))
-  by-more P f g = go (ltb end (length text)) refl
-    where
-      go : (t : Bool) → ltb end (length text) ≡ t → P (split 59 (drop at text))
-      go true e = subst P (sym (split-at-more 59 text at end ends (ltb-true _ _ e))) (f (ltb-true _ _ e))
-      go false e = subst P (sym (split-at-last 59 text at end ends (ltb-false _ _ e))) (g (ltb-false _ _ e))
-
-  some-byte : end ≤ length text → idText here ≡ true → at < end
-  unfolding idText
-  some-byte h e =
-      let n : 1 ≤ length here = leb-true _ _ (and-left _ _ e) in
-      omega (arith, length-take-le (end - at) (drop at text) (omega (arith, length-drop at text)))
-
-  -- the id isn't empty
-  pub id-some : end ≤ length text → idTexts (split 59 (drop at text)) ≡ true → at < end
-  unfolding idTexts
-  id-some h = by-more (λ ids. idTexts ids ≡ true → at < end) (λ l e. some-byte h (and-left _ _ e)) (λ l e. some-byte h (and-left _ _ e))
-
-  missing-here : used bs ≤ find bs here → allCells (stored bs) (findAll bs (split 59 (drop at text))) ≡ false
-  unfolding allCells findAll
-  missing-here h = by-more (λ ids. allCells (stored bs) (findAll bs ids) ≡ false) (λ l. rw (le-ltb _ _ h)) (λ l. rw (le-ltb _ _ h))
-
-  module _ {start k cell : ℕ} {cells : List ℕ} (w : Finding bs text start at k cells) (short : length text ≤ 256) (inside : end ≤ length text) (is : cell ≡ find bs here) where
-    -- there is a place for its cell
-    pub finding-room : k < 128
-    finding-room = omega (arith, id-some inside (w .ids), w .apart)
-
-    pub finding-missing : used bs ≤ cell → allCells (stored bs) (findAll bs (split 59 (drop start text))) ≡ false
-    finding-missing h = w .all ∙ missing-here (rw is at h)
-
-    module _ (h : cell < used bs) where
-      kept-cells : Cells bs (set cells k cell) (k + 1)
-      kept-cells =
-          let n = w .size in
-          record {
-            few = omega (arith, finding-room);
-            there = omega (arith, finding-room, length-set cells k cell);
-            below = λ i l. go i l (eqb i k) refl;
-          }
-        where
-          go : (i : ℕ) → i < k + 1 → (t : Bool) → eqb i k ≡ t → getD (set cells k cell) i 0 < used bs
-          go i l true e = rw (eqb-true i k e, getD-set-same cells k cell 0 (omega (arith, w .size, finding-room))) h
-          go i l false e = let n = eqb-false i k e in rw (getD-set-other cells k i cell 0 n) (w .kept .below i (omega arith))
-
-      -- one more cell moves from those to find to those found
-      kept-done : (ids : List (List ℕ)) → split 59 (drop at text) ≡ here ∷ ids → findAll bs (split 59 (drop start text)) ≡ take (k + 1) (set cells k cell) ++ findAll bs ids
-      unfolding findAll
-      kept-done ids e =
-          w .done
-          ∙ rw (e, ← is, kept-more cells k cell (omega (arith, w .size, finding-room)))
-          (sym (append-snoc (take k cells) cell (findAll bs ids)))
-
-      kept-all : (ids : List (List ℕ)) → split 59 (drop at text) ≡ here ∷ ids → allCells (stored bs) (findAll bs (split 59 (drop start text))) ≡ allCells (stored bs) (findAll bs ids)
-      unfolding findAll allCells
-      kept-all ids e = w .all ∙ rw (e, ← is, lt-ltb _ _ h)
-
-      pub finding-more : end < length text → Finding bs text start (end + 1) (k + 1) (set cells k cell)
-      unfolding idTexts
-      finding-more l =
-          let e = split-at-more 59 text at end ends l in
-          record {
-            inside = omega arith;
-            size = simp length-set (w .size);
-            kept = kept-cells;
-            apart = omega (arith, id-some inside (w .ids), w .apart);
-            ids = and-right (idText here) _ (rw e at (w .ids));
-            done = kept-done _ e;
-            all = kept-all _ e;
-          }
-
-      pub finding-last : length text ≤ end → FoundAll bs (split 59 (drop start text)) (set cells k cell) (found.Cells (k + 1))
-      unfolding findAll allCells
-      finding-last l =
-          let e = split-at-last 59 text at end ends l in
-          (kept-cells, (sym (kept-done [] e ∙ append-nil (take (k + 1) (set cells k cell))), kept-all [] e))
-
--- ---- the assets named
-
-module _ (bs : List ℕ) (ids : List (List ℕ)) (reply : List ℕ) where
-  pub named-missing : allCells (stored bs) (findAll bs ids) ≡ false → namedReply bs ids reply ≡ refuse AssetNotFound reply
-  unfolding namedReply
-  named-missing e = rw e
-
-  pub named-found : (cells : List ℕ) → cells ≡ findAll bs ids → allCells (stored bs) (findAll bs ids) ≡ true → cellsReply bs cells reply ≡ namedReply bs ids reply
-  unfolding namedReply
-  named-found cells e t = rw (e, t)
-
--- what find_all says, of the answer that it is
-pub told-missing : (bs : List ℕ) (ids : List (List ℕ)) (cells : List ℕ) (r : Found) → FoundAll bs ids cells r → r ≡ found.Missing → allCells (stored bs) (findAll bs ids) ≡ false
-told-missing bs ids cells r h e = subst (FoundAll bs ids cells) e h
-
-pub told-cells : (bs : List ℕ) (ids : List (List ℕ)) (cells : List ℕ) (r : Found) (k : ℕ) → FoundAll bs ids cells r → r ≡ found.Cells k → FoundAll bs ids cells (found.Cells k)
-told-cells bs ids cells r k h e = subst (FoundAll bs ids cells) e h

@@ -1,2 +1,2 @@
--- What is proved of the words of replies.
+-- The laws of words written, which the writers of replies use.
 pub mod Laws

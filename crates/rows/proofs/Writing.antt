@@ -1,25 +1,18 @@
 -- Laws of rows written into a buffer, and of a loop that writes them.
 use Prim.Native.Nat.{ℕ, suc, _+_, _-_, _*_, _≤_, _<_}
 use mathlib.Core.Path.{_≡_, refl, sym, ap, _∙_}
-use mathlib.Core.Logic.{_≢_}
 use mathlib.Core.Bool.{Bool, true, false}
 use mathlib.Core.List.{List, [], _∷_, _++_}
 use native.Mathlib.Numerals.{add-one}
 use native.Mathlib.Omega.{arith}
 use lib.ListN.{length, getD, set, length-set, length-append}
-use lib.Seq.{sets, set-comm, length-sets}
+use lib.Seq.{sets, length-sets}
 use Rattle.spec.specs.Words.{pickRows}
 use Rattle.spec.specs.Reply.{numbers, pairs}
 use Rattle.rows.specs.Rows.{rowsAt}
 use Rattle.rows.proofs.Ranges.{rows-in, rows-out, rows-end}
 use Rattle.spec.proofs.Reply.{length-numbers}
-
--- a word behind those that are set
-pub sets-set : (vs l : List ℕ) (i q x : ℕ) → i + length vs ≤ q → sets (set l q x) i vs ≡ set (sets l i vs) q x
-sets-set [] l i q x h = refl
-sets-set (a ∷ vs) l i q x h =
-    let n : q ≢ i = λ z. omega arith in
-    ap (λ (y : List ℕ). sets y (suc i) vs) (set-comm l q i x a n) ∙ sets-set vs (set l i a) (suc i) q x (omega arith)
+use Rattle.reply.proofs.Laws.{sets-set}
 
 -- the words of one row, then the others
 rows-more : (l : List ℕ) (c a : ℕ) (r : List ℕ) (rs : List (List ℕ)) → c + 1 + length rs ≤ a

@@ -13,7 +13,8 @@ head-ok-requires : tie.Need-head-ok-requires
 head-ok-requires c κs = search needs
 
 returns : tie.Need-returns
-returns c = (no-place _ _ (λ h l g. false≢true (sym (not-true _ (c .if1 .taken)) ∙ c .before .head-ok .ensures ∙ h)), tt)
+returns c =
+    (no-place _ _ (λ h l g. false≢true (sym (not-true _ (c .if1 .taken)) ∙ c .before .head-ok .ensures ∙ h)), tt)
 
 place-in-requires : tie.Need-place-in-requires
 place-in-requires c κs = asset-head _ (sym (c .before .head-ok .ensures) ∙ not-false _ (c .if1 .left))

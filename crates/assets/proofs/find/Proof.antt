@@ -1,11 +1,14 @@
--- The used cells from i on decide, since none before holds the id, and the key is the id's cell. The measure is how many are left.
+-- The used cells from i on decide, since none before holds the id, and the key is the id's cell. The measure is how
+-- many are left.
 use Prim.Native.Nat.{_-_}
-use mathlib.Core.Path.{sym, _∙_}
+use mathlib.Core.Path.{sym}
 use native.Mathlib.Omega.{arith}
 use borrow.Author.Tests.{not-true, not-false}
 use borrow.Author.Needs.{needs}
+use Rattle.spec.proofs.Words.{told}
 use Rattle.spec.proofs.Assets.{id-max}
-use Rattle.assets.proofs.Laws.{Searching, searching-none, searching-lengths, searching-here, searching-on, searching-end, no-id}
+use Rattle.assets.proofs.Laws.{Searching, searching-none, searching-lengths, searching-here, searching-on}
+use Rattle.assets.proofs.Laws.{searching-end, no-id}
 use Rattle.assets.proofs.find.Statement.{statement}
 use Rattle.assets.proofs.find.Tie as tie
 
@@ -15,28 +18,32 @@ Inv-loop bs id u key i₀ i = Searching bs id key u i
 abbrev μ-loop : tie.MeasureT-loop
 μ-loop bs id u key i₀ i = u - i
 
-shared-slice-read-wide : tie.Need-shared-slice-read-wide Inv-loop μ-loop
-shared-slice-read-wide c = search needs
-
-wide-requires : tie.Need-wide-requires Inv-loop μ-loop
-wide-requires c κs = search needs
+used-requires : tie.Need-used-requires Inv-loop μ-loop
+used-requires c κs = search needs
 
 id-ok-requires : tie.Need-id-ok-requires Inv-loop μ-loop
 id-ok-requires c κs = search needs
 
 returns : tie.Need-returns Inv-loop μ-loop
-returns c = (no-id _ _ _ (c .before .before .wide .ensures .0) (sym (c .before .id-ok .ensures) ∙ not-true _ (c .if1 .taken)), omega arith)
+returns c = (
+  no-id _ _ _ (c .before .before .used .ensures .0)
+      (told (c .before .id-ok .ensures) (not-true _ (c .if1 .taken))),
+  omega arith,
+)
 
 slice-aggregate-write : tie.Need-slice-aggregate-write Inv-loop μ-loop
 slice-aggregate-write c = search needs
 
 write-requires : tie.Need-write-requires Inv-loop μ-loop
-write-requires c κs = let h = id-max _ (sym (c .before .before .id-ok .ensures) ∙ not-false _ (c .before .if1 .left)) in search needs
+write-requires c κs =
+    let h = id-max _ (told (c .before .before .id-ok .ensures) (not-false _ (c .before .if1 .left))) in
+    search needs
 
 loop-holds : tie.Need-loop-holds Inv-loop μ-loop
 loop-holds c =
-    let w = c .before .before .before .before .before in
-    searching-none _ _ _ _ (w .wide .ensures .0) (sym (c .before .before .before .before .id-ok .ensures) ∙ not-false _ (c .before .before .before .if1 .left)) (c .before .write .ensures)
+    searching-none _ _ _ _ (c .before .before .before .before .before .used .ensures .0)
+    (told (c .before .before .before .before .id-ok .ensures) (not-false _ (c .before .before .before .if1 .left)))
+    (c .before .write .ensures)
 
 mul-start : tie.Need-mul-start Inv-loop μ-loop
 mul-start c = search needs
@@ -87,8 +94,7 @@ find-spec =
     (tie.spec
     Inv-loop
     μ-loop
-    shared-slice-read-wide
-    wide-requires
+    used-requires
     id-ok-requires
     returns
     slice-aggregate-write

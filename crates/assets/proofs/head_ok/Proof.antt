@@ -31,16 +31,13 @@ wide-requires-2 c κs = search needs
 returns-4 : tie.Need-returns-4
 returns-4 c = no-asset-head _ (λ h. omega arith)
 
-mul-result : tie.Need-mul-result
-mul-result c = search needs
-
-add-result : tie.Need-add-result
-add-result c = search needs
+bytes-for-requires : tie.Need-bytes-for-requires
+bytes-for-requires c κs = search needs
 
 returns-5 : tie.Need-returns-5
 returns-5 c =
-    head-last (c .before .before .before .before .before .before .before .before .before .args .bs .now) _
-    (c .before .before .before .before .before .wide .ensures .0) (omega arith) (omega arith) (omega arith)
+    head-last _ _ (c .before .before .before .before .before .before .wide .ensures .0) (omega arith) (omega arith)
+    (omega arith) _ (c .bytes-for .ensures)
 
 pub head-ok-spec : {M : Type 1} → statement M
 head-ok-spec =
@@ -54,6 +51,5 @@ head-ok-spec =
     shared-slice-read-wide-2
     wide-requires-2
     returns-4
-    mul-result
-    add-result
+    bytes-for-requires
     returns-5)

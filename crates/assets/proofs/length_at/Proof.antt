@@ -41,7 +41,8 @@ returns : tie.Need-returns
 returns c = (
   length-is (c .before .before .before .before .before .before .args .bs .now)
       (c .before .before .before .before .before .before .args .i) _ _ _
-      (c .before .before .before .before .bodies-at .ensures) (c .before .before .wide .ensures .0) (c .wide2 .ensures .0),
+      (c .before .before .before .before .bodies-at .ensures) (c .before .before .wide .ensures .0)
+      (c .wide2 .ensures .0),
   omega arith,
 )
 

@@ -12,11 +12,8 @@ use Rattle.assets.proofs.place_in.Tie as tie
 find-requires : tie.Need-find-requires
 find-requires c κs = search needs
 
-shared-slice-read-wide : tie.Need-shared-slice-read-wide
-shared-slice-read-wide c = search needs
-
-wide-requires : tie.Need-wide-requires
-wide-requires c κs = search needs
+used-requires : tie.Need-used-requires
+used-requires c κs = search needs
 
 returns : tie.Need-returns
 returns c = (no-place _ _ (λ h l g. omega arith), tt)
@@ -29,7 +26,7 @@ length-ok-requires c κs = search needs
 
 returns-2 : tie.Need-returns-2
 returns-2 c = (
-  wrong-length _ _ _ _ _ (c .before .before .before .before .before .before .find .ensures .0)
+  wrong-length _ _ _ _ _ (c .before .before .before .before .before .find .ensures .0)
       (c .before .before .length-at .ensures .0) (c .before .length-ok .ensures) (not-true _ (c .if2 .taken)),
   tt,
 )
@@ -48,11 +45,11 @@ add-start-2 c = search needs
 
 returns-3 : tie.Need-returns-3
 returns-3 c =
-    let s = c .before .before .before .before .before .before .before .before .before .before in
+    let s = c .before .before .before .before .before .before .before .before .before in
     let n = c .before .before .before .length-at in
     let g = sym (c .before .before .length-ok .ensures) ∙ not-false _ (c .before .if2 .left) in (
       place-is _ (s .args .id .now) _ _ _ (asset-head-ok _ (s .pre))
-          (c .before .before .before .before .before .before .before .find .ensures .0) (omega arith) (c .bodies-at .ensures)
+          (c .before .before .before .before .before .before .find .ensures .0) (omega arith) (c .bodies-at .ensures)
           (n .ensures .0) g,
       (omega (arith, length-max (n .result) g), length-pos (n .result) g),
     )
@@ -62,8 +59,7 @@ place-in-spec =
     tie.close
     (tie.spec
     find-requires
-    shared-slice-read-wide
-    wide-requires
+    used-requires
     returns
     length-at-requires
     length-ok-requires

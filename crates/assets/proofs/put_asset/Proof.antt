@@ -42,12 +42,18 @@ slice-write-bs c = search needs
 
 same-length : tie.Need-same-length
 same-length c =
-    omega
-    (arith, length-set (c .before .before .renew-cells2 .last .0) 1 (c .before .before .before .before .before .before .before .before .before .before .before .before .before .before .before .args .n))
+    omega (
+      arith,
+      length-set (c .before .before .renew-cells2 .last .0) 1
+          (c .before .before .before .before .before .before .before .before .before .before .before .before .before
+          .before .before .args .n),
+    )
 
 returns : tie.Need-returns
 returns c =
-    let z = c .before .before .before .before .before .before .before .before .before .before .before .before .before .before .before .args in
+    let z =
+    c .before .before .before .before .before .before .before .before .before .before .before .before .before .before
+    .before .args in
     with-asset-is (z .out) (z .n) _ (z .id .now) (z .body .now) (z .bs .now) _ _
     (c .before .before .before .before .before .before .before .before .before .before .bodies-at .ensures)
     (c .before .before .before .before .before .before .before .renew-cells .ensures)

@@ -10,11 +10,8 @@ use Rattle.assets.proofs.store.Tie as tie
 out-for-requires : tie.Need-out-for-requires
 out-for-requires c κs = search needs
 
-slice-read-wide : tie.Need-slice-read-wide
-slice-read-wide c = search needs
-
-wide-requires : tie.Need-wide-requires
-wide-requires c κs = search needs
+used-requires : tie.Need-used-requires
+used-requires c κs = search needs
 
 used-after-requires : tie.Need-used-after-requires
 used-after-requires c κs = search needs
@@ -24,7 +21,7 @@ put-asset-requires c κs =
     let s = c .before .before .before .before .before .before .before .before .before in
     let z = s .args in
     let r =
-    renewal (s .args .bs .now) (s .args .id .now) _ _ _ (s .pre .0) (c .before .before .wide .ensures .0)
+    renewal (s .args .bs .now) (s .args .id .now) _ _ _ (s .pre .0) (c .before .before .used .ensures .0)
     (c .before .before .before .before .out-for .ensures) (c .before .used-after .ensures) in
     let i = asset-id (z .id .now) (z .body .now) (s .pre .1) in
     (s .pre .0, ((r .more, r .most), (id-max (z .id .now) i, body-max (z .id .now) (z .body .now) (s .pre .1))))
@@ -34,7 +31,7 @@ sub-result c =
     let s = c .before .before .before .before .before .before .before .before .before .before .before .before in
     let r =
     renewal (s .args .bs .now) (s .args .id .now) _ _ _ (s .pre .0)
-    (c .before .before .before .before .before .wide .ensures .0)
+    (c .before .before .before .before .before .used .ensures .0)
     (c .before .before .before .before .before .before .before .out-for .ensures)
     (c .before .before .before .before .used-after .ensures) in
     omega arith
@@ -47,7 +44,7 @@ returns c =
     let s = c .before .before .before .before .before .before .before .before .before .before .before .before in
     let r =
     renewal (s .args .bs .now) (s .args .id .now) _ _ _ (s .pre .0)
-    (c .before .before .before .before .before .wide .ensures .0)
+    (c .before .before .before .before .before .used .ensures .0)
     (c .before .before .before .before .before .before .before .out-for .ensures)
     (c .before .before .before .before .used-after .ensures) in
     (store-is _ _ _ _ _ _ r (c .before .before .put-asset .ensures), cell-for-is _ _ _ _ r)
@@ -57,8 +54,7 @@ store-spec =
     tie.close
     (tie.spec
     out-for-requires
-    slice-read-wide
-    wide-requires
+    used-requires
     used-after-requires
     put-asset-requires
     sub-result

@@ -45,7 +45,8 @@ returns c =
     let s = c .request .ensures in
     let p = c .before .before .before .before .before .before .before .before in
     let n = p .before .before .before .before .before in
-    bench-asked _ _ (n .before .model .ensures) (n .names .ensures) (p .prepare .ensures .0) (p .prepare .ensures .1) (search needs) (s .0) (s .1)
+    bench-asked _ _ (n .before .model .ensures) (n .names .ensures) (p .prepare .ensures .0) (p .prepare .ensures .1)
+    (search needs) (s .0) (s .1)
 
 pub ask-spec : {M : Type 1} → statement M
 ask-spec =

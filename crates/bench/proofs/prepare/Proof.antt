@@ -29,7 +29,8 @@ returns c =
     let c₁ = c₂ .before .before .before .before in
     let c₀ = c₁ .before .before .before .before .before .before in
     let r = c₀ .before .before .before .before .before .before .before .pre in
-    bench-stores (r .0) (r .1 .0) (r .1 .1 .0) (r .1 .1 .1) (c₀ .start .ensures .1 .0) (c₀ .start .ensures .1 .1) (c₁ .observe .ensures .1) (c₂ .observe2 .ensures .1) o₃
+    bench-stores (r .0) (r .1 .0) (r .1 .1 .0) (r .1 .1 .1) (c₀ .start .ensures .1) (c₀ .start .ensures .2)
+    (c₁ .observe .ensures .1) (c₂ .observe2 .ensures .1) o₃
 
 pub prepare-spec : {M : Type 1} → statement M
 prepare-spec =

@@ -1,4 +1,5 @@
--- The rest of the zeros, written from here, gives what all of them give from the start. The measure is how many are left.
+-- The rest of the zeros, written from here, gives what all of them give from the start. The measure is how many are
+-- left.
 use Prim.Native.Nat.{ℕ, _-_}
 use mathlib.Core.Path.{sym}
 use native.Mathlib.Omega.{arith}
@@ -33,7 +34,8 @@ loop-again : tie.Need-loop-again Inv-loop μ-loop
 loop-again c =
     let l = c .before .loop in
     let n = c .before .before .args .n in
-    writing-more (l .inv) (omega (arith, length-replicate {A = ℕ} n 0)) 0 (sym (getD-replicate {A = ℕ} n (l .j) 0 0 (omega arith)))
+    writing-more (l .inv) (omega (arith, length-replicate {A = ℕ} n 0)) 0
+    (sym (getD-replicate {A = ℕ} n (l .j) 0 0 (omega arith)))
 
 same-length : tie.Need-same-length Inv-loop μ-loop
 same-length c = search needs

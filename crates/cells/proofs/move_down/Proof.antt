@@ -43,7 +43,8 @@ loop-again c =
     let l = c .before .before .loop in
     let z = c .before .before .before .args in
     let e = part-length (z .at + z .gap) (z .n) (z .bs .now) (omega arith) in
-    writing-more (l .inv) (omega arith) _ (moved-byte (z .bs .now) (l .bs) (z .at) (z .gap) (z .n) (l .j) (l .inv) (omega arith))
+    writing-more (l .inv) (omega arith) _
+    (moved-byte (z .bs .now) (l .bs) (z .at) (z .gap) (z .n) (l .j) (l .inv) (omega arith))
 
 same-length : tie.Need-same-length Inv-loop μ-loop
 same-length c = search needs

@@ -42,9 +42,11 @@ same-length c = search needs
 returns : tie.Need-returns
 returns c =
     let z =
-    c .before .before .before .before .before .before .before .before .before .before .before .before .before .before .before .before .before .before .before .args in
+    c .before .before .before .before .before .before .before .before .before .before .before .before .before .before
+    .before .before .before .before .before .args in
     renew-runs (z .at) (z .w) (z .moved) (z .head .now) (z .s .now) (z .bs .now) _ _ _ _ (omega arith) (omega arith)
-    (c .before .before .before .before .before .before .before .before .before .before .before .before .before .before .move-down .ensures)
+    (c .before .before .before .before .before .before .before .before .before .before .before .before .before .before
+    .move-down .ensures)
     (c .before .before .before .before .before .before .before .before .before .before .write .ensures)
     (c .before .before .before .before .before .before .write2 .ensures) (c .before .before .clear .ensures)
 

@@ -20,7 +20,8 @@ same-length c = search needs
 returns : tie.Need-returns
 returns c =
     let o = c .before .before .before in
-    rw (← o .before .before .decode .ensures) (c .observe-word .ensures ∙ ap observeWord (o .observe .ensures .0), o .observe .ensures .1)
+    rw (← o .before .before .decode .ensures)
+    (c .observe-word .ensures ∙ ap observeWord (o .observe .ensures .0), o .observe .ensures .1)
 
 pub mtcore-observe-spec : {M : Type 1} → statement M
 mtcore-observe-spec =

@@ -17,7 +17,8 @@ same-length c = search needs
 returns : tie.Need-returns
 returns c =
     let q = c .before .before .before .request .ensures in
-    (c .outcome-of .ensures .0 ∙ ap answerNumber (q .0), (c .outcome-of .ensures .1 ∙ ap answerCount (q .0), q .1))
+    let o = c .outcome-of .ensures in
+    (o .0 ∙ ap answerNumber (q .0), o .1 ∙ ap answerCount (q .0), q .1)
 
 pub mtcore-request-spec : {M : Type 1} → statement M
 mtcore-request-spec = tie.close (tie.spec request-requires outcome-of-requires same-length returns)

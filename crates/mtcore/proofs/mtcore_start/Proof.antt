@@ -20,7 +20,8 @@ same-length-2 c = search needs
 returns : tie.Need-returns
 returns c =
     let s = c .before .before .before .before .before .start .ensures in
-    (c .outcome-of .ensures .0 ∙ ap answerNumber (s .0), (c .outcome-of .ensures .1 ∙ ap answerCount (s .0), s .1))
+    let o = c .outcome-of .ensures in
+    (o .0 ∙ ap answerNumber (s .0), o .1 ∙ ap answerCount (s .0), s .1, s .2)
 
 pub mtcore-start-spec : {M : Type 1} → statement M
 mtcore-start-spec =

@@ -20,7 +20,7 @@ same-length-2 c = search needs
 returns : tie.Need-returns
 returns c =
     let s = c .before .before .before .before .before .store-asset .ensures in
-    (c .store-word .ensures ∙ ap storeWord (s .0), s .1)
+    (c .store-word .ensures ∙ ap storeWord (s .0), s .1, s .2)
 
 pub mtcore-store-asset-spec : {M : Type 1} → statement M
 mtcore-store-asset-spec =

@@ -1,0 +1,2 @@
+-- What is proved of the words of replies.
+pub mod Laws

@@ -1,0 +1,2 @@
+-- The laws that the proofs of storing cite.
+pub mod Laws
