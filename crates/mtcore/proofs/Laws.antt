@@ -7,7 +7,7 @@ use Rattle.spec.specs.Assets.{bodyPlace, part}
 use Rattle.spec.specs.Calls as calls
 use Rattle.spec.specs.declared.Place.{Place}
 use Rattle.spec.specs.declared.Place.the-variants.{At, Nothing}
-use Rattle.mtcore.specs.Part.{placeStart, placeLength}
+use Rattle.agent.specs.Place.{placeStart, placeLength}
 
 -- the start and length of the place that was found: those of the definition, and they cut out the body
 abbrev pub Names : List ℕ → List ℕ → ℕ → ℕ → Type 0

@@ -5,7 +5,7 @@ ghost use Rattle.spec.specs.Answers.{answerNumber, answerCount, observeWord, st
 ghost use Rattle.spec.specs.Value.{decode};
 ghost use Rattle.spec.specs.Assets.{bodyPlace};
 ghost use Rattle.spec.specs.Calls as calls;
-ghost use Rattle.mtcore.specs.Part.{placeStart, placeLength};
+ghost use Rattle.agent.specs.Place.{placeStart, placeLength};
 use spec::Answer;
 use spec::Place;
 
