@@ -12,7 +12,7 @@ use lib.Seq.{getD-take, getD-drop, length-take-le}
 use borrow.Author.Tests.{leb-true, le-leb, not-true}
 use Rattle.spec.specs.Words.{every}
 use Rattle.spec.specs.Bytes.{nameByte}
-use Rattle.spec.specs.Model.{letters, zeros, cellOk, nameCell, nameCount}
+use Rattle.spec.specs.Model.{nameBytes, letters, zeros, cellOk, nameCell, nameCount}
 use Rattle.spec.proofs.Words.{and-left, and-right, and-both, same-truth, every-at, every-of}
 use Rattle.spec.proofs.Model.{Names}
 use Rattle.model.specs.Cells.{cellByte, cellBytes, follows, zerosLast}
@@ -184,29 +184,29 @@ cell-is s = same-truth _ _ (cell-gives s) (cell-given s)
 
 -- ---- the cells of the names
 
-pub cells-fit : (l k : ℕ) → k < l / 24 → 24 * k + 24 ≤ l
-cells-fit l k h = omega (arith, div-add-mod l 24)
+pub cells-fit : (l k : ℕ) → k < l / nameBytes → nameBytes * k + nameBytes ≤ l
+cells-fit l k h = omega (arith, div-add-mod l nameBytes)
 
 module _ (names : List ℕ) (k : ℕ) (within : k < nameCount names) where
-  cell-length : length (nameCell names k) ≡ 24
-  cell-length = length-take-le 24 (drop (24 * k) names) (omega (arith, cells-fit (length names) k within, length-drop (24 * k) names))
+  cell-length : length (nameCell names k) ≡ nameBytes
+  cell-length = length-take-le nameBytes (drop (nameBytes * k) names) (omega (arith, cells-fit (length names) k within, length-drop (nameBytes * k) names))
 
-  cell-byte-at : (i : ℕ) → i < 24 → getD (nameCell names k) i 0 ≡ getD names (24 * k + i) 0
-  cell-byte-at i h = getD-take 24 (drop (24 * k) names) i 0 h ∙ getD-drop (24 * k) names i 0
+  cell-byte-at : (i : ℕ) → i < nameBytes → getD (nameCell names k) i 0 ≡ getD names (nameBytes * k + i) 0
+  cell-byte-at i h = getD-take nameBytes (drop (nameBytes * k) names) i 0 h ∙ getD-drop (nameBytes * k) names i 0
 
   bytes-in-cell : cellBytes names ≡ true → cellBytes (nameCell names k) ≡ true
   unfolding cellBytes
   bytes-in-cell e =
       every-of (λ i. cellByte (getD (nameCell names k) i 0)) (length (nameCell names k)) 0
       (λ i h g.
-      let b : i < 24 = omega (arith, cell-length) in
+      let b : i < nameBytes = omega (arith, cell-length) in
       ap cellByte (cell-byte-at i b)
-      ∙ every-at (λ j. cellByte (getD names j 0)) (length names) 0 (24 * k + i) e (omega arith) (omega (arith, cells-fit (length names) k within)))
+      ∙ every-at (λ j. cellByte (getD names j 0)) (length names) 0 (nameBytes * k + i) e (omega arith) (omega (arith, cells-fit (length names) k within)))
 
   -- a cell, as it is lent
-  pub cell-at : (t u : Bool) → cellBytes names ≡ true → t ≡ zerosLast (take (24 * k + 24 - 24 * k) (drop (24 * k) names)) → t ≡ u → cellOk (nameCell names k) ≡ u
+  pub cell-at : (t u : Bool) → cellBytes names ≡ true → t ≡ zerosLast (take (nameBytes * k + nameBytes - nameBytes * k) (drop (nameBytes * k) names)) → t ≡ u → cellOk (nameCell names k) ≡ u
   cell-at t u b e z =
-      let q : 24 * k + 24 - 24 * k ≡ 24 = omega arith in
+      let q : nameBytes * k + nameBytes - nameBytes * k ≡ nameBytes = omega arith in
       let y : t ≡ zerosLast (nameCell names k) = rw q at e in
       cell-is (nameCell names k) ∙ rw (bytes-in-cell b, ← y, z)
 
@@ -216,12 +216,12 @@ unfolding cellBytes
 names-bytes names ns =
     every-of (λ j. cellByte (getD names j 0)) (length names) 0
     (λ j h g.
-    let d = div-add-mod j 24 in
-    let r : j % 24 < 24 = mod-lt j (omega arith) in
-    let d2 = div-add-mod (length names) 24 in
-    let w : j / 24 < nameCount names = omega (arith, ns .whole) in
-    let b = and-left _ _ (sym (cell-is (nameCell names (j / 24))) ∙ ns .cell (j / 24) w) in
-    let i : 24 * (j / 24) + j % 24 ≡ j = omega arith in
+    let d = div-add-mod j nameBytes in
+    let r : j % nameBytes < nameBytes = mod-lt j (omega arith) in
+    let d2 = div-add-mod (length names) nameBytes in
+    let w : j / nameBytes < nameCount names = omega (arith, ns .whole) in
+    let b = and-left _ _ (sym (cell-is (nameCell names (j / nameBytes))) ∙ ns .cell (j / nameBytes) w) in
+    let i : nameBytes * (j / nameBytes) + j % nameBytes ≡ j = omega arith in
     sym (ap (λ (x : ℕ). cellByte (getD names x 0)) i)
-    ∙ sym (ap cellByte (cell-byte-at names (j / 24) w (j % 24) r))
-    ∙ every-at (λ x. cellByte (getD (nameCell names (j / 24)) x 0)) (length (nameCell names (j / 24))) 0 (j % 24) b (omega arith) (omega (arith, cell-length names (j / 24) w)))
+    ∙ sym (ap cellByte (cell-byte-at names (j / nameBytes) w (j % nameBytes) r))
+    ∙ every-at (λ x. cellByte (getD (nameCell names (j / nameBytes)) x 0)) (length (nameCell names (j / nameBytes))) 0 (j % nameBytes) b (omega arith) (omega (arith, cell-length names (j / nameBytes) w)))

@@ -1,5 +1,5 @@
 -- Laws of the model check over plain variables: each branch of a function is one of them.
-use Prim.Native.Nat.{ℕ, suc, _+_, _-_, _/_, _%_, max, _≤_, _<_}
+use Prim.Native.Nat.{ℕ, suc, _+_, _-_, _*_, _%_, max, _≤_, _<_}
 use mathlib.Core.Path.{_≡_, sym, _∙_}
 use mathlib.Core.Bool.{Bool, true, false, cond, _&&_}
 use mathlib.Core.List.{List}
@@ -11,7 +11,10 @@ use lib.Seq.{drop-cons}
 use borrow.Author.Tests.{lt-ltb, le-ltb, le-leb, lt-leb, eq-eqb}
 use Rattle.spec.specs.Words.{every, firstWhere, countBelow}
 use Rattle.spec.specs.Bytes.{nameByte}
-use Rattle.spec.specs.Model.{letters, cellOk, nameCell, nameCount, namesOk, categoryOf, components, items, componentWord, itemWord, isChange, changeItem, sizesOk, componentOk, itemOk, componentsOk, itemsOk, changesOk, modelOk, Sizes}
+use Rattle.spec.specs.Model.{nameBytes, maxNames, letters, cellOk, nameCell, nameCount, namesOk}
+use Rattle.spec.specs.Model.{parentOf, componentName, categoryOf, componentOf, itemName, assetChange, maxCategory}
+use Rattle.spec.specs.Model.{maxComponents, maxItems, modelWords, components, items, componentWord, itemWord, isChange, changeItem, Sizes}
+use Rattle.spec.specs.Model.{sizesOk, componentOk, itemOk, componentsOk, itemsOk, changesOk, modelOk}
 use Rattle.spec.proofs.Words.{not-so, count-step}
 use Rattle.spec.proofs.Model.{sizes-of, Names, names-of}
 
@@ -38,7 +41,7 @@ module _ (s : List ℕ) (i : ℕ) (rest : letters s ≡ i + letters (drop i s)) 
 pub no-names : (names : List ℕ) → (Names names → ⊥) → false ≡ namesOk names
 no-names names h = not-so (namesOk names) (λ e. h (names-of names e))
 
-pub names-start : (names : List ℕ) → 1 ≤ length names → length names ≤ 6144 → length names % 24 ≡ 0
+pub names-start : (names : List ℕ) → 1 ≤ length names → length names ≤ nameBytes * maxNames → length names % nameBytes ≡ 0
     → namesOk names ≡ every (λ k. cellOk (nameCell names k)) (nameCount names - 0) 0
 unfolding namesOk
 names-start names a b e =
@@ -47,39 +50,42 @@ names-start names a b e =
 
 -- ---- words
 
-pub component-fits : (names i word : ℕ) → word / 256 < max 1 i → ltb (word % 256) names ≡ componentOk names i word
-unfolding componentOk
-component-fits names i word h = rw (lt-ltb _ _ h)
+module _ (names i word : ℕ) where
+  pub component-fits : (n : ℕ) → n ≡ componentName word → parentOf word < max 1 i → ltb n names ≡ componentOk names i word
+  unfolding componentOk
+  component-fits n e h = rw (e, lt-ltb _ _ h)
 
-pub component-not : (names i word : ℕ) → max 1 i ≤ word / 256 → false ≡ componentOk names i word
-unfolding componentOk
-component-not names i word h = rw (le-ltb _ _ h)
+  pub component-not : max 1 i ≤ parentOf word → false ≡ componentOk names i word
+  unfolding componentOk
+  component-not h = rw (le-ltb _ _ h)
 
 module _ (c names word : ℕ) where
-  pub item-no-category : 3 < word / 65536 → false ≡ itemOk c names word
+  pub item-no-category : maxCategory < categoryOf word → false ≡ itemOk c names word
   unfolding itemOk
   item-no-category h = rw (lt-leb _ _ h)
 
-  pub item-no-component : word / 65536 ≤ 3 → c ≤ word / 256 % 256 → false ≡ itemOk c names word
-  unfolding itemOk
-  item-no-component h g = rw (le-leb _ _ h, le-ltb _ _ g)
+  module _ (h : categoryOf word ≤ maxCategory) where
+    pub item-no-component : c ≤ componentOf word → false ≡ itemOk c names word
+    unfolding itemOk
+    item-no-component g = rw (le-leb _ _ h, le-ltb _ _ g)
 
-  pub item-fits : word / 65536 ≤ 3 → word / 256 % 256 < c → ltb (word % 256) names ≡ itemOk c names word
-  unfolding itemOk
-  item-fits h g = rw (le-leb _ _ h, lt-ltb _ _ g)
+    pub item-fits : componentOf word < c → (n : ℕ) → n ≡ itemName word → ltb n names ≡ itemOk c names word
+    unfolding itemOk
+    item-fits g n e = rw (e, le-leb _ _ h, lt-ltb _ _ g)
 
 -- ---- sizes
 
 pub no-sizes : (model : List ℕ) → (Sizes model → ⊥) → false ≡ sizesOk model
 no-sizes model h = not-so (sizesOk model) (λ e. h (sizes-of model e))
 
-pub sizes-end : (model : List ℕ) (c m : ℕ) → c ≡ components model → m ≡ items model → 1 ≤ c → c ≤ 64 → 1 ≤ m → m ≤ 64 → eqb (length model) (2 + c + m) ≡ sizesOk model
+pub sizes-end : (model : List ℕ) (c m : ℕ) → c ≡ components model → m ≡ items model
+    → 1 ≤ c → c ≤ maxComponents → 1 ≤ m → m ≤ maxItems → eqb (length model) (modelWords c m) ≡ sizesOk model
 unfolding sizesOk
 sizes-end model c m ec em a b d e =
     rw (ec, em) (let a1 : 1 ≤ components model = omega arith in
-    let b1 : components model ≤ 64 = omega arith in
+    let b1 : components model ≤ maxComponents = omega arith in
     let d1 : 1 ≤ items model = omega arith in
-    let e1 : items model ≤ 64 = omega arith in
+    let e1 : items model ≤ maxItems = omega arith in
     rw (le-leb _ _ a1, le-leb _ _ b1, le-leb _ _ d1, le-leb _ _ e1))
 
 -- ---- the loops over components and items
@@ -99,8 +105,8 @@ module _ (model : List ℕ) (names c : ℕ) (ec : c ≡ components model) where
   pub item-at : (j x : ℕ) (t u : Bool) → t ≡ itemOk c names x → x ≡ itemWord model j → t ≡ u → itemOk (components model) names (itemWord model j) ≡ u
   item-at j x t u e q z = rw (← q, ← ec, ← e, z)
 
-pub change-more : (model : List ℕ) (j k x r : ℕ) → x ≡ itemWord model j → k ≡ countBelow (isChange model) j → r ≡ cond (eqb (categoryOf x) 3) 1 0
-    → k + r ≡ countBelow (isChange model) (j + 1)
+pub change-more : (model : List ℕ) (j k x r : ℕ) → x ≡ itemWord model j → k ≡ countBelow (isChange model) j
+    → r ≡ cond (eqb (categoryOf x) assetChange) 1 0 → k + r ≡ countBelow (isChange model) (j + 1)
 change-more model j k x r ex ek er = rw (count-step (isChange model) j, ek, er, ex)
 
 pub change-start : (model : List ℕ) (m : ℕ) → m ≡ items model → changeItem model ≡ firstWhere (isChange model) (m - 0) 0

@@ -1,10 +1,13 @@
-// The names: cells of 24 bytes, a name and then zeros in each. The passes over bytes take no branch by a byte, so that
+// The names: cells with a name and then zeros in each. The passes over bytes take no branch by a byte, so that
 // they go over many at once.
 ghost use mathlib.Core.Path.{_≡_};
 ghost use Prim.Native.Nat.{_≤_};
 ghost use lib.ListN.{length};
 ghost use Rattle.spec.specs.Model.{namesOk};
 ghost use Rattle.model.specs.Cells.{cellByte, cellBytes, follows, zerosLast};
+
+// The bytes of the most names.
+const MAX_BYTES: usize = spec::NAME_BYTES * spec::MAX_NAMES;
 
 // Whether x may stand in a cell: a byte of a name, or 0.
 fn cell_byte(x: u8) -> bool
@@ -56,20 +59,20 @@ pub fn names_ok(names: &[u8]) -> bool
     if l < 1 {
         return false;
     }
-    if 6144 < l {
+    if MAX_BYTES < l {
         return false;
     }
-    if l % 24 != 0 {
+    if l % spec::NAME_BYTES != 0 {
         return false;
     }
     if !cell_bytes(names) {
         return false;
     }
-    let n = l / 24;
+    let n = l / spec::NAME_BYTES;
     let mut k = 0;
     while k < n {
-        let at = 24 * k;
-        if !zeros_last(&names[at..at + 24]) {
+        let at = spec::NAME_BYTES * k;
+        if !zeros_last(&names[at..at + spec::NAME_BYTES]) {
             return false;
         }
         k += 1;

@@ -3,18 +3,27 @@ ghost use mathlib.Core.Path.{_≡_};
 ghost use Prim.Native.Nat.{_≤_};
 ghost use mathlib.Core.Bool.{cond, _&&_};
 ghost use lib.Dec.{eqb};
-ghost use Rattle.spec.specs.Model.{categoryOf, sizesOk, componentOk, itemOk, componentsOk, itemsOk, changesOk, Sizes};
+ghost use Rattle.spec.specs.Model.{assetChange, categoryOf, Sizes};
+ghost use Rattle.spec.specs.Model.{sizesOk, componentOk, itemOk, componentsOk, itemsOk, changesOk};
+use super::ASSET_CHANGE;
+use super::COMPONENTS_AT;
+use super::MAX_CATEGORY;
+use super::category_of;
+use super::component_name;
+use super::component_of;
 use super::component_word;
 use super::components;
+use super::item_name;
 use super::item_word;
 use super::items;
+use super::parent_of;
 use super::wide;
 
 // Whether both sizes are in their range and the length is theirs.
 pub fn sizes_ok(model: &[u32]) -> bool
     ensures { λ r. ⌜ r ≡ sizesOk (now (model .entry)) ⌝ }
 {
-    if model.len() < 2 {
+    if (model.len() as u64) < COMPONENTS_AT {
         return false;
     }
     let c = wide(model[0]);
@@ -22,27 +31,29 @@ pub fn sizes_ok(model: &[u32]) -> bool
     if c < 1 {
         return false;
     }
-    if 64 < c {
+    if spec::MAX_COMPONENTS < c {
         return false;
     }
     if m < 1 {
         return false;
     }
-    if 64 < m {
+    if spec::MAX_ITEMS < m {
         return false;
     }
-    model.len() as u64 == 2 + c + m
+    model.len() as u64 == COMPONENTS_AT + c + m
 }
 
 // Whether a word is one of component i: its parent before it (0 for component 0), its name one of the names.
 fn component_ok(names: u64, i: u64, word: u64) -> bool
     ensures { λ r. ⌜ r ≡ componentOk names i word ⌝ }
 {
-    if word / 256 < i {
-        return word % 256 < names;
+    let parent = parent_of(word);
+    let named = component_name(word) < names;
+    if parent < i {
+        return named;
     }
-    if word / 256 == 0 {
-        return word % 256 < names;
+    if parent == 0 {
+        return named;
     }
     false
 }
@@ -51,20 +62,20 @@ fn component_ok(names: u64, i: u64, word: u64) -> bool
 fn item_ok(c: u64, names: u64, word: u64) -> bool
     ensures { λ r. ⌜ r ≡ itemOk c names word ⌝ }
 {
-    if 3 < word / 65536 {
+    if MAX_CATEGORY < category_of(word) {
         return false;
     }
-    if c <= word / 256 % 256 {
+    if c <= component_of(word) {
         return false;
     }
-    word % 256 < names
+    item_name(word) < names
 }
 
 // 1 for the word of an asset change item, 0 for another.
 fn one_if_change(word: u64) -> u64
-    ensures { λ r. ⌜ (r ≡ cond (eqb (categoryOf word) 3) 1 0) × (r ≤ 1) ⌝ }
+    ensures { λ r. ⌜ (r ≡ cond (eqb (categoryOf word) assetChange) 1 0) × (r ≤ 1) ⌝ }
 {
-    if word / 65536 == 3 {
+    if category_of(word) == ASSET_CHANGE {
         return 1;
     }
     0

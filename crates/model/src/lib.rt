@@ -2,10 +2,65 @@
 ghost use mathlib.Core.Path.{_≡_};
 ghost use Prim.Native.Nat.{_≤_, _<_};
 ghost use lib.ListN.{length};
-ghost use Rattle.spec.specs.Model.{letters, components, items, componentWord, itemWord, category, changeItem, modelOk, Sizes};
+ghost use Rattle.spec.specs.Model.{letters, maxComponents, maxItems, components, items, Sizes};
+ghost use Rattle.spec.specs.Model.{parentOf, componentName, categoryOf, componentOf, itemName};
+ghost use Rattle.spec.specs.Model.{componentWord, itemWord, category, changeItem, modelOk};
 
 mod cells;
 mod checks;
+
+// Where the component words begin; the item words follow them.
+const COMPONENTS_AT: u64 = 2;
+
+// A component's word has its parent above its name: how many names there is room for.
+const COMPONENT_NAMES: u64 = 256;
+
+// An item's word has its category above its component, and that above its name.
+const ITEM_NAMES: u64 = 256;
+
+const ITEM_COMPONENTS: u64 = 256;
+
+const ITEM_CATEGORY: u64 = ITEM_NAMES * ITEM_COMPONENTS;
+
+// The categories: 0 sample, 1 event, 2 condition, 3 asset change.
+const ASSET_CHANGE: u64 = 3;
+
+const MAX_CATEGORY: u64 = 3;
+
+// A component's parent, by the component's word.
+pub fn parent_of(word: u64) -> u64
+    ensures { λ r. ⌜ r ≡ parentOf word ⌝ }
+{
+    word / COMPONENT_NAMES
+}
+
+// A component's name, by the component's word.
+pub fn component_name(word: u64) -> u64
+    ensures { λ r. ⌜ r ≡ componentName word ⌝ }
+{
+    word % COMPONENT_NAMES
+}
+
+// A data item's category, by the item's word.
+pub fn category_of(word: u64) -> u64
+    ensures { λ r. ⌜ r ≡ categoryOf word ⌝ }
+{
+    word / ITEM_CATEGORY
+}
+
+// A data item's component, by the item's word.
+pub fn component_of(word: u64) -> u64
+    ensures { λ r. ⌜ r ≡ componentOf word ⌝ }
+{
+    word / ITEM_NAMES % ITEM_COMPONENTS
+}
+
+// A data item's name, by the item's word.
+pub fn item_name(word: u64) -> u64
+    ensures { λ r. ⌜ r ≡ itemName word ⌝ }
+{
+    word % ITEM_NAMES
+}
 
 // A model's word as a number of 64 bits.
 fn wide(x: u32) -> u64
@@ -14,18 +69,18 @@ fn wide(x: u32) -> u64
     x as u64
 }
 
-// How many components the model has: at most 64.
+// How many components the model has.
 pub fn components(model: &[u32]) -> u64
     requires { ⌜ Sizes (now model) ⌝ }
-    ensures { λ r. ⌜ (r ≡ components (now (model .entry))) × (r ≤ 64) ⌝ }
+    ensures { λ r. ⌜ (r ≡ components (now (model .entry))) × (r ≤ maxComponents) ⌝ }
 {
     wide(model[0])
 }
 
-// How many data items the model has: at most 64.
+// How many data items the model has.
 pub fn items(model: &[u32]) -> u64
     requires { ⌜ Sizes (now model) ⌝ }
-    ensures { λ r. ⌜ (r ≡ items (now (model .entry))) × (r ≤ 64) ⌝ }
+    ensures { λ r. ⌜ (r ≡ items (now (model .entry))) × (r ≤ maxItems) ⌝ }
 {
     wide(model[1])
 }
@@ -36,7 +91,7 @@ pub fn component_word(model: &[u32], i: u64) -> u64
     requires { ⌜ i < components (now model) ⌝ }
     ensures { λ r. ⌜ r ≡ componentWord (now (model .entry)) i ⌝ }
 {
-    let at = (2 + i) as usize;
+    let at = (COMPONENTS_AT + i) as usize;
     wide(model[at])
 }
 
@@ -46,7 +101,7 @@ pub fn item_word(model: &[u32], j: u64) -> u64
     requires { ⌜ j < items (now model) ⌝ }
     ensures { λ r. ⌜ r ≡ itemWord (now (model .entry)) j ⌝ }
 {
-    let at = (2 + components(model) + j) as usize;
+    let at = (COMPONENTS_AT + components(model) + j) as usize;
     wide(model[at])
 }
 
@@ -56,7 +111,7 @@ pub fn category(model: &[u32], j: u64) -> u64
     requires { ⌜ j < items (now model) ⌝ }
     ensures { λ r. ⌜ r ≡ category (now (model .entry)) j ⌝ }
 {
-    item_word(model, j) / 65536
+    category_of(item_word(model, j))
 }
 
 // The data item of category asset change; the number of items where there is none.
@@ -67,7 +122,7 @@ pub fn change_item(model: &[u32]) -> u64
     let m = items(model);
     let mut j: u64 = 0;
     while j < m {
-        if category(model, j) == 3 {
+        if category(model, j) == ASSET_CHANGE {
             return j;
         }
         j += 1;
@@ -99,7 +154,7 @@ pub fn model_ok(model: &[u32], names: &[u8]) -> bool
     if !cells::names_ok(names) {
         return false;
     }
-    let count = (names.len() / 24) as u64;
+    let count = (names.len() / spec::NAME_BYTES) as u64;
     if !checks::components_ok(model, count) {
         return false;
     }

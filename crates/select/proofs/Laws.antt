@@ -11,7 +11,8 @@ use lib.ListN.{length, take, drop, length-take}
 use lib.Seq.{take-take, length-take-le}
 use Rattle.spec.specs.Words.{anyBelow, bit, setOf}
 use Rattle.spec.specs.Bytes.{nameByte, same}
-use Rattle.spec.specs.Model.{Checked, letters, nameCell, parentOf, componentName, componentOf, itemName, components, items, componentWord, itemWord}
+use Rattle.spec.specs.Model.{Checked, nameBytes, letters, nameCell, maxComponents, components, items, componentWord, itemWord}
+use Rattle.spec.specs.Model.{parentOf, componentName, componentOf, itemName}
 use Rattle.spec.specs.Path.{Form, subtree, typed, otherForm, formOf, isNamed, hasType, under, inSubtree, inTyped, selectSubtree, selectTyped, selectForm, select}
 use Rattle.spec.specs.declared.Selection.{Selection}
 use Rattle.spec.specs.declared.Selection.the-variants.{Items, NotFound}
@@ -40,28 +41,28 @@ same-front c t n h = go (eqb n (length t)) refl
     go false e = same-ne (take n c) t (λ q. eqb-false n (length t) e (sym (length-take-le n c h) ∙ ap length q)) ∙ sym (and-false (same (take (length t) c) t))
 
 module _ (names : List ℕ) (k : ℕ) (t : List ℕ) where
-  pub named-not-longer : 24 < length t → false ≡ isNamed names k t
+  pub named-not-longer : nameBytes < length t → false ≡ isNamed names k t
   unfolding isNamed
   named-not-longer h =
       let c : List ℕ = nameCell names k in
-      sym (same-ne (take (letters c) c) t (λ e. omega (arith, ap length e, length-take (letters c) c, length-take 24 (drop (24 * k) names))))
+      sym (same-ne (take (letters c) c) t (λ e. omega (arith, ap length e, length-take (letters c) c, length-take nameBytes (drop (nameBytes * k) names))))
 
   -- the front of the name's cell, as the code takes it, against t
-  module _ (h : length t ≤ 24) (b : Bool) (eb : b ≡ same (take (24 * k + length t - 24 * k) (drop (24 * k) names)) t) where
+  module _ (h : length t ≤ nameBytes) (b : Bool) (eb : b ≡ same (take (nameBytes * k + length t - nameBytes * k) (drop (nameBytes * k) names)) t) where
     named-is : isNamed names k t ≡ b && eqb (letters (nameCell names k)) (length t)
     unfolding isNamed
     named-is =
         let c : List ℕ = nameCell names k in
-        let a : 24 * k + length t - 24 * k ≡ length t = omega arith in
-        let f : same (take (length t) c) t ≡ b = rw (take-take (length t) 24 (drop (24 * k) names) h) (sym (rw a at eb)) in
+        let a : nameBytes * k + length t - nameBytes * k ≡ length t = omega arith in
+        let f : same (take (length t) c) t ≡ b = rw (take-take (length t) nameBytes (drop (nameBytes * k) names) h) (sym (rw a at eb)) in
         same-front c t (letters c) (letters-max c) ∙ ap (λ (x : Bool). x && eqb (letters c) (length t)) f
 
     pub named-other : b ≡ false → false ≡ isNamed names k t
     named-other z = sym (named-is ∙ rw z)
 
-    pub named-so-far : b ≡ true → (n : ℕ) → n ≡ letters (take (24 * k + 24 - 24 * k) (drop (24 * k) names)) → eqb n (length t) ≡ isNamed names k t
+    pub named-so-far : b ≡ true → (n : ℕ) → n ≡ letters (take (nameBytes * k + nameBytes - nameBytes * k) (drop (nameBytes * k) names)) → eqb n (length t) ≡ isNamed names k t
     named-so-far z n en =
-        let a : 24 * k + 24 - 24 * k ≡ 24 = omega arith in
+        let a : nameBytes * k + nameBytes - nameBytes * k ≡ nameBytes = omega arith in
         let f : n ≡ letters (nameCell names k) = en ∙ rw a in
         sym (named-is ∙ rw (z, ← f))
 
@@ -87,14 +88,16 @@ module _ (names y : List ℕ) (w set : ℕ) (u t : Bool) (e : t ≡ bit set (com
 
 -- ---- a checked model's words
 module _ (model names : List ℕ) (M : Checked model names) where
-  pub component-fits : (i w : ℕ) → i < components model → w ≡ componentWord model i → (24 * componentName w + 24 ≤ length names) × (parentOf w < 64)
+  pub component-fits : (i w : ℕ) → i < components model → w ≡ componentWord model i
+      → (nameBytes * componentName w + nameBytes ≤ length names) × (parentOf w < maxComponents)
   component-fits i w h e =
       let n = M .name i h in
       let p = M .parent i h in
       let z = M .sizes .c-max in
       rw e (omega (arith, M .names-len), omega arith)
 
-  pub item-fits : (j w : ℕ) → j < items model → w ≡ itemWord model j → (24 * itemName w + 24 ≤ length names) × (componentOf w < 64)
+  pub item-fits : (j w : ℕ) → j < items model → w ≡ itemWord model j
+      → (nameBytes * itemName w + nameBytes ≤ length names) × (componentOf w < maxComponents)
   item-fits j w h e =
       let n = M .item-name j h in
       let p = M .component j h in

@@ -5,7 +5,8 @@ ghost use mathlib.Core.Option.{some};
 ghost use Prim.Native.Nat.{_+_, _*_, _<_, _≤_};
 ghost use lib.ListN.{length};
 ghost use Rattle.spec.specs.Words.{bit, setOf};
-ghost use Rattle.spec.specs.Model.{Checked, parentOf, componentName, componentOf, itemName, components, items};
+ghost use Rattle.spec.specs.Model.{nameBytes, maxComponents, Checked, components, items};
+ghost use Rattle.spec.specs.Model.{parentOf, componentName, componentOf, itemName};
 ghost use Rattle.spec.specs.Path.{isNamed, under, select};
 ghost use Rattle.select.specs.Choice.{taken, chosen, byNames, SelectionFits};
 use path::PathForm;
@@ -13,36 +14,39 @@ use spec::Selection;
 
 // Whether name k is the text t. Most names differ early: only a name that agrees so far is measured.
 fn is_named(names: &[u8], k: u64, t: &[u8]) -> bool
-    requires { ⌜ 24 * k + 24 ≤ length (now names) ⌝ }
+    requires { ⌜ nameBytes * k + nameBytes ≤ length (now names) ⌝ }
     ensures { λ r. ⌜ r ≡ isNamed (now (names .entry)) k (now (t .entry)) ⌝ }
 {
-    if 24 < t.len() {
+    if spec::NAME_BYTES < t.len() {
         return false;
     }
-    let at = 24 * (k as usize);
+    let at = spec::NAME_BYTES * (k as usize);
     let stop = at + t.len();
     if !scan::equal(&names[at..stop], t) {
         return false;
     }
-    let end = at + 24;
+    let end = at + spec::NAME_BYTES;
     model::name_length(&names[at..end]) == t.len()
 }
 
 // Whether a component, by its word, has type name t or a parent in the set.
 fn joins(names: &[u8], word: u64, t: &[u8], set: u64) -> bool
-    requires { ⌜ (24 * componentName word + 24 ≤ length (now names)) × (parentOf word < 64) ⌝ }
-    ensures { λ r. ⌜ r ≡ (isNamed (now (names .entry)) (componentName word) (now (t .entry)) || bit set (parentOf word)) ⌝ }
+    requires { ⌜ nameBytes * componentName word + nameBytes ≤ length (now names) ⌝ }
+    requires { ⌜ parentOf word < maxComponents ⌝ }
+    ensures { λ r. ⌜ r
+        ≡ (isNamed (now (names .entry)) (componentName word) (now (t .entry)) || bit set (parentOf word)) ⌝ }
 {
-    if is_named(names, word % 256, t) {
+    if is_named(names, model::component_name(word), t) {
         return true;
     }
-    selection::has(set, word / 256)
+    selection::has(set, model::parent_of(word))
 }
 
 // The components that have type name t, or an ancestor that has. A parent stands before its children, so one pass does it.
 fn under_type(model: &[u32], names: &[u8], t: &[u8]) -> u64
     requires { ⌜ Checked (now model) (now names) ⌝ }
-    ensures { λ r. ⌜ r ≡ under (now (model .entry)) (now (names .entry)) (now (t .entry)) (components (now (model .entry))) ⌝ }
+    ensures { λ r. ⌜ r
+        ≡ under (now (model .entry)) (now (names .entry)) (now (t .entry)) (components (now (model .entry))) ⌝ }
 {
     let c = model::components(model);
     let mut set: u64 = 0;
@@ -57,22 +61,25 @@ fn under_type(model: &[u32], names: &[u8], t: &[u8]) -> u64
 
 // Whether an item, by its word, is of a component in the set and, where `typed` asks for it, of item type y.
 fn takes(names: &[u8], word: u64, set: u64, typed: bool, y: &[u8]) -> bool
-    requires { ⌜ (24 * itemName word + 24 ≤ length (now names)) × (componentOf word < 64) ⌝ }
+    requires { ⌜ nameBytes * itemName word + nameBytes ≤ length (now names) ⌝ }
+    requires { ⌜ componentOf word < maxComponents ⌝ }
     ensures { λ r. ⌜ r ≡ taken (now (names .entry)) set typed (now (y .entry)) word ⌝ }
 {
-    if !selection::has(set, word / 256 % 256) {
+    if !selection::has(set, model::component_of(word)) {
         return false;
     }
     if !typed {
         return true;
     }
-    is_named(names, word % 256, y)
+    is_named(names, model::item_name(word), y)
 }
 
 // The items of the components in the set; where `typed` asks for it, only those of item type y.
 fn items_of(model: &[u32], names: &[u8], set: u64, typed: bool, y: &[u8]) -> u64
     requires { ⌜ Checked (now model) (now names) ⌝ }
-    ensures { λ r. ⌜ r ≡ setOf (chosen (now (model .entry)) (now (names .entry)) set typed (now (y .entry))) (items (now (model .entry))) ⌝ }
+    ensures { λ r. ⌜ r
+        ≡ setOf (chosen (now (model .entry)) (now (names .entry)) set typed (now (y .entry)))
+        (items (now (model .entry))) ⌝ }
 {
     let m = model::items(model);
     let mut selection: u64 = 0;
