@@ -23,7 +23,9 @@ pub bytes-start : (s : List ℕ) → cellBytes s ≡ true && every (λ k. cellBy
 unfolding cellBytes
 bytes-start s = let q : length s - 0 ≡ length s = omega arith in rw q
 
-pub last-start : (s : List ℕ) → zerosLast s ≡ not (eqb (getD s 0 0) 0) && every (λ k. follows (getD s k 0) (getD s (k + 1) 0)) (length s - 1 - 0) 0
+pub last-start : (s : List ℕ)
+    → zerosLast s
+    ≡ not (eqb (getD s 0 0) 0) && every (λ k. follows (getD s k 0) (getD s (k + 1) 0)) (length s - 1 - 0) 0
 unfolding zerosLast
 last-start s = let q : length s - 1 - 0 ≡ length s - 1 = omega arith in rw q
 
@@ -80,7 +82,8 @@ zeros-at (x ∷ xs) zero e = and-left (eqb x 0) _ e
 zeros-at (x ∷ xs) (suc i) e = zeros-at xs i (and-right (eqb x 0) _ e)
 
 -- behind a 0, where each byte may stand behind the one before it
-zeros-behind : (x : ℕ) (s : List ℕ) → eqb x 0 ≡ true → ((i : ℕ) → i < length s → follows (getD (x ∷ s) i 0) (getD s i 0) ≡ true) → zeros s ≡ true
+zeros-behind : (x : ℕ) (s : List ℕ) → eqb x 0 ≡ true
+    → ((i : ℕ) → i < length s → follows (getD (x ∷ s) i 0) (getD s i 0) ≡ true) → zeros s ≡ true
 unfolding zeros
 zeros-behind x [] z f = refl
 zeros-behind x (y ∷ ys) z f =
@@ -122,7 +125,8 @@ tail-follows (x ∷ xs) i e =
     (λ n. go i (λ j. tail-follows xs j (sym (tail-name x xs n) ∙ e)) n)
     (λ n. follows-zero _ _ (zeros-at xs i (and-right (eqb x 0) _ (sym (tail-rest x xs n) ∙ e))))
   where
-    go : (j : ℕ) → ((k : ℕ) → follows (getD xs k 0) (getD xs (suc k) 0) ≡ true) → nameByte x ≡ true → follows (getD (x ∷ xs) j 0) (getD xs j 0) ≡ true
+    go : (j : ℕ) → ((k : ℕ) → follows (getD xs k 0) (getD xs (suc k) 0) ≡ true) → nameByte x ≡ true
+        → follows (getD (x ∷ xs) j 0) (getD xs j 0) ≡ true
     go zero f n = follows-name x _ n
     go (suc j) f n = f j
 
@@ -154,7 +158,8 @@ first-letter (x ∷ xs) e = let k : letters (x ∷ xs) ≡ suc (letters xs) = rw
 first-byte : (s : List ℕ) → cellBytes s ≡ true → cellByte (getD s 0 0) ≡ true
 unfolding cellBytes
 first-byte [] e = zero-in-cell 0 refl
-first-byte (x ∷ xs) e = every-at (λ i. cellByte (getD (x ∷ xs) i 0)) (length (x ∷ xs)) 0 0 e (omega arith) (omega arith)
+first-byte (x ∷ xs) e =
+    every-at (λ i. cellByte (getD (x ∷ xs) i 0)) (length (x ∷ xs)) 0 0 e (omega arith) (omega arith)
 
 cell-gives : (s : List ℕ) → cellOk s ≡ true → cellBytes s && zerosLast s ≡ true
 unfolding cellOk cellBytes zerosLast
@@ -165,7 +170,8 @@ cell-gives s e =
     (every-of (λ i. cellByte (getD s i 0)) (length s) 0 (λ i h g. tail-bytes s i t))
     (and-both (not (eqb (getD s 0 0) 0)) _
     (rw (name-not-zero _ n))
-    (every-of (λ i. follows (getD s i 0) (getD s (i + 1) 0)) (length s - 1) 0 (λ i h g. rw (add-one i) (tail-follows s i t))))
+    (every-of (λ i. follows (getD s i 0) (getD s (i + 1) 0)) (length s - 1) 0
+    (λ i h g. rw (add-one i) (tail-follows s i t))))
 
 cell-given : (s : List ℕ) → cellBytes s && zerosLast s ≡ true → cellOk s ≡ true
 unfolding cellOk cellBytes zerosLast
@@ -177,7 +183,9 @@ cell-given s e =
     (le-leb _ _ (first-letter s (rest-name _ (first-byte s b) (not-true _ (and-left _ _ l)))))
     (tail-of s
     (λ i h. every-at (λ i. cellByte (getD s i 0)) (length s) 0 i b (omega arith) (omega arith))
-    (λ i h. rw (add-one i) at (every-at (λ i. follows (getD s i 0) (getD s (i + 1) 0)) (length s - 1) 0 i p (omega arith) (omega arith))))
+    (λ i h.
+    let f = every-at (λ i. follows (getD s i 0) (getD s (i + 1) 0)) (length s - 1) 0 i p (omega arith) (omega arith) in
+    rw (add-one i) at f))
 
 pub cell-is : (s : List ℕ) → cellOk s ≡ cellBytes s && zerosLast s
 cell-is s = same-truth _ _ (cell-gives s) (cell-given s)
@@ -189,7 +197,9 @@ cells-fit l k h = omega (arith, div-add-mod l nameBytes)
 
 module _ (names : List ℕ) (k : ℕ) (within : k < nameCount names) where
   cell-length : length (nameCell names k) ≡ nameBytes
-  cell-length = length-take-le nameBytes (drop (nameBytes * k) names) (omega (arith, cells-fit (length names) k within, length-drop (nameBytes * k) names))
+  cell-length =
+      let l = length-drop (nameBytes * k) names in
+      length-take-le nameBytes (drop (nameBytes * k) names) (omega (arith, cells-fit (length names) k within, l))
 
   cell-byte-at : (i : ℕ) → i < nameBytes → getD (nameCell names k) i 0 ≡ getD names (nameBytes * k + i) 0
   cell-byte-at i h = getD-take nameBytes (drop (nameBytes * k) names) i 0 h ∙ getD-drop (nameBytes * k) names i 0
@@ -201,10 +211,13 @@ module _ (names : List ℕ) (k : ℕ) (within : k < nameCount names) where
       (λ i h g.
       let b : i < nameBytes = omega (arith, cell-length) in
       ap cellByte (cell-byte-at i b)
-      ∙ every-at (λ j. cellByte (getD names j 0)) (length names) 0 (nameBytes * k + i) e (omega arith) (omega (arith, cells-fit (length names) k within)))
+      ∙ every-at (λ j. cellByte (getD names j 0)) (length names) 0 (nameBytes * k + i) e (omega arith)
+      (omega (arith, cells-fit (length names) k within)))
 
   -- a cell, as it is lent
-  pub cell-at : (t u : Bool) → cellBytes names ≡ true → t ≡ zerosLast (take (nameBytes * k + nameBytes - nameBytes * k) (drop (nameBytes * k) names)) → t ≡ u → cellOk (nameCell names k) ≡ u
+  pub cell-at : (t u : Bool) → cellBytes names ≡ true
+      → t ≡ zerosLast (take (nameBytes * k + nameBytes - nameBytes * k) (drop (nameBytes * k) names))
+      → t ≡ u → cellOk (nameCell names k) ≡ u
   cell-at t u b e z =
       let q : nameBytes * k + nameBytes - nameBytes * k ≡ nameBytes = omega arith in
       let y : t ≡ zerosLast (nameCell names k) = rw q at e in
@@ -224,4 +237,5 @@ names-bytes names ns =
     let i : nameBytes * (j / nameBytes) + j % nameBytes ≡ j = omega arith in
     sym (ap (λ (x : ℕ). cellByte (getD names x 0)) i)
     ∙ sym (ap cellByte (cell-byte-at names (j / nameBytes) w (j % nameBytes) r))
-    ∙ every-at (λ x. cellByte (getD (nameCell names (j / nameBytes)) x 0)) (length (nameCell names (j / nameBytes))) 0 (j % nameBytes) b (omega arith) (omega (arith, cell-length names (j / nameBytes) w)))
+    ∙ every-at (λ x. cellByte (getD (nameCell names (j / nameBytes)) x 0)) (length (nameCell names (j / nameBytes))) 0
+    (j % nameBytes) b (omega arith) (omega (arith, cell-length names (j / nameBytes) w)))

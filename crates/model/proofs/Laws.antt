@@ -13,7 +13,8 @@ use Rattle.spec.specs.Words.{every, firstWhere, countBelow}
 use Rattle.spec.specs.Bytes.{nameByte}
 use Rattle.spec.specs.Model.{nameBytes, maxNames, letters, cellOk, nameCell, nameCount, namesOk}
 use Rattle.spec.specs.Model.{parentOf, componentName, categoryOf, componentOf, itemName, assetChange, maxCategory}
-use Rattle.spec.specs.Model.{maxComponents, maxItems, modelWords, components, items, componentWord, itemWord, isChange, changeItem, Sizes}
+use Rattle.spec.specs.Model.{maxComponents, maxItems, modelWords, components, items, Sizes}
+use Rattle.spec.specs.Model.{componentWord, itemWord, isChange, changeItem}
 use Rattle.spec.specs.Model.{sizesOk, componentOk, itemOk, componentsOk, itemsOk, changesOk, modelOk}
 use Rattle.spec.proofs.Words.{not-so, count-step}
 use Rattle.spec.proofs.Model.{sizes-of, Names, names-of}
@@ -29,8 +30,11 @@ module _ (s : List ℕ) (i : ℕ) (rest : letters s ≡ i + letters (drop i s)) 
   pub letters-stop : (t : Bool) → i < length s → t ≡ nameByte (getD s i 0) → t ≡ false → i ≡ letters s
   letters-stop t h e z = let k : letters (drop i s) ≡ 0 = letters-step s i h ∙ rw (← e, z) in omega arith
 
-  pub letters-on : (t : Bool) → i < length s → t ≡ nameByte (getD s i 0) → t ≡ true → letters s ≡ i + 1 + letters (drop (i + 1) s)
-  letters-on t h e z = let k : letters (drop i s) ≡ suc (letters (drop (i + 1) s)) = letters-step s i h ∙ rw (← e, z) in omega arith
+  pub letters-on : (t : Bool) → i < length s → t ≡ nameByte (getD s i 0) → t ≡ true
+      → letters s ≡ i + 1 + letters (drop (i + 1) s)
+  letters-on t h e z =
+      let k : letters (drop i s) ≡ suc (letters (drop (i + 1) s)) = letters-step s i h ∙ rw (← e, z) in
+      omega arith
 
   pub letters-end : length s ≤ i → i ≡ letters s
   unfolding letters
@@ -41,7 +45,8 @@ module _ (s : List ℕ) (i : ℕ) (rest : letters s ≡ i + letters (drop i s)) 
 pub no-names : (names : List ℕ) → (Names names → ⊥) → false ≡ namesOk names
 no-names names h = not-so (namesOk names) (λ e. h (names-of names e))
 
-pub names-start : (names : List ℕ) → 1 ≤ length names → length names ≤ nameBytes * maxNames → length names % nameBytes ≡ 0
+pub names-start : (names : List ℕ)
+    → 1 ≤ length names → length names ≤ nameBytes * maxNames → length names % nameBytes ≡ 0
     → namesOk names ≡ every (λ k. cellOk (nameCell names k)) (nameCount names - 0) 0
 unfolding namesOk
 names-start names a b e =
@@ -51,7 +56,8 @@ names-start names a b e =
 -- ---- words
 
 module _ (names i word : ℕ) where
-  pub component-fits : (n : ℕ) → n ≡ componentName word → parentOf word < max 1 i → ltb n names ≡ componentOk names i word
+  pub component-fits : (n : ℕ) → n ≡ componentName word → parentOf word < max 1 i
+      → ltb n names ≡ componentOk names i word
   unfolding componentOk
   component-fits n e h = rw (e, lt-ltb _ _ h)
 
@@ -95,21 +101,25 @@ module _ (model : List ℕ) (names c : ℕ) (ec : c ≡ components model) where
   unfolding componentsOk
   components-start = let q : c - 0 ≡ components model = omega arith in rw q
 
-  pub items-start : (m : ℕ) → m ≡ items model → itemsOk model names ≡ every (λ k. itemOk (components model) names (itemWord model k)) (m - 0) 0
+  pub items-start : (m : ℕ) → m ≡ items model
+      → itemsOk model names ≡ every (λ k. itemOk (components model) names (itemWord model k)) (m - 0) 0
   unfolding itemsOk
   items-start m em = let q : m - 0 ≡ items model = omega arith in rw q
 
-  pub component-at : (i x : ℕ) (t u : Bool) → t ≡ componentOk names i x → x ≡ componentWord model i → t ≡ u → componentOk names i (componentWord model i) ≡ u
+  pub component-at : (i x : ℕ) (t u : Bool) → t ≡ componentOk names i x → x ≡ componentWord model i → t ≡ u
+      → componentOk names i (componentWord model i) ≡ u
   component-at i x t u e q z = rw (← q, ← e, z)
 
-  pub item-at : (j x : ℕ) (t u : Bool) → t ≡ itemOk c names x → x ≡ itemWord model j → t ≡ u → itemOk (components model) names (itemWord model j) ≡ u
+  pub item-at : (j x : ℕ) (t u : Bool) → t ≡ itemOk c names x → x ≡ itemWord model j → t ≡ u
+      → itemOk (components model) names (itemWord model j) ≡ u
   item-at j x t u e q z = rw (← q, ← ec, ← e, z)
 
 pub change-more : (model : List ℕ) (j k x r : ℕ) → x ≡ itemWord model j → k ≡ countBelow (isChange model) j
     → r ≡ cond (eqb (categoryOf x) assetChange) 1 0 → k + r ≡ countBelow (isChange model) (j + 1)
 change-more model j k x r ex ek er = rw (count-step (isChange model) j, ek, er, ex)
 
-pub change-start : (model : List ℕ) (m : ℕ) → m ≡ items model → changeItem model ≡ firstWhere (isChange model) (m - 0) 0
+pub change-start : (model : List ℕ) (m : ℕ) → m ≡ items model
+    → changeItem model ≡ firstWhere (isChange model) (m - 0) 0
 unfolding changeItem
 change-start model m em = let q : m - 0 ≡ items model = omega arith in rw q
 
@@ -118,7 +128,8 @@ module _ (model : List ℕ) (names : ℕ) where
   pub items-no : false ≡ itemsOk model names → false ≡ (itemsOk model names && changesOk model)
   items-no e = rw (← e)
 
-  pub items-end : (j k : ℕ) → j ≡ items model → true ≡ itemsOk model names → k ≡ countBelow (isChange model) j → leb k 1 ≡ (itemsOk model names && changesOk model)
+  pub items-end : (j k : ℕ) → j ≡ items model → true ≡ itemsOk model names → k ≡ countBelow (isChange model) j
+      → leb k 1 ≡ (itemsOk model names && changesOk model)
   unfolding changesOk
   items-end j k ej e ek = rw (← e, ek, ej)
 
@@ -135,7 +146,8 @@ module _ (model names : List ℕ) where
     model-names u e z = rw (← sizes, yes, ← e, z)
 
     module _ (u : Bool) (cells : u ≡ namesOk names) (fine : u ≡ true) where
-      pub model-components : (v : Bool) → v ≡ componentsOk model (nameCount names) → v ≡ false → false ≡ modelOk model names
+      pub model-components : (v : Bool) → v ≡ componentsOk model (nameCount names) → v ≡ false
+          → false ≡ modelOk model names
       unfolding modelOk
       model-components v e z = rw (← sizes, yes, ← cells, fine, ← e, z)
 

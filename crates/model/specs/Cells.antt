@@ -1,5 +1,5 @@
--- What the functions over the name cells tell each other: a cell is a name, then zeros, where every byte is of a name or 0
--- and the zeros stand behind.
+-- What the functions over the name cells tell each other: a cell is a name, then zeros, where every byte is of a name
+-- or 0 and the zeros stand behind.
 use Prim.Native.Nat.{ℕ, _+_, _-_}
 use mathlib.Core.Bool.{Bool, _&&_, _||_, not}
 use mathlib.Core.List.{List}

@@ -11,18 +11,19 @@ use lib.ListN.{length, take, drop, length-take}
 use lib.Seq.{take-take, length-take-le}
 use Rattle.spec.specs.Words.{anyBelow, bit, setOf}
 use Rattle.spec.specs.Bytes.{nameByte, same}
-use Rattle.spec.specs.Model.{Checked, nameBytes, letters, nameCell, maxComponents, components, items, componentWord, itemWord}
-use Rattle.spec.specs.Model.{parentOf, componentName, componentOf, itemName}
-use Rattle.spec.specs.Path.{Form, subtree, typed, otherForm, formOf, isNamed, hasType, under, inSubtree, inTyped, selectSubtree, selectTyped, selectForm, select}
+use Rattle.spec.specs.Model.{Checked, nameBytes, letters, nameCell, maxComponents, components, items}
+use Rattle.spec.specs.Model.{componentWord, itemWord, parentOf, componentName, componentOf, itemName}
+use Rattle.spec.specs.Path.{Form, subtree, typed, otherForm, formOf, isNamed, hasType, under, inSubtree, inTyped}
+use Rattle.spec.specs.Path.{selectSubtree, selectTyped, selectForm, select}
 use Rattle.spec.specs.declared.Selection.{Selection}
 use Rattle.spec.specs.declared.Selection.the-variants.{Items, NotFound}
 use Rattle.spec.proofs.Words.{by-cond}
 use Rattle.spec.proofs.Bytes.{same-ne}
 use Rattle.spec.proofs.Bits.{set-lt, set-ext}
 use Rattle.spec.proofs.Path.{under-zero}
-use Rattle.path.specs.declared.PathForm.{PathForm}
-use Rattle.path.specs.declared.PathForm.the-variants.{Subtree, Typed}
-use Rattle.path.specs.Forms.{meaning, NamesFit}
+use Rattle.select.specs.declared.PathForm.{PathForm}
+use Rattle.select.specs.declared.PathForm.the-variants.{Subtree, Typed}
+use Rattle.select.specs.Forms.{rootBytes, openingBytes, meaning, NamesFit}
 use Rattle.select.specs.Choice.{taken, chosen, byNames, SelectionFits}
 
 -- ---- names
@@ -30,37 +31,51 @@ use Rattle.select.specs.Choice.{taken, chosen, byNames, SelectionFits}
 letters-max : (s : List ℕ) → letters s ≤ length s
 unfolding letters
 letters-max [] = omega arith
-letters-max (x ∷ xs) = by-cond (λ (r : ℕ). r ≤ length (x ∷ xs)) (nameByte x) _ _ (λ e. omega (arith, letters-max xs)) (λ e. omega arith)
+letters-max (x ∷ xs) =
+    by-cond (λ (r : ℕ). r ≤ length (x ∷ xs)) (nameByte x) _ _
+    (λ e. omega (arith, letters-max xs))
+    (λ e. omega arith)
 
 -- n bytes of c are t: they agree with t as far as t goes, and n is its length
 same-front : (c t : List ℕ) (n : ℕ) → n ≤ length c → same (take n c) t ≡ same (take (length t) c) t && eqb n (length t)
 same-front c t n h = go (eqb n (length t)) refl
   where
     go : (b : Bool) → eqb n (length t) ≡ b → same (take n c) t ≡ same (take (length t) c) t && b
-    go true e = ap (λ (m : ℕ). same (take m c) t) (eqb-true n (length t) e) ∙ sym (and-true (same (take (length t) c) t))
-    go false e = same-ne (take n c) t (λ q. eqb-false n (length t) e (sym (length-take-le n c h) ∙ ap length q)) ∙ sym (and-false (same (take (length t) c) t))
+    go true e =
+        ap (λ (m : ℕ). same (take m c) t) (eqb-true n (length t) e)
+        ∙ sym (and-true (same (take (length t) c) t))
+    go false e =
+        same-ne (take n c) t (λ q. eqb-false n (length t) e (sym (length-take-le n c h) ∙ ap length q))
+        ∙ sym (and-false (same (take (length t) c) t))
+
+-- l bytes from a place on, as the code lends them
+abbrev pub lent : List ℕ → ℕ → ℕ → List ℕ
+lent s at l = take (at + l - at) (drop at s)
 
 module _ (names : List ℕ) (k : ℕ) (t : List ℕ) where
   pub named-not-longer : nameBytes < length t → false ≡ isNamed names k t
   unfolding isNamed
   named-not-longer h =
       let c : List ℕ = nameCell names k in
-      sym (same-ne (take (letters c) c) t (λ e. omega (arith, ap length e, length-take (letters c) c, length-take nameBytes (drop (nameBytes * k) names))))
+      let l = length-take nameBytes (drop (nameBytes * k) names) in
+      sym (same-ne (take (letters c) c) t (λ e. omega (arith, ap length e, length-take (letters c) c, l)))
 
   -- the front of the name's cell, as the code takes it, against t
-  module _ (h : length t ≤ nameBytes) (b : Bool) (eb : b ≡ same (take (nameBytes * k + length t - nameBytes * k) (drop (nameBytes * k) names)) t) where
+  module _ (h : length t ≤ nameBytes) (b : Bool) (eb : b ≡ same (lent names (nameBytes * k) (length t)) t) where
     named-is : isNamed names k t ≡ b && eqb (letters (nameCell names k)) (length t)
     unfolding isNamed
     named-is =
         let c : List ℕ = nameCell names k in
         let a : nameBytes * k + length t - nameBytes * k ≡ length t = omega arith in
-        let f : same (take (length t) c) t ≡ b = rw (take-take (length t) nameBytes (drop (nameBytes * k) names) h) (sym (rw a at eb)) in
+        let f : same (take (length t) c) t ≡ b =
+        rw (take-take (length t) nameBytes (drop (nameBytes * k) names) h) (sym (rw a at eb)) in
         same-front c t (letters c) (letters-max c) ∙ ap (λ (x : Bool). x && eqb (letters c) (length t)) f
 
     pub named-other : b ≡ false → false ≡ isNamed names k t
     named-other z = sym (named-is ∙ rw z)
 
-    pub named-so-far : b ≡ true → (n : ℕ) → n ≡ letters (take (nameBytes * k + nameBytes - nameBytes * k) (drop (nameBytes * k) names)) → eqb n (length t) ≡ isNamed names k t
+    pub named-so-far : b ≡ true → (n : ℕ) → n ≡ letters (lent names (nameBytes * k) nameBytes)
+        → eqb n (length t) ≡ isNamed names k t
     named-so-far z n en =
         let a : nameBytes * k + nameBytes - nameBytes * k ≡ nameBytes = omega arith in
         let f : n ≡ letters (nameCell names k) = en ∙ rw a in
@@ -113,7 +128,9 @@ chosen-is model names set u y j w b ew eb = rw (eb, ew)
 module _ (model names t y : List ℕ) (set : ℕ) (e : set ≡ under model names t (components model)) where
   chosen-subtree : setOf (chosen model names set false y) (items model) ≡ setOf (inSubtree model names t) (items model)
   unfolding chosen taken inSubtree
-  chosen-subtree = set-ext _ _ (items model) (λ j h. rw e (and-true (bit (under model names t (components model)) (componentOf (itemWord model j)))))
+  chosen-subtree =
+      set-ext _ _ (items model)
+      (λ j h. rw e (and-true (bit (under model names t (components model)) (componentOf (itemWord model j)))))
 
   chosen-typed : setOf (chosen model names set true y) (items model) ≡ setOf (inTyped model names t y) (items model)
   unfolding chosen taken inTyped inSubtree
@@ -153,10 +170,10 @@ module _ (model names t y : List ℕ) (set : ℕ) (e : set ≡ under model names
       typed-items n = rw (f, some-one z, ← items-are, ne-eqb q 0 n)
 
 -- ---- the forms
-pub subtree-fits : (f : PathForm) (n l : ℕ) → f ≡ Subtree n → NamesFit f l → 2 + n ≤ l
+pub subtree-fits : (f : PathForm) (n l : ℕ) → f ≡ Subtree n → NamesFit f l → rootBytes + n ≤ l
 subtree-fits f n l e h = rw e at h
 
-pub typed-fits : (f : PathForm) (n k l : ℕ) → f ≡ Typed n k → NamesFit f l → 2 + n + 18 + k ≤ l
+pub typed-fits : (f : PathForm) (n k l : ℕ) → f ≡ Typed n k → NamesFit f l → rootBytes + n + openingBytes + k ≤ l
 typed-fits f n k l e h = rw e at h
 
 pub form-is : (path : List ℕ) (f g : PathForm) → f ≡ g → meaning path f ≡ formOf path → meaning path g ≡ formOf path
@@ -165,7 +182,10 @@ form-is path f g e h = rw e at h
 form-fits : (model names : List ℕ) (f : Form) → SelectionFits (selectForm model names f) (items model)
 unfolding selectForm selectSubtree selectTyped
 form-fits model names (subtree t) =
-    by-cond (λ (x : Selection). SelectionFits x (items model)) (anyBelow (hasType model names t) (components model)) _ _ (λ e. set-lt _ _) (λ e. tt)
+    by-cond (λ (x : Selection). SelectionFits x (items model))
+    (anyBelow (hasType model names t) (components model)) _ _
+    (λ e. set-lt _ _)
+    (λ e. tt)
 form-fits model names (typed t y) =
     let P : Selection → Type 0 = λ (x : Selection). SelectionFits x (items model) in
     by-cond P (anyBelow (hasType model names t) (components model)) _ _
@@ -173,7 +193,8 @@ form-fits model names (typed t y) =
     (λ e. tt)
 form-fits model names otherForm = tt
 
-pub path-fits : (model names path : List ℕ) (r : Selection) → r ≡ select model names (some path) → SelectionFits r (items model)
+pub path-fits : (model names path : List ℕ) (r : Selection) → r ≡ select model names (some path)
+    → SelectionFits r (items model)
 unfolding select
 path-fits model names path r e = rw e (form-fits model names (formOf path))
 
@@ -182,16 +203,17 @@ module _ (model names path : List ℕ) where
   unfolding select selectForm
   path-other e = rw (← e)
 
-  pub path-subtree : (n : ℕ) (r : Selection) → subtree (take n (drop 2 path)) ≡ formOf path
-      → r ≡ selectSubtree model names (take (2 + n - 2) (drop 2 path)) → r ≡ select model names (some path)
+  pub path-subtree : (n : ℕ) (r : Selection) → subtree (take n (drop rootBytes path)) ≡ formOf path
+      → r ≡ selectSubtree model names (lent path rootBytes n) → r ≡ select model names (some path)
   unfolding select selectForm
-  path-subtree n r e g = let q : 2 + n - 2 ≡ n = omega arith in g ∙ rw (q, ← e)
+  path-subtree n r e g = let q : rootBytes + n - rootBytes ≡ n = omega arith in g ∙ rw (q, ← e)
 
-  pub path-typed : (n k : ℕ) (r : Selection) → typed (take n (drop 2 path)) (take k (drop (2 + n + 18) path)) ≡ formOf path
-      → r ≡ selectTyped model names (take (2 + n - 2) (drop 2 path)) (take (2 + n + 18 + k - (2 + n + 18)) (drop (2 + n + 18) path))
+  pub path-typed : (n k : ℕ) (r : Selection)
+      → typed (take n (drop rootBytes path)) (take k (drop (rootBytes + n + openingBytes) path)) ≡ formOf path
+      → r ≡ selectTyped model names (lent path rootBytes n) (lent path (rootBytes + n + openingBytes) k)
       → r ≡ select model names (some path)
   unfolding select selectForm
   path-typed n k r e g =
-      let q : 2 + n - 2 ≡ n = omega arith in
-      let h : 2 + n + 18 + k - (2 + n + 18) ≡ k = omega arith in
+      let q : rootBytes + n - rootBytes ≡ n = omega arith in
+      let h : rootBytes + n + openingBytes + k - (rootBytes + n + openingBytes) ≡ k = omega arith in
       g ∙ rw (q, h, ← e)

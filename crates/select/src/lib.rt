@@ -9,8 +9,16 @@ ghost use Rattle.spec.specs.Model.{nameBytes, maxComponents, Checked, component
 ghost use Rattle.spec.specs.Model.{parentOf, componentName, componentOf, itemName};
 ghost use Rattle.spec.specs.Path.{isNamed, under, select};
 ghost use Rattle.select.specs.Choice.{taken, chosen, byNames, SelectionFits};
-use path::PathForm;
 use spec::Selection;
+
+mod path;
+
+// The form of a path: //T, by the length of T, and //T//DataItem[@type="Y"], by the lengths of T and Y.
+pub enum PathForm {
+    Subtree(usize),
+    Typed(usize, usize),
+    Other,
+}
 
 // Whether name k is the text t. Most names differ early: only a name that agrees so far is measured.
 fn is_named(names: &[u8], k: u64, t: &[u8]) -> bool
@@ -42,7 +50,7 @@ fn joins(names: &[u8], word: u64, t: &[u8], set: u64) -> bool
     selection::has(set, model::parent_of(word))
 }
 
-// The components that have type name t, or an ancestor that has. A parent stands before its children, so one pass does it.
+// The components that have type name t, or an ancestor that has. One pass does: a parent stands before its children.
 fn under_type(model: &[u32], names: &[u8], t: &[u8]) -> u64
     requires { ⌜ Checked (now model) (now names) ⌝ }
     ensures { λ r. ⌜ r
@@ -120,14 +128,14 @@ pub fn select_path(model: &[u32], names: &[u8], path: &[u8]) -> Selection
     let form = path::path_form(path);
     match form {
         PathForm::Subtree(n) => {
-            let end = 2 + n;
-            select_names(model, names, &path[2..end], false, &path[end..])
+            let end = path::ROOT + n;
+            select_names(model, names, &path[path::ROOT..end], false, &path[end..])
         }
         PathForm::Typed(n, k) => {
-            let end = 2 + n;
-            let at = end + 18;
+            let end = path::ROOT + n;
+            let at = end + path::OPENING;
             let stop = at + k;
-            select_names(model, names, &path[2..end], true, &path[at..stop])
+            select_names(model, names, &path[path::ROOT..end], true, &path[at..stop])
         }
         PathForm::Other => Selection::NotFound,
     }

@@ -1,4 +1,4 @@
-// Selections: sets of items, one bit each. The form of a selection is known here alone: others test, add, count, or take all.
+// Selections: sets of items, one bit each. Their form is known here alone: others test, add, count, or take all.
 ghost use mathlib.Core.Path.{_≡_};
 ghost use mathlib.Core.Bool.{cond};
 ghost use Prim.Native.Nat.{_+_, _^_, _<_, _≤_};

@@ -21,13 +21,18 @@ items-requires : tie.Need-items-requires Inv-loop μ-loop
 items-requires c κs = search needs
 
 loop-holds : tie.Need-loop-holds Inv-loop μ-loop
-loop-holds c = (c .items .ensures .0, (omega arith, change-start (c .before .before .args .model .now) _ (c .items .ensures .0)))
+loop-holds c =
+    let m = c .items .ensures .0 in
+    (m, (omega arith, change-start (c .before .before .args .model .now) _ m))
 
 category-requires : tie.Need-category-requires Inv-loop μ-loop
 category-requires c κs = search needs
 
 returns : tie.Need-returns Inv-loop μ-loop
-returns c = (first-here _ _ _ _ (c .before .before .before .loop .inv .1 .1) (c .before .before .loop-test .taken) (eq-eqb _ _ (sym (c .before .category .ensures) ∙ c .if1 .taken)), omega arith)
+returns c =
+    let w = c .before .before in
+    let e = eq-eqb _ _ (sym (c .before .category .ensures) ∙ c .if1 .taken) in
+    (first-here _ _ _ _ (w .before .loop .inv .1 .1) (w .loop-test .taken) e, omega arith)
 
 add-j : tie.Need-add-j Inv-loop μ-loop
 add-j c = search needs
@@ -36,7 +41,11 @@ loop-less : tie.Need-loop-less Inv-loop μ-loop
 loop-less c = search needs
 
 loop-again : tie.Need-loop-again Inv-loop μ-loop
-loop-again c = (c .before .before .before .loop .inv .0, (omega arith, first-on _ _ _ _ (c .before .before .before .loop .inv .1 .1) (c .before .before .loop-test .taken) (ne-eqb _ _ (λ e. c .if1 .left (c .before .category .ensures ∙ e)))))
+loop-again c =
+    let w = c .before .before in
+    let i = w .before .loop .inv in
+    let n = ne-eqb _ _ (λ e. c .if1 .left (c .before .category .ensures ∙ e)) in
+    (i .0, (omega arith, first-on _ _ _ _ (i .1 .1) (w .loop-test .taken) n))
 
 returns-2 : tie.Need-returns-2 Inv-loop μ-loop
 returns-2 c = (first-end _ _ _ _ (c .before .loop .inv .1 .1) (c .loop-test .left), omega arith)

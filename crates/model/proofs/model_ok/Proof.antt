@@ -19,26 +19,33 @@ names-ok-requires c κs = search needs
 returns-2 : tie.Need-returns-2
 returns-2 c =
     let s = c .before .before .before .before .before .before .args in
-    model-names (s .model .now) (s .names .now) _ (c .before .before .before .sizes-ok .ensures) (not-false _ (c .before .before .if1 .left))
+    model-names (s .model .now) (s .names .now) _ (c .before .before .before .sizes-ok .ensures)
+    (not-false _ (c .before .before .if1 .left))
     _ (c .before .names-ok .ensures) (not-true _ (c .if2 .taken))
 
 components-ok-requires : tie.Need-components-ok-requires
-components-ok-requires c κs = sizes-known _ _ (c .before .before .before .sizes-ok .ensures) (not-false _ (c .before .before .if1 .left))
+components-ok-requires c κs =
+    let e = c .before .before in
+    sizes-known _ _ (e .before .sizes-ok .ensures) (not-false _ (e .if1 .left))
 
 returns-3 : tie.Need-returns-3
 returns-3 c =
     let s = c .before .before .before .before .before .before .before .before .args in
-    model-components (s .model .now) (s .names .now) _ (c .before .before .before .before .before .sizes-ok .ensures) (not-false _ (c .before .before .before .before .if1 .left))
+    let e = c .before .before .before .before in
+    model-components (s .model .now) (s .names .now) _ (e .before .sizes-ok .ensures) (not-false _ (e .if1 .left))
     _ (c .before .before .before .names-ok .ensures) (not-false _ (c .before .before .if2 .left))
     _ (c .before .components-ok .ensures) (not-true _ (c .if3 .taken))
 
 items-ok-requires : tie.Need-items-ok-requires
-items-ok-requires c κs = sizes-known _ _ (c .before .before .before .before .before .sizes-ok .ensures) (not-false _ (c .before .before .before .before .if1 .left))
+items-ok-requires c κs =
+    let e = c .before .before .before .before in
+    sizes-known _ _ (e .before .sizes-ok .ensures) (not-false _ (e .if1 .left))
 
 returns-4 : tie.Need-returns-4
 returns-4 c =
     let s = c .before .before .before .before .before .before .before .before .before .args in
-    model-items (s .model .now) (s .names .now) _ (c .before .before .before .before .before .before .sizes-ok .ensures) (not-false _ (c .before .before .before .before .before .if1 .left))
+    let e = c .before .before .before .before .before in
+    model-items (s .model .now) (s .names .now) _ (e .before .sizes-ok .ensures) (not-false _ (e .if1 .left))
     _ (c .before .before .before .before .names-ok .ensures) (not-false _ (c .before .before .before .if2 .left))
     _ _ (c .before .before .components-ok .ensures) (not-false _ (c .before .if3 .left)) (c .items-ok .ensures)
 

@@ -28,7 +28,8 @@ name-byte-requires c κs = search needs
 returns : tie.Need-returns Inv-loop μ-loop
 returns c =
     let l = c .before .before .before .before .loop in
-    (letters-stop _ _ (l .inv .1) _ (c .before .before .before .loop-test .taken) (c .before .name-byte .ensures) (not-true _ (c .if1 .taken)), omega arith)
+    let w = c .before .before .before .loop-test .taken in
+    (letters-stop _ _ (l .inv .1) _ w (c .before .name-byte .ensures) (not-true _ (c .if1 .taken)), omega arith)
 
 add-i : tie.Need-add-i Inv-loop μ-loop
 add-i c = search needs
@@ -39,7 +40,8 @@ loop-less c = search needs
 loop-again : tie.Need-loop-again Inv-loop μ-loop
 loop-again c =
     let l = c .before .before .before .before .loop in
-    (omega arith, letters-on _ _ (l .inv .1) _ (c .before .before .before .loop-test .taken) (c .before .name-byte .ensures) (not-false _ (c .if1 .left)))
+    let w = c .before .before .before .loop-test .taken in
+    (omega arith, letters-on _ _ (l .inv .1) _ w (c .before .name-byte .ensures) (not-false _ (c .if1 .left)))
 
 returns-2 : tie.Need-returns-2 Inv-loop μ-loop
 returns-2 c = (letters-end _ _ (c .before .loop .inv .1) (c .loop-test .left), omega arith)

@@ -33,7 +33,8 @@ equal-requires c κs = search needs
 returns-2 : tie.Need-returns-2
 returns-2 c =
     let a = c .before .before .before .before .before .before .args in
-    named-other (a .names .now) (a .k) (a .t .now) (omega arith) _ (c .before .equal .ensures) (not-true _ (c .if2 .taken))
+    named-other (a .names .now) (a .k) (a .t .now) (omega arith) _ (c .before .equal .ensures)
+    (not-true _ (c .if2 .taken))
 
 add-end : tie.Need-add-end
 add-end c = search needs
@@ -54,7 +55,8 @@ returns-3 : tie.Need-returns-3
 returns-3 c =
     let a = c .before .before .before .before .before .before .before .before .args in
     let agrees = not-false _ (c .before .before .if2 .left) in
-    named-so-far (a .names .now) (a .k) (a .t .now) (omega arith) _ (c .before .before .before .equal .ensures) agrees _ (c .name-length .ensures .0)
+    named-so-far (a .names .now) (a .k) (a .t .now) (omega arith) _ (c .before .before .before .equal .ensures) agrees
+    _ (c .name-length .ensures .0)
 
 pub is-named-spec : {M : Type 1} → statement M
 is-named-spec =

@@ -12,7 +12,8 @@ use Rattle.select.proofs.items_of.Statement.{statement}
 use Rattle.select.proofs.items_of.Tie as tie
 
 abbrev Inv-loop : tie.InvT-loop
-Inv-loop model names set typed y m selection₀ j₀ selection j = (j ≤ m) × (selection ≡ setOf (chosen model names set typed y) j)
+Inv-loop model names set typed y m selection₀ j₀ selection j =
+    (j ≤ m) × (selection ≡ setOf (chosen model names set typed y) j)
 
 abbrev μ-loop : tie.MeasureT-loop
 μ-loop model names set typed y m selection₀ j₀ selection j = m - j
@@ -25,12 +26,15 @@ unfolding setOf
 loop-holds c = (omega arith, refl)
 
 item-word-requires : tie.Need-item-word-requires Inv-loop μ-loop
-item-word-requires c κs = (c .before .before .before .before .before .before .pre .sizes, omega (arith, c .before .before .items .ensures .0))
+item-word-requires c κs =
+    let m = c .before .before in
+    (m .before .before .before .before .pre .sizes, omega (arith, m .items .ensures .0))
 
 takes-requires : tie.Need-takes-requires Inv-loop μ-loop
 takes-requires c κs =
     let s = c .before .before .before .before .before .before .before in
-    let l : c .before .before .loop .j < items (s .args .model .now) = omega (arith, c .before .before .before .items .ensures .0) in
+    let m = c .before .before .before .items in
+    let l : c .before .before .loop .j < items (s .args .model .now) = omega (arith, m .ensures .0) in
     item-fits (s .args .model .now) (s .args .names .now) (s .pre) _ _ l (c .item-word .ensures)
 
 with-if-requires : tie.Need-with-if-requires Inv-loop μ-loop
@@ -45,7 +49,8 @@ loop-less c = search needs
 loop-again : tie.Need-loop-again Inv-loop μ-loop
 loop-again c =
     let a = c .before .before .before .before .before .before .before .before .before .args in
-    let this = chosen-is (a .model .now) (a .names .now) _ _ (a .y .now) _ _ _ (c .before .before .item-word .ensures) (c .before .takes .ensures) in
+    let word = c .before .before .item-word .ensures in
+    let this = chosen-is (a .model .now) (a .names .now) _ _ (a .y .now) _ _ _ word (c .before .takes .ensures) in
     (omega arith, set-more _ _ _ _ _ (c .before .before .before .before .loop .inv .1) this (c .with-if .ensures))
 
 returns : tie.Need-returns Inv-loop μ-loop

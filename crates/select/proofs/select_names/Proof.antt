@@ -12,7 +12,9 @@ under-type-requires c κs = search needs
 returns : tie.Need-returns
 returns c =
     let a = c .before .before .before .before .before .before .args in
-    type-unknown (a .model .now) (a .names .now) (a .t .now) (a .y .now) _ (c .before .under-type .ensures) (a .typed) (c .if1 .taken)
+    type-unknown (a .model .now) (a .names .now) (a .t .now) (a .y .now) _
+    (c .before .under-type .ensures)
+    (a .typed) (c .if1 .taken)
 
 items-of-requires : tie.Need-items-of-requires
 items-of-requires c κs = search needs
@@ -20,19 +22,34 @@ items-of-requires c κs = search needs
 returns-2 : tie.Need-returns-2
 returns-2 c =
     let a = c .before .before .before .before .before .before .before .before .args in
-    let found = subtree-items (a .model .now) (a .names .now) (a .t .now) (a .y .now) _ (c .before .before .before .under-type .ensures) (c .before .before .if1 .left) _ _ (c .before .items-of .ensures) in
+    let i = c .before in
+    let e = c .before .before in
+    let found =
+    subtree-items (a .model .now) (a .names .now) (a .t .now) (a .y .now) _
+    (c .before .before .before .under-type .ensures)
+    (e .if1 .left) _ _ (i .items-of .ensures) in
     found (not-true _ (c .if2 .taken))
 
 returns-3 : tie.Need-returns-3
 returns-3 c =
     let a = c .before .before .before .before .before .before .before .before .before .args in
-    let found = typed-none (a .model .now) (a .names .now) (a .t .now) (a .y .now) _ (c .before .before .before .before .under-type .ensures) (c .before .before .before .if1 .left) _ _ (c .before .before .items-of .ensures) in
+    let i = c .before .before in
+    let e = c .before .before .before in
+    let found =
+    typed-none (a .model .now) (a .names .now) (a .t .now) (a .y .now) _
+    (c .before .before .before .before .under-type .ensures)
+    (e .if1 .left) _ _ (i .items-of .ensures) in
     found (not-false _ (c .before .if2 .left)) (c .if3 .taken)
 
 returns-4 : tie.Need-returns-4
 returns-4 c =
     let a = c .before .before .before .before .before .before .before .before .before .args in
-    let found = typed-items (a .model .now) (a .names .now) (a .t .now) (a .y .now) _ (c .before .before .before .before .under-type .ensures) (c .before .before .before .if1 .left) _ _ (c .before .before .items-of .ensures) in
+    let i = c .before .before in
+    let e = c .before .before .before in
+    let found =
+    typed-items (a .model .now) (a .names .now) (a .t .now) (a .y .now) _
+    (c .before .before .before .before .under-type .ensures)
+    (e .if1 .left) _ _ (i .items-of .ensures) in
     found (not-false _ (c .before .if2 .left)) (c .if3 .left)
 
 pub select-names-spec : {M : Type 1} → statement M

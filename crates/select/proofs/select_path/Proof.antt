@@ -1,5 +1,7 @@
 -- One law for each form; the names of a form are within the path, which the parts of the path need.
-use Rattle.select.proofs.Laws.{subtree-fits, typed-fits, form-is, path-subtree, path-typed, path-other, path-fits}
+use Rattle.select.proofs.Laws.{subtree-fits, typed-fits, form-is}
+use Rattle.select.proofs.Laws.{path-subtree, path-typed, path-other, path-fits}
+use Rattle.select.specs.Forms.{rootBytes, openingBytes}
 use native.Mathlib.Omega.{arith}
 use lib.ListN.{length}
 use Prim.Native.Nat.{_+_, _-_, _≤_}
@@ -8,10 +10,14 @@ use Rattle.select.proofs.select_path.Statement.{statement}
 use Rattle.select.proofs.select_path.Tie as tie
 
 -- the names of the form are in the path
-subtree-in : (c : tie.After-known-told) → 2 + c .before .form .given .0 .0 ≤ length (c .before .before .before .before .before .before .before .args .path .now)
+subtree-in : (c : tie.After-known-told)
+    → rootBytes + c .before .form .given .0 .0
+    ≤ length (c .before .before .before .before .before .before .before .args .path .now)
 subtree-in c = subtree-fits _ _ _ (c .before .form .given .1) (c .before .before .before .path-form .ensures .1)
 
-typed-in : (c : tie.After-known-told2) → 2 + c .before .form2 .given .0 .0 + 18 + c .before .form2 .given .0 .1 .0 ≤ length (c .before .before .before .before .before .before .before .args .path .now)
+typed-in : (c : tie.After-known-told2)
+    → rootBytes + c .before .form2 .given .0 .0 + openingBytes + c .before .form2 .given .0 .1 .0
+    ≤ length (c .before .before .before .before .before .before .before .args .path .now)
 typed-in c = typed-fits _ _ _ _ (c .before .form2 .given .1) (c .before .before .before .path-form .ensures .1)
 
 path-form-requires : tie.Need-path-form-requires
@@ -83,15 +89,20 @@ enum-told c = search needs
 returns : tie.Need-returns
 returns c =
     let a = c .before .before .before .before .before .before .before .before .before .before .args in
-    let f = form-is (a .path .now) _ _ (c .before .before .before .before .form .given .1) (c .before .before .before .before .before .before .path-form .ensures .0) in
-    let e = path-subtree (a .model .now) (a .names .now) (a .path .now) (c .before .before .before .before .form .given .0 .0) _ f (c .select-names .ensures) in
+    let k = c .before .before .before .before in
+    let f = form-is (a .path .now) _ _ (k .form .given .1) (k .before .before .path-form .ensures .0) in
+    let n = k .form .given .0 .0 in
+    let e = path-subtree (a .model .now) (a .names .now) (a .path .now) n _ f (c .select-names .ensures) in
     (e, path-fits (a .model .now) (a .names .now) (a .path .now) _ e)
 
 returns-2 : tie.Need-returns-2
 returns-2 c =
     let a = c .before .before .before .before .before .before .before .before .before .before .args in
-    let f = form-is (a .path .now) _ _ (c .before .before .before .before .form2 .given .1) (c .before .before .before .before .before .before .path-form .ensures .0) in
-    let e = path-typed (a .model .now) (a .names .now) (a .path .now) (c .before .before .before .before .form2 .given .0 .0) (c .before .before .before .before .form2 .given .0 .1 .0) _ f (c .select-names2 .ensures) in
+    let k = c .before .before .before .before in
+    let f = form-is (a .path .now) _ _ (k .form2 .given .1) (k .before .before .path-form .ensures .0) in
+    let g = k .form2 .given .0 in
+    let s = c .select-names2 .ensures in
+    let e = path-typed (a .model .now) (a .names .now) (a .path .now) (g .0) (g .1 .0) _ f s in
     (e, path-fits (a .model .now) (a .names .now) (a .path .now) _ e)
 
 returns-3 : tie.Need-returns-3

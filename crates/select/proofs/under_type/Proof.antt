@@ -24,18 +24,22 @@ unfolding under
 loop-holds c = (omega arith, refl)
 
 component-word-requires : tie.Need-component-word-requires Inv-loop μ-loop
-component-word-requires c κs = (c .before .before .before .before .before .before .pre .sizes, omega (arith, c .before .before .components .ensures .0))
+component-word-requires c κs =
+    let n = c .before .before in
+    (n .before .before .before .before .pre .sizes, omega (arith, n .components .ensures .0))
 
 joins-requires : tie.Need-joins-requires Inv-loop μ-loop
 joins-requires c κs =
     let s = c .before .before .before .before .before .before .before in
-    let l : c .before .before .loop .i < components (s .args .model .now) = omega (arith, c .before .before .before .components .ensures .0) in
+    let n = c .before .before .before .components in
+    let l : c .before .before .loop .i < components (s .args .model .now) = omega (arith, n .ensures .0) in
     component-fits (s .args .model .now) (s .args .names .now) (s .pre) _ _ l (c .component-word .ensures)
 
 with-if-requires : tie.Need-with-if-requires Inv-loop μ-loop
 with-if-requires c κs =
     let a = c .before .before .before .before .before .before .before .before .args in
-    (omega arith, rw (c .before .before .before .loop .inv .1) (under-lt (a .model .now) (a .names .now) (a .t .now) _))
+    let so-far = c .before .before .before .loop .inv .1 in
+    (omega arith, rw so-far (under-lt (a .model .now) (a .names .now) (a .t .now) _))
 
 add-i : tie.Need-add-i Inv-loop μ-loop
 add-i c = search needs
@@ -47,7 +51,9 @@ loop-again : tie.Need-loop-again Inv-loop μ-loop
 loop-again c =
     let a = c .before .before .before .before .before .before .before .before .before .args in
     let so-far = c .before .before .before .before .loop .inv .1 in
-    let joined = under-more (a .model .now) (a .names .now) (a .t .now) _ _ _ _ _ so-far (c .before .before .component-word .ensures) (c .before .joins .ensures) (c .with-if .ensures) in
+    let joined =
+    under-more (a .model .now) (a .names .now) (a .t .now) _ _ _ _ _ so-far
+    (c .before .before .component-word .ensures) (c .before .joins .ensures) (c .with-if .ensures) in
     (omega arith, joined)
 
 returns : tie.Need-returns Inv-loop μ-loop

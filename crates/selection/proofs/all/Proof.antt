@@ -14,7 +14,9 @@ shr-result : tie.Need-shr-result
 shr-result c = search needs
 
 returns : tie.Need-returns
-returns c = (all-shifted (c .args .m) (c .pre .1), rw (all-shifted (c .args .m) (c .pre .1)) (set-lt anyItem (c .args .m)))
+returns c =
+    let e = all-shifted (c .args .m) (c .pre .1) in
+    (e, rw e (set-lt anyItem (c .args .m)))
 
 pub all-spec : {M : Type 1} → statement M
 all-spec = tie.close (tie.spec sub-result shr-result returns)

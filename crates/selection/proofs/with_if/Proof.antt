@@ -8,7 +8,9 @@ shl-result : tie.Need-shl-result
 shl-result c = search needs
 
 returns : tie.Need-returns
-returns c = rw (c .if1 .taken) (or-shifted (c .before .args .set) (c .before .args .i) (c .before .pre .0) (c .before .pre .1))
+returns c =
+    let s = c .before in
+    rw (c .if1 .taken) (or-shifted (s .args .set) (s .args .i) (s .pre .0) (s .pre .1))
 
 returns-2 : tie.Need-returns-2
 returns-2 c = rw (c .if1 .left)

@@ -13,7 +13,8 @@ use Rattle.model.proofs.cells.cell_bytes.Statement.{statement}
 use Rattle.model.proofs.cells.cell_bytes.Tie as tie
 
 abbrev Inv-loop : tie.InvT-loop
-Inv-loop s fine₀ i₀ fine i = (i ≤ length s) × (cellBytes s ≡ (fine && every (λ k. cellByte (getD s k 0)) (length s - i) i))
+Inv-loop s fine₀ i₀ fine i =
+    (i ≤ length s) × (cellBytes s ≡ (fine && every (λ k. cellByte (getD s k 0)) (length s - i) i))
 
 abbrev μ-loop : tie.MeasureT-loop
 μ-loop s fine₀ i₀ fine i = length s - i
@@ -37,7 +38,8 @@ loop-again : tie.Need-loop-again Inv-loop μ-loop
 loop-again c =
     let s = c .before .before .before .before .before .args .s .now in
     let l = c .before .before .before .loop in
-    (omega arith, every-keep (λ k. cellByte (getD s k 0)) _ (l .fine) _ _ (l .inv .1) _ (c .before .before .loop-test .taken) (c .cell-byte .ensures))
+    let w = c .before .before .loop-test .taken in
+    (omega arith, every-keep (λ k. cellByte (getD s k 0)) _ (l .fine) _ _ (l .inv .1) _ w (c .cell-byte .ensures))
 
 returns : tie.Need-returns Inv-loop μ-loop
 returns c = every-kept _ _ _ _ _ (c .before .loop .inv .1) (c .loop-test .left)

@@ -1,4 +1,5 @@
--- The invariant: the cells from k on decide the whole, where every byte may stand in a cell. The measure is what is left of the cells.
+-- The invariant: the cells from k on decide the whole, where every byte may stand in a cell. The measure is the cells
+-- left.
 use borrow.Author.Tests.{not-true, not-false}
 use mathlib.Core.Bool.{true, false≢true}
 use Rattle.model.proofs.CellLaws.{cells-fit, cell-at, names-bytes}
@@ -16,7 +17,8 @@ use Rattle.model.proofs.cells.names_ok.Statement.{statement}
 use Rattle.model.proofs.cells.names_ok.Tie as tie
 
 abbrev Inv-loop : tie.InvT-loop
-Inv-loop names l n k₀ k = (k ≤ n) × ((cellBytes names ≡ true) × (namesOk names ≡ every (λ x. cellOk (nameCell names x)) (n - k) k))
+Inv-loop names l n k₀ k =
+    (k ≤ n) × ((cellBytes names ≡ true) × (namesOk names ≡ every (λ x. cellOk (nameCell names x)) (n - k) k))
 
 abbrev μ-loop : tie.MeasureT-loop
 μ-loop names l n k₀ k = n - k
@@ -34,15 +36,18 @@ cell-bytes-requires : tie.Need-cell-bytes-requires Inv-loop μ-loop
 cell-bytes-requires c κs = search needs
 
 returns-4 : tie.Need-returns-4 Inv-loop μ-loop
-returns-4 c = no-names _ (λ h. false≢true (sym (not-true _ (c .if4 .taken)) ∙ (c .before .cell-bytes .ensures ∙ names-bytes _ h)))
+returns-4 c =
+    let b = c .before .cell-bytes .ensures in
+    no-names _ (λ h. false≢true (sym (not-true _ (c .if4 .taken)) ∙ (b ∙ names-bytes _ h)))
 
 loop-holds : tie.Need-loop-holds Inv-loop μ-loop
 loop-holds c =
-    let s = c .before .before .before .before .before .before in (
+    let w = c .before .before in
+    let s = w .before .before .before .before in (
       omega arith,
       (
         sym (c .before .cell-bytes .ensures) ∙ not-false _ (c .if4 .left),
-        names-start (s .args .names .now) (c .before .before .before .before .if1 .left) (c .before .before .before .if2 .left) (c .before .before .if3 .left),
+        names-start (s .args .names .now) (w .before .before .if1 .left) (w .before .if2 .left) (w .if3 .left),
       ),
     )
 
@@ -76,7 +81,8 @@ returns-5 c =
     let l = c .before .before .before .before .loop in
     let w = c .before .before .before .loop-test .taken in
     every-no _ _ _ _ (l .inv .1 .1) w
-    (cell-at (s .args .names .now) _ w _ _ (l .inv .1 .0) (c .before .zeros-last .ensures) (not-true _ (c .if5 .taken)))
+    (cell-at (s .args .names .now) _ w _ _ (l .inv .1 .0) (c .before .zeros-last .ensures)
+    (not-true _ (c .if5 .taken)))
 
 add-k : tie.Need-add-k Inv-loop μ-loop
 add-k c = search needs
@@ -93,7 +99,8 @@ loop-again c =
       (
         l .inv .1 .0,
         every-yes _ _ _ _ (l .inv .1 .1) w
-            (cell-at (s .args .names .now) _ w _ _ (l .inv .1 .0) (c .before .zeros-last .ensures) (not-false _ (c .if5 .left))),
+            (cell-at (s .args .names .now) _ w _ _ (l .inv .1 .0) (c .before .zeros-last .ensures)
+            (not-false _ (c .if5 .left))),
       ),
     )
 

@@ -13,7 +13,10 @@ use Rattle.model.proofs.cells.zeros_last.Statement.{statement}
 use Rattle.model.proofs.cells.zeros_last.Tie as tie
 
 abbrev Inv-loop : tie.InvT-loop
-Inv-loop cell last fine₀ i₀ fine i = (i ≤ last) × ((last ≡ length cell - 1) × (zerosLast cell ≡ (fine && every (λ k. follows (getD cell k 0) (getD cell (k + 1) 0)) (last - i) i)))
+Inv-loop cell last fine₀ i₀ fine i =
+    (i ≤ last)
+    × ((last ≡ length cell - 1)
+    × (zerosLast cell ≡ (fine && every (λ k. follows (getD cell k 0) (getD cell (k + 1) 0)) (last - i) i)))
 
 abbrev μ-loop : tie.MeasureT-loop
 μ-loop cell last fine₀ i₀ fine i = last - i
@@ -52,7 +55,8 @@ loop-again c =
       omega arith,
       (
         l .inv .1 .0,
-        every-keep (λ k. follows (getD s k 0) (getD s (k + 1) 0)) _ (l .fine) _ _ (l .inv .1 .1) _ (c .before .before .before .loop-test .taken) (c .follows .ensures),
+        every-keep (λ k. follows (getD s k 0) (getD s (k + 1) 0)) _ (l .fine) _ _ (l .inv .1 .1) _
+            (c .before .before .before .loop-test .taken) (c .follows .ensures),
       ),
     )
 

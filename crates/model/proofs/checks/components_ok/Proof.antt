@@ -12,7 +12,10 @@ use Rattle.model.proofs.checks.components_ok.Statement.{statement}
 use Rattle.model.proofs.checks.components_ok.Tie as tie
 
 abbrev Inv-loop : tie.InvT-loop
-Inv-loop model names c i₀ i = (c ≡ components model) × ((i ≤ c) × (componentsOk model names ≡ every (λ k. componentOk names k (componentWord model k)) (c - i) i))
+Inv-loop model names c i₀ i =
+    (c ≡ components model)
+    × ((i ≤ c)
+    × (componentsOk model names ≡ every (λ k. componentOk names k (componentWord model k)) (c - i) i))
 
 abbrev μ-loop : tie.MeasureT-loop
 μ-loop model names c i₀ i = c - i
@@ -21,7 +24,9 @@ components-requires : tie.Need-components-requires Inv-loop μ-loop
 components-requires c κs = search needs
 
 loop-holds : tie.Need-loop-holds Inv-loop μ-loop
-loop-holds c = (c .components .ensures .0, (omega arith, components-start (c .before .before .args .model .now) _ _ (c .components .ensures .0)))
+loop-holds c =
+    let n = c .components .ensures .0 in
+    (n, (omega arith, components-start (c .before .before .args .model .now) _ _ n))
 
 component-word-requires : tie.Need-component-word-requires Inv-loop μ-loop
 component-word-requires c κs = search needs
@@ -34,7 +39,8 @@ returns c =
     let s = c .before .before .before .before .before .before .before in
     let l = c .before .before .before .before .loop in
     every-no _ _ _ _ (l .inv .1 .1) (c .before .before .before .loop-test .taken)
-    (component-at (s .args .model .now) _ _ (l .inv .0) _ _ _ _ (c .before .component-ok .ensures) (c .before .before .component-word .ensures) (not-true _ (c .if1 .taken)))
+    (component-at (s .args .model .now) _ _ (l .inv .0) _ _ _ _ (c .before .component-ok .ensures)
+    (c .before .before .component-word .ensures) (not-true _ (c .if1 .taken)))
 
 add-i : tie.Need-add-i Inv-loop μ-loop
 add-i c = search needs
@@ -50,7 +56,8 @@ loop-again c =
       (
         omega arith,
         every-yes _ _ _ _ (l .inv .1 .1) (c .before .before .before .loop-test .taken)
-            (component-at (s .args .model .now) _ _ (l .inv .0) _ _ _ _ (c .before .component-ok .ensures) (c .before .before .component-word .ensures) (not-false _ (c .if1 .left))),
+            (component-at (s .args .model .now) _ _ (l .inv .0) _ _ _ _ (c .before .component-ok .ensures)
+            (c .before .before .component-word .ensures) (not-false _ (c .if1 .left))),
       ),
     )
 

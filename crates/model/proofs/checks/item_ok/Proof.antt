@@ -24,4 +24,6 @@ returns-3 : tie.Need-returns-3
 returns-3 c = item-fits _ _ _ (omega arith) (omega arith) _ (c .item-name .ensures)
 
 pub item-ok-spec : {M : Type 1} → statement M
-item-ok-spec = tie.close (tie.spec category-of-requires returns component-of-requires returns-2 item-name-requires returns-3)
+item-ok-spec =
+    tie.close
+    (tie.spec category-of-requires returns component-of-requires returns-2 item-name-requires returns-3)

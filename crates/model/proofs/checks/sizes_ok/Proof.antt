@@ -41,7 +41,8 @@ add-result-2 c = search needs
 returns-6 : tie.Need-returns-6
 returns-6 c =
     let s = c .before .before .before .before .before .before .before .before .before .before in
-    sizes-end (s .args .model .now) _ _ (c .before .before .before .before .before .before .wide .ensures) (c .before .before .before .before .wide2 .ensures)
+    let m = c .before .before .before .before in
+    sizes-end (s .args .model .now) _ _ (m .before .before .wide .ensures) (m .wide2 .ensures)
     (omega arith) (omega arith) (omega arith) (omega arith)
 
 pub sizes-ok-spec : {M : Type 1} → statement M

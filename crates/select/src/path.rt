@@ -2,27 +2,30 @@
 ghost use mathlib.Core.Path.{_≡_};
 ghost use lib.ListN.{length};
 ghost use Rattle.spec.specs.Path.{formOf};
-ghost use Rattle.path.specs.Forms.{isTyped, meaning, NamesFit};
+ghost use Rattle.select.specs.Forms.{isTyped, meaning, NamesFit};
+use super::PathForm;
 
-// //T, by the length of T, and //T//DataItem[@type="Y"], by the lengths of T and Y.
-pub enum PathForm {
-    Subtree(usize),
-    Typed(usize, usize),
-    Other,
-}
+// How many bytes stand before T, between T and Y, and behind Y, and around Y together.
+pub const ROOT: usize = 2;
+
+pub const OPENING: usize = 18;
+
+const CLOSING: usize = 2;
+
+const AROUND: usize = OPENING + CLOSING;
 
 // Whether what follows T is that of the second form.
 fn is_typed(rest: &[u8]) -> bool
     ensures { λ r. ⌜ r ≡ isTyped (now (rest .entry)) ⌝ }
 {
     let l = rest.len();
-    if l < 20 {
+    if l < AROUND {
         return false;
     }
-    if !scan::equal(&rest[..18], b"//DataItem[@type=\"") {
+    if !scan::equal(&rest[..OPENING], b"//DataItem[@type=\"") {
         return false;
     }
-    let end = l - 2;
+    let end = l - CLOSING;
     scan::equal(&rest[end..], b"\"]")
 }
 
@@ -32,19 +35,19 @@ pub fn path_form(path: &[u8]) -> PathForm
     ensures { λ r. ⌜ NamesFit r (length (now (path .entry))) ⌝ }
 {
     let l = path.len();
-    if l < 2 {
+    if l < ROOT {
         return PathForm::Other;
     }
-    if !scan::equal(&path[..2], b"//") {
+    if !scan::equal(&path[..ROOT], b"//") {
         return PathForm::Other;
     }
-    let n = scan::find(&path[2..], b'/', b'/');
-    let at = 2 + n;
+    let n = scan::find(&path[ROOT..], b'/', b'/');
+    let at = ROOT + n;
     if l <= at {
-        return PathForm::Subtree(l - 2);
+        return PathForm::Subtree(l - ROOT);
     }
     if !is_typed(&path[at..]) {
         return PathForm::Other;
     }
-    PathForm::Typed(n, l - at - 20)
+    PathForm::Typed(n, l - at - AROUND)
 }

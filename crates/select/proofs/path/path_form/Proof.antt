@@ -1,34 +1,45 @@
 -- One law for each way out; the names lie within the path.
 use Rattle.spec.specs.Bytes.{bytes, same}
-use Rattle.path.specs.Forms.{isTyped}
-use Rattle.path.proofs.Laws.{short, unrooted, subtree-form, other-form, typed-form, typed-is, typed-long}
+use Rattle.select.specs.Forms.{rootBytes, aroundBytes, isTyped}
+use Rattle.select.proofs.PathLaws.{short, unrooted, subtree-form, other-form, typed-form, typed-is, typed-long}
 use lib.Seq.{length-take-le}
 use borrow.Author.Tests.{not-true, not-false}
 use native.Mathlib.Omega.{arith}
 use lib.ListN.{length, take, drop}
-use Prim.Native.Nat.{_+_, _-_, _≤_}
+use Prim.Native.Nat.{ℕ, _+_, _-_, _≤_}
 use mathlib.Core.Path.{_≡_, sym, _∙_}
 use mathlib.Core.Bool.{true}
+use mathlib.Core.List.{List}
 use borrow.Author.Needs.{needs}
-use Rattle.path.proofs.path_form.Statement.{statement}
-use Rattle.path.proofs.path_form.Tie as tie
+use Rattle.select.proofs.path.path_form.Statement.{statement}
+use Rattle.select.proofs.path.path_form.Tie as tie
 
 -- the two slashes were found
-root : (c : tie.Else2) → same (take 2 (c .before .before .before .before .before .before .args .path .now)) (bytes "//") ≡ true
+root : (c : tie.Else2)
+    → same (take rootBytes (c .before .before .before .before .before .before .args .path .now)) (bytes "//") ≡ true
 root c = sym (c .before .equal .ensures) ∙ not-false _ (c .if2 .left)
 
--- what follows T is that of the second form
-behind : (c : tie.Else4) → isTyped (drop (2 + c .before .before .before .before .find .result) (c .before .before .before .before .before .before .before .before .before .before .before .before .args .path .now)) ≡ true
-behind c = typed-is (c .before .before .before .before .before .before .before .before .before .before .before .before .args .path .now) _ _ _ (c .before .is-typed .ensures) (not-false _ (c .if4 .left))
+-- the path, and where T ends in it
+abbrev text : tie.Else4 → List ℕ
+text c =
+    let f = c .before .before .before .before in
+    f .before .before .before .before .before .before .before .before .args .path .now
 
-long : (c : tie.Else4) → 20 ≤ length (c .before .before .before .before .before .before .before .before .before .before .before .before .args .path .now) - (2 + c .before .before .before .before .find .result)
-long c = typed-long (c .before .before .before .before .before .before .before .before .before .before .before .before .args .path .now) _ (behind c)
+abbrev stop : tie.Else4 → ℕ
+stop c = rootBytes + c .before .before .before .before .find .result
+
+-- what follows T is that of the second form
+behind : (c : tie.Else4) → isTyped (drop (stop c) (text c)) ≡ true
+behind c = typed-is (text c) _ _ _ (c .before .is-typed .ensures) (not-false _ (c .if4 .left))
+
+long : (c : tie.Else4) → aroundBytes ≤ length (text c) - stop c
+long c = typed-long (text c) _ (behind c)
 
 returns : tie.Need-returns
 returns c = (short _ (c .if1 .taken), tt)
 
 slice-aggregate-equal : tie.Need-slice-aggregate-equal
-slice-aggregate-equal c = sym (length-take-le 2 (c .before .before .before .args .path .now) (omega arith))
+slice-aggregate-equal c = sym (length-take-le rootBytes (c .before .before .before .args .path .now) (omega arith))
 
 slice-aggregate-equal-2 : tie.Need-slice-aggregate-equal-2
 slice-aggregate-equal-2 c = search needs
@@ -55,7 +66,9 @@ add-at : tie.Need-add-at
 add-at c = search needs
 
 returns-3 : tie.Need-returns-3
-returns-3 c = (subtree-form _ (root (c .before .before .before)) _ (c .before .find .ensures .0) (c .if3 .taken), omega arith)
+returns-3 c =
+    let f = c .before .find .ensures .0 in
+    (subtree-form _ (root (c .before .before .before)) _ f (c .if3 .taken), omega arith)
 
 sub-is-typed : tie.Need-sub-is-typed
 sub-is-typed c = search needs
@@ -71,9 +84,11 @@ is-typed-requires c κs = search needs
 
 returns-4 : tie.Need-returns-4
 returns-4 c =
-    let f = c .before .before .before .before .find .ensures .0 in
-    let t = typed-is (c .before .before .before .before .before .before .before .before .before .before .before .before .args .path .now) _ _ _ (c .before .is-typed .ensures) (not-true _ (c .if4 .taken)) in
-    (other-form _ (root (c .before .before .before .before .before .before)) _ f (c .before .before .before .if3 .left) t, tt)
+    let e = c .before .before .before in
+    let f = e .before .find in
+    let s = e .before .before .before .before .before .before .before .before .before .args .path .now in
+    let t = typed-is s _ _ _ (c .before .is-typed .ensures) (not-true _ (c .if4 .taken)) in
+    (other-form _ (root (e .before .before .before)) _ (f .ensures .0) (e .if3 .left) t, tt)
 
 sub-t13 : tie.Need-sub-t13
 sub-t13 c = search needs
@@ -83,8 +98,9 @@ sub-t20 c = omega (arith, long c)
 
 returns-5 : tie.Need-returns-5
 returns-5 c =
-    let f = c .before .before .before .before .find .ensures .0 in
-    (typed-form _ (root (c .before .before .before .before .before .before)) _ f (c .before .before .before .if3 .left) (behind c), omega (arith, long c))
+    let e = c .before .before .before in
+    let f = e .before .find .ensures .0 in
+    (typed-form _ (root (e .before .before .before)) _ f (e .if3 .left) (behind c), omega (arith, long c))
 
 pub path-form-spec : {M : Type 1} → statement M
 path-form-spec =
