@@ -23,7 +23,8 @@ use Rattle.spec.proofs.Bits.{set-lt, set-ext}
 use Rattle.spec.proofs.Path.{under-zero}
 use Rattle.select.specs.declared.PathForm.{PathForm}
 use Rattle.select.specs.declared.PathForm.the-variants.{Subtree, Typed}
-use Rattle.select.specs.Forms.{rootBytes, openingBytes, meaning, NamesFit}
+use Rattle.spec.specs.Path.{rootBytes, openingBytes}
+use Rattle.select.specs.Forms.{meaning, NamesFit}
 use Rattle.select.specs.Choice.{taken, chosen, byNames, SelectionFits}
 
 -- ---- names

@@ -12,7 +12,8 @@ use Rattle.spec.specs.Bytes.{bytes, same, before}
 use Rattle.spec.proofs.Words.{and-left}
 use Rattle.spec.proofs.Bytes.{same-ne}
 use Rattle.spec.specs.Path.{subtree, typed, otherForm, opening, closing, typedForm, formBehind, formOf}
-use Rattle.select.specs.Forms.{rootBytes, openingBytes, closingBytes, aroundBytes, isTyped}
+use Rattle.spec.specs.Path.{rootBytes, openingBytes, closingBytes, aroundBytes}
+use Rattle.select.specs.Forms.{isTyped}
 
 -- the rest of a list from a place on, as the code lends it
 abbrev pub rest : List ℕ → ℕ → List ℕ

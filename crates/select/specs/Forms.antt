@@ -5,22 +5,9 @@ use mathlib.Core.List.{List}
 use lib.Dec.{leb}
 use lib.ListN.{length, take, drop}
 use Rattle.spec.specs.Bytes.{same}
-use Rattle.spec.specs.Path.{Form, subtree, typed, otherForm, opening, closing}
+use Rattle.spec.specs.Path.{Form, subtree, typed, otherForm, rootBytes, openingBytes, closingBytes, aroundBytes, opening, closing}
 use Rattle.select.specs.declared.PathForm.{PathForm}
 use Rattle.select.specs.declared.PathForm.the-variants.{Subtree, Typed, Other}
-
--- bytes before T; between T and Y; behind Y; around Y
-abbrev pub rootBytes : ℕ
-rootBytes = 2
-
-abbrev pub openingBytes : ℕ
-openingBytes = 18
-
-abbrev pub closingBytes : ℕ
-closingBytes = 2
-
-abbrev pub aroundBytes : ℕ
-aroundBytes = openingBytes + closingBytes
 
 -- the form, with the names out of the path
 abbrev pub meaning : List ℕ → PathForm → Form

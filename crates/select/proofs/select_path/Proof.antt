@@ -1,7 +1,7 @@
 -- One law for each form; the names of a form are within the path, which the parts of the path need.
 use Rattle.select.proofs.Laws.{subtree-fits, typed-fits, form-is}
 use Rattle.select.proofs.Laws.{path-subtree, path-typed, path-other, path-fits}
-use Rattle.select.specs.Forms.{rootBytes, openingBytes}
+use Rattle.spec.specs.Path.{rootBytes, openingBytes}
 use native.Mathlib.Omega.{arith}
 use lib.ListN.{length}
 use Prim.Native.Nat.{_+_, _-_, _≤_}

@@ -1,6 +1,6 @@
 -- What follows T is tested for its length, its opening and its closing, in this order.
 use Rattle.select.proofs.PathLaws.{few, unopened, opened}
-use Rattle.select.specs.Forms.{openingBytes}
+use Rattle.spec.specs.Path.{openingBytes}
 use lib.Seq.{length-take-le}
 use borrow.Author.Tests.{not-true, not-false}
 use native.Mathlib.Omega.{arith}

@@ -1,6 +1,7 @@
 -- One law for each way out; the names lie within the path.
 use Rattle.spec.specs.Bytes.{bytes, same}
-use Rattle.select.specs.Forms.{rootBytes, aroundBytes, isTyped}
+use Rattle.spec.specs.Path.{rootBytes, aroundBytes}
+use Rattle.select.specs.Forms.{isTyped}
 use Rattle.select.proofs.PathLaws.{short, unrooted, subtree-form, other-form, typed-form, typed-is, typed-long}
 use lib.Seq.{length-take-le}
 use borrow.Author.Tests.{not-true, not-false}
