@@ -2,23 +2,46 @@
 ghost use mathlib.Core.Path.{_≡_};
 ghost use mathlib.Core.Bool.{true};
 ghost use mathlib.Core.List.{[], _∷_};
-ghost use Prim.Native.Nat.{suc, _+_, _≤_, _<_};
+ghost use Prim.Native.Nat.{suc, _+_, _*_, _≤_, _<_};
 ghost use lib.ListN.{length, getD, replicate};
-ghost use Rattle.spec.specs.Words.{put};
+ghost use Rattle.spec.specs.Words.{row, put};
 ghost use Rattle.spec.specs.Model.{maxItems};
-ghost use Rattle.spec.specs.Observations.{maxRing, maxNumber, ringSize, base, last, latestAt, checkpointAt, latestRow, storeWords, place, firstOf, headOk, Head, evict, evictOk, add, blank, startStore};
-ghost use Rattle.spec.specs.Calls.{roomFor};
+ghost use Rattle.spec.specs.Observations.{maxRing, maxNumber, ringSize, base, last};
+ghost use Rattle.spec.specs.Observations.{latestAt, checkpointAt, latestRow, storeWords, place};
+ghost use Rattle.spec.specs.Observations.{headOk, Head, evict, evictOk, blank, startStore};
+ghost use Rattle.spec.specs.Calls.{first, roomFor, added};
 ghost use Rattle.observations.specs.Adding.{Adding, Overwriting, Sizes};
+ghost use Rattle.observations.specs.Ring.{ringTime, ringWord};
 use spec::Refusal;
 use spec::Value;
 use spec::Verdict;
+
+// The places of the head's words, and how many there are: the ring begins behind them.
+const RING_SIZE_AT: usize = 0;
+
+const ITEM_COUNT_AT: usize = 1;
+
+const BASE_AT: usize = 2;
+
+const LAST_AT: usize = 3;
+
+const HEAD_WORDS: usize = 4;
+
+const RING_AT: u64 = HEAD_WORDS as u64;
+
+// An observation's number, time and packed word.
+pub struct Row {
+    pub number: u64,
+    pub time: u64,
+    pub packed: u64,
+}
 
 // How many words a store of n observations and m items has.
 pub fn words_for(n: u64, m: u64) -> u64
     requires { ⌜ (n ≤ maxRing) × (m ≤ maxItems) ⌝ }
     ensures { λ r. ⌜ r ≡ storeWords n m ⌝ }
 {
-    4 + 2 * n + 6 * m
+    checkpoint_at(n, m) + 3 * m
 }
 
 // Where the latest table begins.
@@ -26,7 +49,7 @@ pub fn latest_at(n: u64) -> u64
     requires { ⌜ n ≤ maxRing ⌝ }
     ensures { λ r. ⌜ r ≡ latestAt n ⌝ }
 {
-    4 + 2 * n
+    RING_AT + 2 * n
 }
 
 // Where the checkpoint table begins.
@@ -34,7 +57,7 @@ pub fn checkpoint_at(n: u64, m: u64) -> u64
     requires { ⌜ (n ≤ maxRing) × (m ≤ maxItems) ⌝ }
     ensures { λ r. ⌜ r ≡ checkpointAt n m ⌝ }
 {
-    4 + 2 * n + 3 * m
+    latest_at(n) + 3 * m
 }
 
 // How many observations the ring holds at most.
@@ -43,7 +66,7 @@ pub fn ring_size(st: &[u64], m: u64) -> u64
     ensures is { λ r. ⌜ r ≡ ringSize (now (st .entry)) ⌝ }
     ensures bounds { λ r. ⌜ (1 ≤ r) × (r ≤ maxRing) ⌝ }
 {
-    st[0]
+    st[RING_SIZE_AT]
 }
 
 // The first number.
@@ -51,7 +74,7 @@ pub fn base(st: &[u64], m: u64) -> u64
     requires { ⌜ Head m (now st) ⌝ }
     ensures { λ r. ⌜ r ≡ base (now (st .entry)) ⌝ }
 {
-    st[2]
+    st[BASE_AT]
 }
 
 // The newest number.
@@ -60,55 +83,55 @@ pub fn last(st: &[u64], m: u64) -> u64
     ensures is { λ r. ⌜ r ≡ last (now (st .entry)) ⌝ }
     ensures high { λ r. ⌜ r ≤ maxNumber ⌝ }
 {
-    st[3]
+    st[LAST_AT]
 }
 
 // Whether the head and the length are right for m items.
 pub fn head_ok(st: &[u64], m: u64) -> bool
-    requires { ⌜ m ≤ 64 ⌝ }
+    requires { ⌜ m ≤ maxItems ⌝ }
     ensures { λ r. ⌜ r ≡ headOk m (now (st .entry)) ⌝ }
 {
-    if st.len() < 4 {
+    if st.len() < HEAD_WORDS {
         return false;
     }
-    let n = st[0];
+    let n = st[RING_SIZE_AT];
     if n < 1 {
         return false;
     }
-    if 131072 < n {
+    if spec::MAX_RING < n {
         return false;
     }
-    if st[1] != m {
+    if st[ITEM_COUNT_AT] != m {
         return false;
     }
-    let b = st[2];
+    let b = st[BASE_AT];
     if b < 1 {
         return false;
     }
     // above 2^63 no number is left for B, and B + m could wrap
-    if 9223372036854775808 < b {
+    if spec::MAX_NUMBER + 1 < b {
         return false;
     }
-    let last = st[3];
-    if 9223372036854775807 < last {
+    let last = st[LAST_AT];
+    if spec::MAX_NUMBER < last {
         return false;
     }
     if last + 1 < b + m {
         return false;
     }
-    (st.len() as u64) == 4 + 2 * n + 6 * m
+    (st.len() as u64) == words_for(n, m)
 }
 
 // The lowest number that the ring holds.
 pub fn first(st: &[u64], m: u64) -> u64
     requires { ⌜ Head m (now st) ⌝ }
-    ensures is { λ r. ⌜ r ≡ firstOf (ringSize (now (st .entry))) (base (now (st .entry))) (last (now (st .entry))) ⌝ }
+    ensures is { λ r. ⌜ r ≡ first (now (st .entry)) ⌝ }
     ensures low { λ r. ⌜ base (now (st .entry)) ≤ r ⌝ }
     ensures high { λ r. ⌜ r ≤ last (now (st .entry)) + 1 ⌝ }
 {
-    let n = st[0];
-    let b = st[2];
-    let next = st[3] + 1;
+    let n = ring_size(st, m);
+    let b = base(st, m);
+    let next = last(st, m) + 1;
     if b + n <= next { next - n } else { b }
 }
 
@@ -122,34 +145,61 @@ pub fn place(n: u64, b: u64, s: u64) -> u64
     (s - b) % n
 }
 
+// The time at place p of a ring of n entries.
+pub fn ring_time(st: &[u64], n: u64, p: u64) -> u64
+    requires { ⌜ (p < n) × (latestAt n ≤ length (now st)) ⌝ }
+    ensures { λ r. ⌜ r ≡ ringTime (now (st .entry)) n p ⌝ }
+{
+    st[(RING_AT + p) as usize]
+}
+
+// The packed word at place p of a ring of n entries.
+pub fn ring_word(st: &[u64], n: u64, p: u64) -> u64
+    requires { ⌜ (p < n) × (latestAt n ≤ length (now st)) ⌝ }
+    ensures { λ r. ⌜ r ≡ ringWord (now (st .entry)) n p ⌝ }
+{
+    st[(RING_AT + n + p) as usize]
+}
+
+// Item i's row of the table of m items that begins at word t.
+pub fn row_at(st: &[u64], m: u64, t: u64, i: u64) -> Row
+    requires { ⌜ (i < m) × (t + 3 * m ≤ length (now st)) ⌝ }
+    ensures { λ r. ⌜ row (now (st .entry)) t m i 3 ≡ r .number ∷ r .time ∷ r .packed ∷ [] ⌝ }
+{
+    Row {
+        number: st[(t + i) as usize],
+        time: st[(t + m + i) as usize],
+        packed: st[(t + m + m + i) as usize],
+    }
+}
+
 // The packed word of an item's latest observation.
 pub fn latest_word(st: &[u64], m: u64, item: u64) -> u64
     requires { ⌜ Head m (now st) ⌝ }
-    requires { ⌜ m ≤ 64 ⌝ }
-    requires { ⌜ item < m ⌝ }
+    requires { ⌜ (m ≤ maxItems) × (item < m) ⌝ }
     ensures { λ r. ⌜ r ≡ getD (latestRow (ringSize (now (st .entry))) m (now (st .entry)) item) 2 0 ⌝ }
 {
-    let n = st[0];
-    st[(4 + 2 * n + m + m + item) as usize]
+    let latest = row_at(st, m, latest_at(ring_size(st, m)), item);
+    latest.packed
 }
 
 // Whether a number is left, and the entry that it overwrites, if any, has an item of the model.
 pub fn room_for(st: &[u64], m: u64) -> Verdict
     requires { ⌜ Head m (now st) ⌝ }
-    requires { ⌜ m ≤ 64 ⌝ }
+    requires { ⌜ m ≤ maxItems ⌝ }
     ensures { λ r. ⌜ r ≡ roomFor m (now (st .entry)) ⌝ }
 {
-    let n = st[0];
-    let b = st[2];
-    let last = st[3];
-    if 9223372036854775807 <= last {
+    let n = ring_size(st, m);
+    let b = base(st, m);
+    let last = last(st, m);
+    if spec::MAX_NUMBER <= last {
         return Verdict::Refused(Refusal::Spent);
     }
     if last + 1 - b < n {
         return Verdict::Fine;
     }
     let p = place(n, b, last + 1);
-    if value::item_of(st[(4 + n + p) as usize]) < m {
+    if value::item_of(ring_word(st, n, p)) < m {
         return Verdict::Fine;
     }
     Verdict::Refused(Refusal::Store)
@@ -181,11 +231,11 @@ fn evict(st: &mut [u64], n: u64, m: u64, b: u64, s: u64)
     ensures { λ r. ⌜ now (st .exit) ≡ evict n m b s (now (st .entry)) ⌝ }
 {
     if n <= s - b {
-        let p = place(n, b, s);
-        let time = st[(4 + p) as usize];
-        let word = st[(4 + n + p) as usize];
+        let oldest = place(n, b, s);
+        let time = ring_time(st, n, oldest);
+        let word = ring_word(st, n, oldest);
         let item = value::item_of(word) as usize;
-        let checkpoint = (4 + 2 * n + 3 * m) as usize;
+        let checkpoint = checkpoint_at(n, m) as usize;
         put_three(st, checkpoint, m as usize, item, s - n, time, word);
     }
 }
@@ -194,20 +244,20 @@ fn evict(st: &mut [u64], n: u64, m: u64, b: u64, s: u64)
 pub fn add(st: &mut [u64], m: u64, item: u64, time: u64, word: u64)
     requires { ⌜ Adding m (now st) ⌝ }
     requires { ⌜ evictOk (ringSize (now st)) m (base (now st)) (suc (last (now st))) (now st) ≡ true ⌝ }
-    requires { ⌜ m ≤ 64 ⌝ }
+    requires { ⌜ m ≤ maxItems ⌝ }
     requires { ⌜ item < m ⌝ }
-    ensures { λ r. ⌜ now (st .exit) ≡ add (ringSize (now (st .entry))) m (base (now (st .entry))) (suc (last (now (st .entry)))) item time word (now (st .entry)) ⌝ }
+    ensures { λ r. ⌜ now (st .exit) ≡ added m (now (st .entry)) item time word ⌝ }
 {
-    let n = st[0];
-    let b = st[2];
-    let last = st[3];
+    let n = st[RING_SIZE_AT];
+    let b = st[BASE_AT];
+    let last = st[LAST_AT];
     let s = last + 1;
     evict(st, n, m, b, s);
     let p = place(n, b, s);
-    put_two(st, 4, n as usize, p as usize, time, word);
-    let latest = (4 + 2 * n) as usize;
+    put_two(st, HEAD_WORDS, n as usize, p as usize, time, word);
+    let latest = latest_at(n) as usize;
     put_three(st, latest, m as usize, item as usize, s, time, word);
-    st[3] = s;
+    st[LAST_AT] = s;
 }
 
 // All words zero.
@@ -228,10 +278,10 @@ fn make_blank(st: &mut [u64], n: u64, m: u64, b: u64)
     ensures { λ r. ⌜ now (st .exit) ≡ blank n m b ⌝ }
 {
     clear(st);
-    st[0] = n;
-    st[1] = m;
-    st[2] = b;
-    st[3] = b - 1;
+    st[RING_SIZE_AT] = n;
+    st[ITEM_COUNT_AT] = m;
+    st[BASE_AT] = b;
+    st[LAST_AT] = b - 1;
 }
 
 // The store that start makes, whatever stood there: one Unavailable per item, in item order, numbered from b on.

@@ -2,9 +2,9 @@
 use native.Mathlib.Numerals.{add-one}
 use native.Mathlib.Omega.{arith}
 use lib.ListN.{length-set}
-use borrow.Author.Needs.{needs}
 use Rattle.spec.specs.Observations.{last}
 use Rattle.observations.proofs.Laws.{added}
+use borrow.Author.Needs.{needs}
 use Rattle.observations.proofs.add.Statement.{statement}
 use Rattle.observations.proofs.add.Tie as tie
 
@@ -22,14 +22,14 @@ add-s c = search needs
 
 evict-requires : tie.Need-evict-requires
 evict-requires c κs =
-    let z = c .before .before .before .before .before in
+    let s = c .before .before .before .before .before in
     record {
       n-pos = omega arith;
       n-max = omega arith;
       m-max = omega arith;
       b-s = omega arith;
-      len = z .pre .0 .len;
-      ok = rw (add-one (last (z .args .st .now))) (z .pre .1 .0);
+      len = s .pre .0 .len;
+      ok = rw (add-one (last (s .args .st .now))) (s .pre .1 .0);
     }
 
 place-requires : tie.Need-place-requires
@@ -38,11 +38,8 @@ place-requires c κs = search needs
 put-two-requires : tie.Need-put-two-requires
 put-two-requires c κs = search needs
 
-mul-latest : tie.Need-mul-latest
-mul-latest c = search needs
-
-add-latest : tie.Need-add-latest
-add-latest c = search needs
+latest-at-requires : tie.Need-latest-at-requires
+latest-at-requires c κs = search needs
 
 put-three-requires : tie.Need-put-three-requires
 put-three-requires c κs = search needs
@@ -55,10 +52,13 @@ same-length c = simp length-set (omega arith)
 
 returns : tie.Need-returns
 returns c =
-    let l = c .before .before in
-    let r = l .before .before .before .before in
-    let p = r .before .before in
-    added _ _ _ _ _ _ _ _ _ _ _ _ (p .before .before .before .evict .ensures) (p .place .ensures .0) (r .put-two .ensures) (l .put-three .ensures)
+    let pt = c .before .before in
+    let la = pt .before .before in
+    let ptx = la .before .before .before in
+    let plac = ptx .before .before in
+    let evic = plac .before .before .before in
+    added _ _ _ _ _ _ _ _ _ _ _ _ _ (evic .evict .ensures) (plac .place .ensures .0) (ptx .put-two .ensures)
+    (la .latest-at .ensures) (pt .put-three .ensures)
 
 pub add-spec : {M : Type 1} → statement M
 add-spec =
@@ -71,8 +71,7 @@ add-spec =
     evict-requires
     place-requires
     put-two-requires
-    mul-latest
-    add-latest
+    latest-at-requires
     put-three-requires
     slice-write-st
     same-length

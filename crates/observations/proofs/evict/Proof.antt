@@ -1,7 +1,7 @@
 -- The entry that is there goes to its item's checkpoint; the item is below m, since evictOk holds.
 use native.Mathlib.Omega.{arith}
-use borrow.Author.Needs.{needs}
 use Rattle.observations.proofs.Laws.{item-below, evicted, not-evicted}
+use borrow.Author.Needs.{needs}
 use Rattle.observations.proofs.evict.Statement.{statement}
 use Rattle.observations.proofs.evict.Tie as tie
 
@@ -11,60 +11,45 @@ sub-if1 c = search needs
 place-requires : tie.Need-place-requires
 place-requires c κs = search needs
 
-add-time : tie.Need-add-time
-add-time c = search needs
+ring-time-requires : tie.Need-ring-time-requires
+ring-time-requires c κs = search needs
 
-mul-time : tie.Need-mul-time
-mul-time c = search needs
-
-slice-read-time : tie.Need-slice-read-time
-slice-read-time c = search needs
-
-add-word : tie.Need-add-word
-add-word c = search needs
-
-add-word-2 : tie.Need-add-word-2
-add-word-2 c = search needs
-
-mul-word : tie.Need-mul-word
-mul-word c = search needs
-
-slice-read-word : tie.Need-slice-read-word
-slice-read-word c = search needs
+ring-word-requires : tie.Need-ring-word-requires
+ring-word-requires c κs = search needs
 
 item-of-requires : tie.Need-item-of-requires
 item-of-requires c κs = search needs
 
-mul-checkpoint : tie.Need-mul-checkpoint
-mul-checkpoint c = search needs
-
-add-checkpoint : tie.Need-add-checkpoint
-add-checkpoint c = search needs
-
-mul-checkpoint-2 : tie.Need-mul-checkpoint-2
-mul-checkpoint-2 c = search needs
-
-add-checkpoint-2 : tie.Need-add-checkpoint-2
-add-checkpoint-2 c = search needs
+checkpoint-at-requires : tie.Need-checkpoint-at-requires
+checkpoint-at-requires c κs = search needs
 
 sub-put-three : tie.Need-sub-put-three
 sub-put-three c = search needs
 
 put-three-requires : tie.Need-put-three-requires
 put-three-requires c κs =
-    let i = c .before in
-    let p = i .before .before .before in
-    let ok = p .before .before .before .pre .ok in
-    (item-below _ _ _ _ _ _ _ (p .place .ensures .0) (i .item-of .ensures) ok (omega arith), omega arith)
+    let io = c .before .before in
+    let rwx = io .before in
+    let plac = rwx .before .before .before .before in
+    let s = plac .before .before .before in
+    let i = item-below _ _ _ _ _ _ _ _ (plac .place .ensures .0) (rwx .ring-word .ensures) (io .item-of .ensures)
+    (s .pre .ok) (omega arith) in
+    (i, omega arith)
 
 same-length : tie.Need-same-length
 same-length c = search needs
 
 returns : tie.Need-returns
 returns c =
-    let i = c .before .before .before .before in
-    let p = i .before .before .before in
-    evicted _ _ _ _ _ _ _ (p .place .ensures .0) (i .item-of .ensures) _ (omega arith) (c .before .before .put-three .ensures)
+    let pt = c .before .before in
+    let ca = pt .before .before in
+    let io = ca .before in
+    let rwx = io .before in
+    let rt = rwx .before .before in
+    let plac = rt .before .before in
+    evicted _ _ _ _ _ _ _ _ (plac .place .ensures .0) (rwx .ring-word .ensures) (io .item-of .ensures) _ _
+    (omega arith) (rt .ring-time .ensures)
+    (rw (← ca .checkpoint-at .ensures) (pt .put-three .ensures))
 
 returns-2 : tie.Need-returns-2
 returns-2 c = not-evicted _ _ _ _ _ (omega arith)
@@ -75,18 +60,10 @@ evict-spec =
     (tie.spec
     sub-if1
     place-requires
-    add-time
-    mul-time
-    slice-read-time
-    add-word
-    add-word-2
-    mul-word
-    slice-read-word
+    ring-time-requires
+    ring-word-requires
     item-of-requires
-    mul-checkpoint
-    add-checkpoint
-    mul-checkpoint-2
-    add-checkpoint-2
+    checkpoint-at-requires
     sub-put-three
     put-three-requires
     same-length

@@ -1,7 +1,7 @@
 -- Each refusal rules a right head out; after all other tests the length decides.
 use native.Mathlib.Omega.{arith}
-use borrow.Author.Needs.{needs}
 use Rattle.observations.proofs.Laws.{no-head, head-by-length}
+use borrow.Author.Needs.{needs}
 use Rattle.observations.proofs.head_ok.Statement.{statement}
 use Rattle.observations.proofs.head_ok.Tie as tie
 
@@ -29,6 +29,9 @@ shared-slice-read-b c = search needs
 returns-5 : tie.Need-returns-5
 returns-5 c = no-head _ _ (λ h. omega arith)
 
+add-if6 : tie.Need-add-if6
+add-if6 c = search needs
+
 returns-6 : tie.Need-returns-6
 returns-6 c = no-head _ _ (λ h. omega arith)
 
@@ -47,20 +50,13 @@ add-if8-2 c = search needs
 returns-8 : tie.Need-returns-8
 returns-8 c = no-head _ _ (λ h. omega arith)
 
-mul-result : tie.Need-mul-result
-mul-result c = search needs
-
-add-result : tie.Need-add-result
-add-result c = search needs
-
-mul-result-2 : tie.Need-mul-result-2
-mul-result-2 c = search needs
-
-add-result-2 : tie.Need-add-result-2
-add-result-2 c = search needs
+words-for-requires : tie.Need-words-for-requires
+words-for-requires c κs = search needs
 
 returns-9 : tie.Need-returns-9
-returns-9 c = head-by-length _ _ (omega arith) (omega arith) (omega arith) (omega arith) (omega arith) (omega arith)
+returns-9 c =
+    let l = c .words-for .ensures in
+    head-by-length _ _ _ (omega arith) (omega arith) (omega arith) (omega arith) (omega arith) (omega arith) l
 
 pub head-ok-spec : {M : Type 1} → statement M
 head-ok-spec =
@@ -74,14 +70,12 @@ head-ok-spec =
     returns-4
     shared-slice-read-b
     returns-5
+    add-if6
     returns-6
     shared-slice-read-last
     returns-7
     add-if8
     add-if8-2
     returns-8
-    mul-result
-    add-result
-    mul-result-2
-    add-result-2
+    words-for-requires
     returns-9)

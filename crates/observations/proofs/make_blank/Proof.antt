@@ -28,7 +28,9 @@ same-length : tie.Need-same-length
 same-length c = search needs
 
 returns : tie.Need-returns
-returns c = rw (c .before .before .clear .ensures) (blank-words _ _ _ _ (c .before .before .before .before .before .pre .0))
+returns c =
+    let l = c .before .before in
+    rw (l .clear .ensures) (blank-words _ _ _ _ (l .before .before .before .pre .0))
 
 pub make-blank-spec : {M : Type 1} → statement M
 make-blank-spec =

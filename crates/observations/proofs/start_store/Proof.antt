@@ -1,9 +1,11 @@
--- Invariant: Filling, the words stand for the items added so far, and the rest makes the whole. Measure: the items left.
+-- Invariant: Filling, the words stand for the items added so far, and the rest makes the whole.
+-- Measure: the items left.
 use Prim.Native.Nat.{_-_}
 use mathlib.Core.Path.{sym, _∙_}
 use native.Mathlib.Omega.{arith}
 use borrow.Author.Needs.{needs}
-use Rattle.observations.proofs.Laws.{Filling, filling-none, filling-more, filling-all, filling-adding, filling-evict}
+use Rattle.observations.proofs.Laws.{Filling, filling-none, filling-more, filling-all}
+use Rattle.observations.proofs.Laws.{filling-adding, filling-evict}
 use Rattle.observations.proofs.start_store.Statement.{statement}
 use Rattle.observations.proofs.start_store.Tie as tie
 
@@ -17,7 +19,9 @@ make-blank-requires : tie.Need-make-blank-requires Inv-loop μ-loop
 make-blank-requires c κs = search needs
 
 loop-holds : tie.Need-loop-holds Inv-loop μ-loop
-loop-holds c = rw (c .before .before .make-blank .ensures) (filling-none _ _ _ _ (c .before .before .before .before .before .pre .0))
+loop-holds c =
+    let b = c .before .before in
+    rw (b .make-blank .ensures) (filling-none _ _ _ _ (b .before .before .before .pre .0))
 
 pack-requires : tie.Need-pack-requires Inv-loop μ-loop
 pack-requires c κs = search needs
@@ -42,7 +46,9 @@ loop-again c =
     filling-more (p .before .before .loop .inv) (p .before .loop-test .taken) (p .pack .ensures) (a .add .ensures)
 
 same-length : tie.Need-same-length Inv-loop μ-loop
-same-length c = c .before .loop .inv .rep .words ∙ sym (c .before .before .before .before .before .before .before .pre .1)
+same-length c =
+    let l = c .before in
+    l .loop .inv .rep .words ∙ sym (l .before .before .before .before .before .before .pre .1)
 
 returns : tie.Need-returns Inv-loop μ-loop
 returns c = filling-all (c .before .loop .inv) (c .loop-test .left)
