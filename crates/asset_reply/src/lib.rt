@@ -70,7 +70,9 @@ fn reply_cells(assets: &[u8], cells: &[u64; ASSET_SLOTS], k: u64, reply: &mut [u
     if (reply.len() as u64) < 4 + 2 * k {
         return Answer::Refused(Refusal::Space);
     }
-    reply::write_sizes(reply, k, assets::used(assets), assets::capacity(assets), 0);
+    let used = assets::used(assets);
+    let capacity = assets::capacity(assets);
+    reply::write_sizes(reply, k, used, capacity, 0);
     write_cells(assets, cells, k, &mut reply[4..]);
     Answer::Done(k)
 }

@@ -62,19 +62,18 @@ same-length c = search needs
 
 returns-3 : tie.Need-returns-3
 returns-3 c =
-    let s =
-    c .before .before .before .before .before .before .before .before .before .before .before .before .before .before
-    .before in
-    let a = s .args in
-    let cap = c .before .before .before .before .before .before .before in
-    let if2 = c .before .before .before .before .before .before .before .before .before .before in
+    let wc = c .before .before in
+    let ws = wc .before .before .before .before in
+    let cap = ws .before .before in
+    let if2 = cap .before .before in
     let if1 = if2 .before in
+    let s = if1 .before .before .before .before in
+    let a = s .args in
     both _
     (cells-whole (a .assets .now) (a .cells .now) (a .reply .now) _ (s .pre .1) _
     (if1 .before .lengths-ok .ensures) _ _ _ _
     (not-false _ (if1 .if1 .left)) (if2 .if2 .left) (cap .before .used .ensures .0) (cap .capacity .ensures .0)
-    (c .before .before .before .before .before .before .write-sizes .ensures)
-    (c .before .before .write-cells .ensures))
+    (ws .write-sizes .ensures) (wc .write-cells .ensures))
 
 pub reply-cells-spec : {M : Type 1} → statement M
 reply-cells-spec =

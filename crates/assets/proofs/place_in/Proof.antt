@@ -1,4 +1,4 @@
--- Each fault gives nothing; a cell below u lies inside the store, and so does a body of at most 510 bytes.
+-- Each fault gives nothing; a cell below u lies inside the store, and so does a body of the longest length.
 use Prim.Native.Nat.{_-_}
 use mathlib.Core.Path.{sym, _∙_}
 use native.Mathlib.Omega.{arith}
