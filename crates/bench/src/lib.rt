@@ -26,7 +26,10 @@ fn model() -> [u32; 6]
 fn names() -> [u8; 96]
     ensures { λ r. ⌜ r ≡ benchNames ⌝ }
 {
-    *b"Device\0\0\0\0\0\0\0\0\0\0\0\0\0\0\0\0\0\0Axes\0\0\0\0\0\0\0\0\0\0\0\0\0\0\0\0\0\0\0\0AVAILABILITY\0\0\0\0\0\0\0\0\0\0\0\0POSITION\0\0\0\0\0\0\0\0\0\0\0\0\0\0\0\0"
+    *b"Device\0\0\0\0\0\0\0\0\0\0\0\0\0\0\0\0\0\0\
+       Axes\0\0\0\0\0\0\0\0\0\0\0\0\0\0\0\0\0\0\0\0\
+       AVAILABILITY\0\0\0\0\0\0\0\0\0\0\0\0\
+       POSITION\0\0\0\0\0\0\0\0\0\0\0\0\0\0\0\0"
 }
 
 // Start and the three observes, in stores of zeros: the second observe is Same, the third has no time of its own.
