@@ -1,14 +1,14 @@
 -- One law to each branch of the head's test and of the room for a number; eviction and addition by their writes;
 -- start's turns.
-use Prim.Native.Nat.{ℕ, zero, suc, _+_, _-_, _*_, _≤_, _<_}
-use mathlib.Core.Path.{_≡_, refl, sym, _∙_}
+use Prim.Native.Nat.{ℕ, suc, _+_, _-_, _*_, _≤_, _<_}
+use mathlib.Core.Path.{_≡_, refl, _∙_}
 use mathlib.Core.Bool.{Bool, true, false, cond}
 use mathlib.Core.List.{List, [], _∷_, _++_}
 use native.Mathlib.Omega.{arith}
 use native.Mathlib.Nat.{sub-zero, add-zero}
 use native.Mathlib.Numerals.{add-one}
-use lib.Dec.{leb, ltb, eqb}
-use lib.ListN.{length, getD, set, replicate, length-append}
+use lib.Dec.{leb, eqb}
+use lib.ListN.{length, set, replicate, length-append}
 use borrow.Author.Tests.{le-leb, lt-leb, leb-false, eq-eqb, ltb-true, lt-ltb, le-ltb}
 use Rattle.spec.specs.Words.{row, put}
 use Rattle.spec.specs.Value.{itemOf, pack}

@@ -60,7 +60,8 @@ module _ (p : ℕ → Bool) (v : ℕ → List ℕ) where
   unfolding pickRows
   rows-end s e h = let q : e - s ≡ 0 = omega arith in rw q
 
-  pub rows-split : (f g e : ℕ) → f ≤ g → g ≤ e → pickRows p v (e - f) f ≡ pickRows p v (g - f) f ++ pickRows p v (e - g) g
+  pub rows-split : (f g e : ℕ) → f ≤ g → g ≤ e → pickRows p v (e - f) f
+      ≡ pickRows p v (g - f) f ++ pickRows p v (e - g) g
   rows-split f g e h1 h2 =
       let q : e - f ≡ (g - f) + (e - g) = omega arith in
       let r : f + (g - f) ≡ g = omega arith in
@@ -71,7 +72,8 @@ module _ (p : ℕ → Bool) (v : ℕ → List ℕ) where
   rows-few zero s = omega arith
   rows-few (suc n) s = go (p s) (rows-few n (suc s))
     where
-      go : (t : Bool) → length (pickRows p v n (suc s)) ≤ n → length (cond t (v s ∷ pickRows p v n (suc s)) (pickRows p v n (suc s))) ≤ suc n
+      go : (t : Bool) → length (pickRows p v n (suc s)) ≤ n
+          → length (cond t (v s ∷ pickRows p v n (suc s)) (pickRows p v n (suc s))) ≤ suc n
       go true h = omega arith
       go false h = omega arith
 
@@ -93,7 +95,9 @@ pub run-next : {N B e s q : ℕ} → Run N B e s q → s < e → Run N B e (s + 
 run-next {N} {B} {e} {s} {q} r h =
     record {
       low = omega (arith, r .low);
-      is = λ k. let o = r .room in sym (mod-eq-of-lt {n = q + 1} {m = N} (omega arith)) ∙ place-next s B N q (r .low) (r .is h);
+      is =
+          λ k. let o =
+          r .room in sym (mod-eq-of-lt {n = q + 1} {m = N} (omega arith)) ∙ place-next s B N q (r .low) (r .is h);
       room = omega (arith, r .room);
     }
 

@@ -10,7 +10,8 @@ use Rattle.spec.specs.Reply.{numbers, pairs}
 use Rattle.rows.specs.declared.Counted.{Counted}
 use Rattle.rows.specs.declared.Counted.the-variants.{Count, Broken}
 
--- of the numbers from f up to e: refusal 2's test that each has an item of the model, and the rows of those that are selected
+-- of the numbers from f up to e: refusal 2's test that each has an item of the model, and the rows of those that are
+-- selected
 abbrev pub itemsOk : ℕ → List ℕ → ℕ → ℕ → Bool
 itemsOk m st f e = ringOk (ringSize st) m (base st) st (e - f) f
 
@@ -35,7 +36,8 @@ pub record Run (N B e s q : ℕ) : Type 0 where
   pub is : s < e → q ≡ (s - B) % N
   pub room : q + (e - s) ≤ N
 
--- the numbers from f up to e in two runs: up to the ring's end from place p on, then from place 0 on, where number g stands
+-- the numbers from f up to e in two runs: up to the ring's end from place p on, then from place 0 on, where number g
+-- stands
 pub record TwoRuns (N B f e p g : ℕ) : Type 0 where
   pub low : f ≤ g
   pub high : g ≤ e

@@ -4,6 +4,7 @@ ghost use mathlib.Core.Path.{_≡_};
 ghost use mathlib.Core.Bool.{true};
 ghost use Prim.Native.Nat.{_+_, _-_, _*_, _<_, _≤_};
 ghost use lib.ListN.{length, set};
+ghost use Rattle.spec.specs.Model.{maxItems};
 ghost use Rattle.spec.specs.Observations.{Head, ringSize, base};
 ghost use Rattle.rows.specs.Rows.{itemsOk, sampled, counted, rowsAt, rowsInto, Run, TwoRuns};
 
@@ -20,11 +21,13 @@ pub struct Split {
 }
 
 // The two runs of the numbers from f up to e, at most a ring of them.
-pub fn runs(n: u64, b: u64, f: u64, e: u64) -> Split
-    requires { ⌜ (b ≤ f) × ((1 ≤ n) × (n ≤ 131072)) ⌝ }
-    requires { ⌜ (f ≤ e) × (e - f ≤ n) ⌝ }
-    ensures { λ r. ⌜ TwoRuns n b f e (r .place) (r .turn) ⌝ }
+pub fn runs(st: &[u64], m: u64, f: u64, e: u64) -> Split
+    requires { ⌜ Head m (now st) ⌝ }
+    requires { ⌜ (base (now st) ≤ f) × ((f ≤ e) × (e - f ≤ ringSize (now st))) ⌝ }
+    ensures { λ r. ⌜ TwoRuns (ringSize (now (st .entry))) (base (now (st .entry))) f e (r .place) (r .turn) ⌝ }
 {
+    let n = observations::ring_size(st, m);
+    let b = observations::base(st, m);
     let p = observations::place(n, b, f);
     let left = n - p;
     if e - f <= left {
@@ -39,16 +42,16 @@ pub fn runs(n: u64, b: u64, f: u64, e: u64) -> Split
 // One run of count_rows, from place p on.
 fn count_run(st: &[u64], m: u64, selection: u64, p: u64, f: u64, e: u64) -> Counted
     requires { ⌜ Head m (now st) ⌝ }
-    requires { ⌜ m ≤ 64 ⌝ }
+    requires { ⌜ m ≤ maxItems ⌝ }
     requires { ⌜ Run (ringSize (now st)) (base (now st)) e f p ⌝ }
     ensures { λ r. ⌜ r ≡ counted m (now (st .entry)) selection f e ⌝ }
 {
-    let words = 4 + st[0];
+    let n = observations::ring_size(st, m);
     let mut q = p;
     let mut c: u64 = 0;
     let mut s = f;
     while s < e {
-        let i = value::item_of(st[(words + q) as usize]);
+        let i = value::item_of(observations::ring_word(st, n, q));
         if m <= i {
             return Counted::Broken;
         }
@@ -62,11 +65,11 @@ fn count_run(st: &[u64], m: u64, selection: u64, p: u64, f: u64, e: u64) -> Coun
 // How many of the numbers from f up to e have a row; Broken where one of them has no item of the model.
 pub fn count_rows(st: &[u64], m: u64, selection: u64, f: u64, e: u64) -> Counted
     requires { ⌜ Head m (now st) ⌝ }
-    requires { ⌜ (m ≤ 64) × (base (now st) ≤ f) ⌝ }
+    requires { ⌜ (m ≤ maxItems) × (base (now st) ≤ f) ⌝ }
     requires { ⌜ (f ≤ e) × (e - f ≤ ringSize (now st)) ⌝ }
     ensures { λ r. ⌜ r ≡ counted m (now (st .entry)) selection f e ⌝ }
 {
-    let r = runs(st[0], st[2], f, e);
+    let r = runs(st, m, f, e);
     let p = r.place;
     let g = r.turn;
     let front = count_run(st, m, selection, p, f, g);
@@ -103,22 +106,25 @@ fn write_run(
     out: &mut [u64],
 ) -> u64
     requires { ⌜ Head m (now st) ⌝ }
-    requires { ⌜ m ≤ 64 ⌝ }
+    requires { ⌜ m ≤ maxItems ⌝ }
     requires { ⌜ Run (ringSize (now st)) (base (now st)) e f p ⌝ }
     requires { ⌜ itemsOk m (now st) f e ≡ true ⌝ }
     requires { ⌜ (done + length (sampled (now st) selection f e) ≤ k) × (3 * k ≤ length (now out)) ⌝ }
     ensures { λ r. ⌜ r ≡ done + length (sampled (now (st .entry)) selection f e) ⌝ }
-    ensures { λ r. ⌜ now (out .exit) ≡ rowsAt (now (out .entry)) done (k + 2 * done) (sampled (now (st .entry)) selection f e) ⌝ }
+    ensures { λ r. ⌜
+        now (out .exit) ≡ rowsAt (now (out .entry)) done (k + 2 * done) (sampled (now (st .entry)) selection f e)
+        ⌝ }
 {
-    let words = 4 + st[0];
+    let n = observations::ring_size(st, m);
     let mut c = done;
     let mut a = k + 2 * done;
     let mut q = p;
     let mut s = f;
     while s < e {
-        let w = st[(words + q) as usize];
+        let w = observations::ring_word(st, n, q);
         if selection::bit_of(selection, value::item_of(w)) == 1 {
-            write_row(out, c, a, s, st[(4 + q) as usize], w);
+            let time = observations::ring_time(st, n, q);
+            write_row(out, c, a, s, time, w);
             c += 1;
             a += 2;
         }
@@ -131,13 +137,13 @@ fn write_run(
 // The rows of the numbers from f up to e, which are k: k numbers, then k pairs of time and packed word.
 pub fn write_rows(st: &[u64], m: u64, selection: u64, f: u64, e: u64, k: u64, out: &mut [u64])
     requires { ⌜ Head m (now st) ⌝ }
-    requires { ⌜ (m ≤ 64) × (base (now st) ≤ f) ⌝ }
+    requires { ⌜ (m ≤ maxItems) × (base (now st) ≤ f) ⌝ }
     requires { ⌜ (f ≤ e) × (e - f ≤ ringSize (now st)) ⌝ }
     requires { ⌜ itemsOk m (now st) f e ≡ true ⌝ }
     requires { ⌜ (k ≡ length (sampled (now st) selection f e)) × (3 * k ≤ length (now out)) ⌝ }
     ensures { λ r. ⌜ now (out .exit) ≡ rowsInto (now (out .entry)) k (sampled (now (st .entry)) selection f e) ⌝ }
 {
-    let r = runs(st[0], st[2], f, e);
+    let r = runs(st, m, f, e);
     let p = r.place;
     let g = r.turn;
     let done = write_run(st, m, selection, p, f, g, 0, k, out);

@@ -4,31 +4,32 @@ ghost use mathlib.Core.List.{[], _∷_};
 ghost use mathlib.Core.Bool.{true};
 ghost use Prim.Native.Nat.{_+_, _-_, _*_, _<_, _≤_};
 ghost use lib.ListN.{length};
-ghost use Rattle.spec.specs.Words.{bit, pickRows};
+ghost use Rattle.spec.specs.Model.{maxItems};
 ghost use Rattle.spec.specs.Observations.{Head, ringSize, base, currentRows};
 ghost use Rattle.rows.specs.Rows.{itemsOk, rowsInto, Run};
-ghost use Rattle.snapshots.specs.Snapshots.{seenFrom, rowOf, rowFrom, hasRow, heldFrom, presentIn};
-
-// An observation's number, time and packed word.
-pub struct Row {
-    pub number: u64,
-    pub time: u64,
-    pub packed: u64,
-}
+ghost use Rattle.snapshots.specs.Snapshots.{seenFrom, rowOf, hasRow, chosenRows, heldRows, presentIn};
+use observations::Row;
 
 // One run of newest, from place p on.
-fn newest_run(st: &[u64], m: u64, p: u64, f: u64, e: u64, seen: &mut [u64; 64]) -> bool
+fn newest_run(
+    st: &[u64],
+    m: u64,
+    p: u64,
+    f: u64,
+    e: u64,
+    seen: &mut [u64; spec::ITEM_SLOTS],
+) -> bool
     requires { ⌜ Head m (now st) ⌝ }
-    requires { ⌜ m ≤ 64 ⌝ }
+    requires { ⌜ m ≤ maxItems ⌝ }
     requires { ⌜ Run (ringSize (now st)) (base (now st)) e f p ⌝ }
     ensures { λ r. ⌜ r ≡ itemsOk m (now (st .entry)) f e ⌝ }
     ensures { λ r. ⌜ (r ≡ true → now (seen .exit) ≡ seenFrom (now (st .entry)) f e (now (seen .entry))) ⌝ }
 {
-    let words = 4 + st[0];
+    let n = observations::ring_size(st, m);
     let mut q = p;
     let mut s = f;
     while s < e {
-        let i = value::item_of(st[(words + q) as usize]);
+        let i = value::item_of(observations::ring_word(st, n, q));
         if m <= i {
             return false;
         }
@@ -39,15 +40,16 @@ fn newest_run(st: &[u64], m: u64, p: u64, f: u64, e: u64, seen: &mut [u64; 64]) 
     true
 }
 
-// Whether the numbers from f up to e, at most a ring of them, all have items of the model; if so, `seen` has each item's newest.
-pub fn newest(st: &[u64], m: u64, f: u64, e: u64, seen: &mut [u64; 64]) -> bool
+// Whether the numbers from f up to e, at most a ring of them, all have items of the model; if so, `seen` has each
+// item's newest.
+pub fn newest(st: &[u64], m: u64, f: u64, e: u64, seen: &mut [u64; spec::ITEM_SLOTS]) -> bool
     requires { ⌜ Head m (now st) ⌝ }
-    requires { ⌜ (m ≤ 64) × (base (now st) ≤ f) ⌝ }
+    requires { ⌜ (m ≤ maxItems) × (base (now st) ≤ f) ⌝ }
     requires { ⌜ (f ≤ e) × (e - f ≤ ringSize (now st)) ⌝ }
     ensures { λ r. ⌜ r ≡ itemsOk m (now (st .entry)) f e ⌝ }
     ensures { λ r. ⌜ (r ≡ true → now (seen .exit) ≡ seenFrom (now (st .entry)) f e (now (seen .entry))) ⌝ }
 {
-    let r = rows::runs(st[0], st[2], f, e);
+    let r = rows::runs(st, m, f, e);
     let p = r.place;
     let g = r.turn;
     if !newest_run(st, m, p, f, g, seen) {
@@ -59,30 +61,26 @@ pub fn newest(st: &[u64], m: u64, f: u64, e: u64, seen: &mut [u64; 64]) -> bool
 // Item i's row: number x of the ring, or its row of the table at word t where x is no number of the store.
 fn row_of(st: &[u64], m: u64, t: u64, x: u64, i: u64) -> Row
     requires { ⌜ Head m (now st) ⌝ }
-    requires { ⌜ (m ≤ 64) × ((i < m) × (t + 3 * m ≤ length (now st))) ⌝ }
+    requires { ⌜ (m ≤ maxItems) × ((i < m) × (t + 3 * m ≤ length (now st))) ⌝ }
     ensures { λ r. ⌜ rowOf m (now (st .entry)) t x i ≡ r .number ∷ r .time ∷ r .packed ∷ [] ⌝ }
 {
-    let b = st[2];
+    let b = observations::base(st, m);
     if x < b {
-        return Row {
-            number: st[(t + i) as usize],
-            time: st[(t + m + i) as usize],
-            packed: st[(t + m + m + i) as usize],
-        };
+        return observations::row_at(st, m, t, i);
     }
-    let n = st[0];
+    let n = observations::ring_size(st, m);
     let p = observations::place(n, b, x);
     Row {
         number: x,
-        time: st[(4 + p) as usize],
-        packed: st[(4 + n + p) as usize],
+        time: observations::ring_time(st, n, p),
+        packed: observations::ring_word(st, n, p),
     }
 }
 
 // Whether item i is selected and has a row.
 fn has_row(st: &[u64], m: u64, t: u64, x: u64, selection: u64, i: u64) -> bool
     requires { ⌜ Head m (now st) ⌝ }
-    requires { ⌜ (m ≤ 64) × ((i < m) × (t + 3 * m ≤ length (now st))) ⌝ }
+    requires { ⌜ (m ≤ maxItems) × ((i < m) × (t + 3 * m ≤ length (now st))) ⌝ }
     ensures { λ r. ⌜ r ≡ hasRow selection i (rowOf m (now (st .entry)) t x i) ⌝ }
 {
     if selection::bit_of(selection, i) == 0 {
@@ -93,12 +91,12 @@ fn has_row(st: &[u64], m: u64, t: u64, x: u64, selection: u64, i: u64) -> bool
 }
 
 // The selected items that have an observation: a number in `seen`, or a checkpoint.
-pub fn present(st: &[u64], m: u64, seen: &[u64; 64], selection: u64) -> u64
+pub fn present(st: &[u64], m: u64, seen: &[u64; spec::ITEM_SLOTS], selection: u64) -> u64
     requires { ⌜ Head m (now st) ⌝ }
-    requires { ⌜ m ≤ 64 ⌝ }
+    requires { ⌜ m ≤ maxItems ⌝ }
     ensures { λ r. ⌜ r ≡ presentIn m (now (st .entry)) (now (seen .entry)) selection ⌝ }
 {
-    let t = 4 + 2 * st[0] + 3 * m;
+    let t = observations::checkpoint_at(observations::ring_size(st, m), m);
     let mut set: u64 = 0;
     let mut i: u64 = 0;
     while i < m {
@@ -109,11 +107,22 @@ pub fn present(st: &[u64], m: u64, seen: &[u64; 64], selection: u64) -> u64
 }
 
 // The rows of the chosen items, which are k: their numbers in `seen`, else their rows of the table at word t.
-fn write_items(st: &[u64], m: u64, t: u64, seen: &[u64; 64], chosen: u64, k: u64, out: &mut [u64])
+fn write_items(
+    st: &[u64],
+    m: u64,
+    t: u64,
+    seen: &[u64; spec::ITEM_SLOTS],
+    chosen: u64,
+    k: u64,
+    out: &mut [u64],
+)
     requires { ⌜ Head m (now st) ⌝ }
-    requires { ⌜ (m ≤ 64) × (t + 3 * m ≤ length (now st)) ⌝ }
-    requires { ⌜ (k ≡ length (pickRows (bit chosen) (rowFrom m (now st) t (now seen)) m 0)) × (3 * k ≤ length (now out)) ⌝ }
-    ensures { λ r. ⌜ now (out .exit) ≡ rowsInto (now (out .entry)) k (pickRows (bit chosen) (rowFrom m (now (st .entry)) t (now (seen .entry))) m 0) ⌝ }
+    requires { ⌜ (m ≤ maxItems) × (t + 3 * m ≤ length (now st)) ⌝ }
+    requires { ⌜ (k ≡ length (chosenRows m (now st) t (now seen) chosen)) × (3 * k ≤ length (now out)) ⌝ }
+    ensures { λ r. ⌜
+        now (out .exit)
+        ≡ rowsInto (now (out .entry)) k (chosenRows m (now (st .entry)) t (now (seen .entry)) chosen)
+        ⌝ }
 {
     let mut c: u64 = 0;
     let mut a = k;
@@ -132,22 +141,35 @@ fn write_items(st: &[u64], m: u64, t: u64, seen: &[u64; 64], chosen: u64, k: u64
 // Current: the rows of the selected items' latest observations, which are k.
 pub fn write_latest(st: &[u64], m: u64, selection: u64, k: u64, out: &mut [u64])
     requires { ⌜ Head m (now st) ⌝ }
-    requires { ⌜ m ≤ 64 ⌝ }
-    requires { ⌜ (k ≡ length (currentRows (ringSize (now st)) m (now st) selection)) × (3 * k ≤ length (now out)) ⌝ }
-    ensures { λ r. ⌜ now (out .exit) ≡ rowsInto (now (out .entry)) k (currentRows (ringSize (now (st .entry))) m (now (st .entry)) selection) ⌝ }
+    requires { ⌜ m ≤ maxItems ⌝ }
+    requires { ⌜ k ≡ length (currentRows (ringSize (now st)) m (now st) selection) ⌝ }
+    requires { ⌜ 3 * k ≤ length (now out) ⌝ }
+    ensures { λ r. ⌜
+        now (out .exit)
+        ≡ rowsInto (now (out .entry)) k (currentRows (ringSize (now (st .entry))) m (now (st .entry)) selection)
+        ⌝ }
 {
-    let seen = [0u64; 64];
-    let t = 4 + 2 * st[0];
+    let seen = [0u64; spec::ITEM_SLOTS];
+    let t = observations::latest_at(observations::ring_size(st, m));
     write_items(st, m, t, &seen, selection, k, out);
 }
 
 // Current with at: the rows of the chosen items, which are k, by their numbers in `seen`, else their checkpoints.
-pub fn write_held(st: &[u64], m: u64, seen: &[u64; 64], chosen: u64, k: u64, out: &mut [u64])
+pub fn write_held(
+    st: &[u64],
+    m: u64,
+    seen: &[u64; spec::ITEM_SLOTS],
+    chosen: u64,
+    k: u64,
+    out: &mut [u64],
+)
     requires { ⌜ Head m (now st) ⌝ }
-    requires { ⌜ m ≤ 64 ⌝ }
-    requires { ⌜ (k ≡ length (pickRows (bit chosen) (heldFrom m (now st) (now seen)) m 0)) × (3 * k ≤ length (now out)) ⌝ }
-    ensures { λ r. ⌜ now (out .exit) ≡ rowsInto (now (out .entry)) k (pickRows (bit chosen) (heldFrom m (now (st .entry)) (now (seen .entry))) m 0) ⌝ }
+    requires { ⌜ m ≤ maxItems ⌝ }
+    requires { ⌜ (k ≡ length (heldRows m (now st) (now seen) chosen)) × (3 * k ≤ length (now out)) ⌝ }
+    ensures { λ r. ⌜
+        now (out .exit) ≡ rowsInto (now (out .entry)) k (heldRows m (now (st .entry)) (now (seen .entry)) chosen)
+        ⌝ }
 {
-    let t = 4 + 2 * st[0] + 3 * m;
+    let t = observations::checkpoint_at(observations::ring_size(st, m), m);
     write_items(st, m, t, seen, chosen, k, out);
 }

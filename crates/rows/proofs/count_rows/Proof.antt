@@ -1,16 +1,10 @@
 -- A count over two runs: the tests of both, and the sum of their rows.
-use Rattle.rows.proofs.Laws.{front-broken, counted-few, back-broken, both-counted}
-use native.Mathlib.Omega.{arith}
 use mathlib.Core.Path.{sym, _∙_}
+use native.Mathlib.Omega.{arith}
+use Rattle.rows.proofs.Laws.{front-broken, counted-few, back-broken, both-counted}
 use borrow.Author.Needs.{needs}
 use Rattle.rows.proofs.count_rows.Statement.{statement}
 use Rattle.rows.proofs.count_rows.Tie as tie
-
-shared-slice-read-runs : tie.Need-shared-slice-read-runs
-shared-slice-read-runs c = search needs
-
-shared-slice-read-runs-2 : tie.Need-shared-slice-read-runs-2
-shared-slice-read-runs-2 c = search needs
 
 runs-requires : tie.Need-runs-requires
 runs-requires c κs = search needs
@@ -25,7 +19,11 @@ enum-told : tie.Need-enum-told
 enum-told c = search needs
 
 returns : tie.Need-returns
-returns c = front-broken _ _ _ _ _ _ (c .before .before .before .runs .ensures .low) (c .before .before .before .runs .ensures .high) (sym (c .enum-told .given .1) ∙ c .before .before .count-run .ensures)
+returns c =
+    let cr = c .before .before in
+    let runs = cr .before in
+    let t = runs .runs .ensures in
+    front-broken _ _ _ _ _ _ (t .low) (t .high) (sym (c .enum-told .given .1) ∙ cr .count-run .ensures)
 
 count-run-requires-2 : tie.Need-count-run-requires-2
 count-run-requires-2 c κs = search needs
@@ -37,20 +35,42 @@ enum-told-2 : tie.Need-enum-told-2
 enum-told-2 c = search needs
 
 returns-2 : tie.Need-returns-2
-returns-2 c = back-broken _ _ _ _ _ _ (c .before .before .before .before .before .before .before .runs .ensures .low) (c .before .before .before .before .before .before .before .runs .ensures .high) (sym (c .before .before .before .before .front .given .1) ∙ c .before .before .before .before .before .before .count-run .ensures) (sym (c .enum-told2 .given .1) ∙ c .before .before .count-run2 .ensures)
+returns-2 c =
+    let cr2 = c .before .before in
+    let fron = cr2 .before .before in
+    let cr = fron .before .before in
+    let runs = cr .before in
+    let t = runs .runs .ensures in
+    let x = sym (fron .front .given .1) ∙ cr .count-run .ensures in
+    back-broken _ _ _ _ _ _ (t .low) (t .high) x (sym (c .enum-told2 .given .1) ∙ cr2 .count-run2 .ensures)
 
-add-t14 : tie.Need-add-t14
-add-t14 c = let x = counted-few _ _ _ _ _ (sym (c .before .before .before .before .before .front .given .1) ∙ c .before .before .before .before .before .before .before .count-run .ensures) in let y = counted-few _ _ _ _ _ (sym (c .before .back .given .1) ∙ c .before .before .before .count-run2 .ensures) in omega (arith, c .before .before .before .before .before .before .before .before .runs .ensures .low, c .before .before .before .before .before .before .before .before .runs .ensures .high)
+add-t13 : tie.Need-add-t13
+add-t13 c =
+    let back = c .before in
+    let cr2 = back .before .before in
+    let fron = cr2 .before .before in
+    let cr = fron .before .before in
+    let runs = cr .before in
+    let t = runs .runs .ensures in
+    let x = counted-few _ _ _ _ _ (sym (fron .front .given .1) ∙ cr .count-run .ensures) in
+    let y = counted-few _ _ _ _ _ (sym (back .back .given .1) ∙ cr2 .count-run2 .ensures) in
+    omega (arith, t .low, t .high)
 
 returns-3 : tie.Need-returns-3
-returns-3 c = both-counted _ _ _ _ _ _ (c .before .before .before .before .before .before .before .before .runs .ensures .low) (c .before .before .before .before .before .before .before .before .runs .ensures .high) (sym (c .before .before .before .before .before .front .given .1) ∙ c .before .before .before .before .before .before .before .count-run .ensures) (sym (c .before .back .given .1) ∙ c .before .before .before .count-run2 .ensures)
+returns-3 c =
+    let back = c .before in
+    let cr2 = back .before .before in
+    let fron = cr2 .before .before in
+    let cr = fron .before .before in
+    let runs = cr .before in
+    let t = runs .runs .ensures in
+    let x = sym (fron .front .given .1) ∙ cr .count-run .ensures in
+    both-counted _ _ _ _ _ _ (t .low) (t .high) x (sym (back .back .given .1) ∙ cr2 .count-run2 .ensures)
 
 pub count-rows-spec : {M : Type 1} → statement M
 count-rows-spec =
     tie.close
     (tie.spec
-    shared-slice-read-runs
-    shared-slice-read-runs-2
     runs-requires
     count-run-requires
     enum-known-front
@@ -60,5 +80,5 @@ count-rows-spec =
     enum-known-back
     enum-told-2
     returns-2
-    add-t14
+    add-t13
     returns-3)

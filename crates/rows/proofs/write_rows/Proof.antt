@@ -4,35 +4,48 @@ use borrow.Author.Needs.{needs}
 use Rattle.rows.proofs.write_rows.Statement.{statement}
 use Rattle.rows.proofs.write_rows.Tie as tie
 
-shared-slice-read-runs : tie.Need-shared-slice-read-runs
-shared-slice-read-runs c = search needs
-
-shared-slice-read-runs-2 : tie.Need-shared-slice-read-runs-2
-shared-slice-read-runs-2 c = search needs
-
 runs-requires : tie.Need-runs-requires
 runs-requires c κs = search needs
 
 write-run-requires : tie.Need-write-run-requires
-write-run-requires c κs = (c .before .before .before .before .before .before .pre .0, (c .before .before .before .before .before .before .pre .1 .0 .0, (c .before .runs .ensures .front, (front-ok (c .before .before .before .before .before .before .args .m) (c .before .before .before .before .before .before .args .st .now) _ _ _ (c .before .runs .ensures .low) (c .before .runs .ensures .high) (c .before .before .before .before .before .before .pre .1 .1 .1 .0), (front-fits (c .before .before .before .before .before .before .args .st .now) (c .before .before .before .before .before .before .args .selection) _ _ _ _ (c .before .runs .ensures .low) (c .before .runs .ensures .high) (c .before .before .before .before .before .before .pre .1 .1 .1 .1 .0), c .before .before .before .before .before .before .pre .1 .1 .1 .1 .1)))))
+write-run-requires c κs =
+    let runs = c .before in
+    let s = runs .before .before .before in
+    let t = runs .runs .ensures in
+    let p = s .pre in
+    let st = s .args .st .now in
+    let ok = front-ok (s .args .m) st _ _ _ (t .low) (t .high) (p .1 .1 .1 .0) in
+    let fits = front-fits st (s .args .selection) _ _ _ _ (t .low) (t .high) (p .1 .1 .1 .1 .0) in
+    (p .0, (p .1 .0 .0, (t .front, (ok, (fits, p .1 .1 .1 .1 .1)))))
 
 write-run-requires-2 : tie.Need-write-run-requires-2
-write-run-requires-2 c κs = (c .before .before .before .before .before .before .before .before .before .before .pre .0, (c .before .before .before .before .before .before .before .before .before .before .pre .1 .0 .0, (c .before .before .before .before .before .runs .ensures .back, (back-ok (c .before .before .before .before .before .before .before .before .before .before .args .m) (c .before .before .before .before .before .before .before .before .before .before .args .st .now) _ _ _ (c .before .before .before .before .before .runs .ensures .low) (c .before .before .before .before .before .runs .ensures .high) (c .before .before .before .before .before .before .before .before .before .before .pre .1 .1 .1 .0), (back-fits (c .before .before .before .before .before .before .before .before .before .before .args .st .now) (c .before .before .before .before .before .before .before .before .before .before .args .selection) _ _ _ _ (c .before .before .before .before .before .runs .ensures .low) (c .before .before .before .before .before .runs .ensures .high) (c .before .before .before .before .before .before .before .before .before .before .pre .1 .1 .1 .1 .0) (c .before .before .before .write-run .ensures .0), as-long _ _ _ _ _ _ (c .before .before .before .write-run .ensures .1) (c .before .before .before .before .before .before .before .before .before .before .pre .1 .1 .1 .1 .1))))))
+write-run-requires-2 c κs =
+    let wr = c .before .before .before in
+    let runs = wr .before .before in
+    let s = runs .before .before .before in
+    let t = runs .runs .ensures in
+    let p = s .pre in
+    let st = s .args .st .now in
+    let w = wr .write-run .ensures in
+    let ok = back-ok (s .args .m) st _ _ _ (t .low) (t .high) (p .1 .1 .1 .0) in
+    let fits = back-fits st (s .args .selection) _ _ _ _ (t .low) (t .high) (p .1 .1 .1 .1 .0) (w .0) in
+    (p .0, (p .1 .0 .0, (t .back, (ok, (fits, as-long _ _ _ _ _ _ (w .1) (p .1 .1 .1 .1 .1))))))
 
 same-length : tie.Need-same-length
 same-length c = search needs
 
 returns : tie.Need-returns
-returns c = both-written (c .before .before .before .before .before .before .before .before .before .before .before .before .before .args .st .now) (c .before .before .before .before .before .before .before .before .before .before .before .before .before .args .selection) _ _ _ _ (c .before .before .before .before .before .before .before .before .runs .ensures .low) (c .before .before .before .before .before .before .before .before .runs .ensures .high) (c .before .before .before .before .before .before .before .before .before .before .before .before .before .pre .1 .1 .1 .1 .0) (c .before .before .before .before .before .before .write-run .ensures .0) _ _ _ (c .before .before .before .before .before .before .write-run .ensures .1) (c .before .before .write-run2 .ensures .1)
+returns c =
+    let wr2 = c .before .before in
+    let wr = wr2 .before .before .before .before in
+    let runs = wr .before .before in
+    let s = runs .before .before .before in
+    let t = runs .runs .ensures in
+    let k = s .pre .1 .1 .1 .1 .0 in
+    let w = wr .write-run .ensures in
+    both-written (s .args .st .now) (s .args .selection) _ _ _ _ (t .low) (t .high) k (w .0) _ _ _ (w .1)
+    (wr2 .write-run2 .ensures .1)
 
 pub write-rows-spec : {M : Type 1} → statement M
 write-rows-spec =
-    tie.close
-    (tie.spec
-    shared-slice-read-runs
-    shared-slice-read-runs-2
-    runs-requires
-    write-run-requires
-    write-run-requires-2
-    same-length
-    returns)
+    tie.close (tie.spec runs-requires write-run-requires write-run-requires-2 same-length returns)

@@ -14,7 +14,9 @@ row-of-requires : tie.Need-row-of-requires
 row-of-requires c κs = search needs
 
 returns-2 : tie.Need-returns-2
-returns-2 c = has-by _ _ _ (c .before .before .before .bit-of .ensures) _ (c .before .before .if1 .left) (c .before .row-of .ensures)
+returns-2 c =
+    has-by _ _ _ (c .before .before .before .bit-of .ensures) _ (c .before .before .if1 .left)
+    (c .before .row-of .ensures)
 
 pub has-row-spec : {M : Type 1} → statement M
 has-row-spec = tie.close (tie.spec bit-of-requires returns row-of-requires returns-2)

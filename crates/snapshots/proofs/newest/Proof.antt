@@ -6,12 +6,6 @@ use borrow.Author.Needs.{needs}
 use Rattle.snapshots.proofs.newest.Statement.{statement}
 use Rattle.snapshots.proofs.newest.Tie as tie
 
-shared-slice-read-runs : tie.Need-shared-slice-read-runs
-shared-slice-read-runs c = search needs
-
-shared-slice-read-runs-2 : tie.Need-shared-slice-read-runs-2
-shared-slice-read-runs-2 c = search needs
-
 runs-requires : tie.Need-runs-requires
 runs-requires c κs = search needs
 
@@ -19,22 +13,32 @@ newest-run-requires : tie.Need-newest-run-requires
 newest-run-requires c κs = search needs
 
 returns : tie.Need-returns
-returns c = (front-no (c .before .before .before .before .before .before .before .args .m) (c .before .before .before .before .before .before .before .args .st .now) _ _ _ (c .before .before .before .runs .ensures .low) (c .before .before .before .runs .ensures .high) (c .before .newest-run .ensures .0) (not-true _ (c .if1 .taken)), λ z. absurd (false≢true z))
+returns c =
+    let nr = c .before in
+    let runs = nr .before .before in
+    let s = runs .before .before in
+    let t = runs .runs .ensures in (
+      front-no (s .args .m) (s .args .st .now) _ _ _ (t .low) (t .high) (nr .newest-run .ensures .0)
+          (not-true _ (c .if1 .taken)),
+      λ z. absurd (false≢true z),
+    )
 
 newest-run-requires-2 : tie.Need-newest-run-requires-2
 newest-run-requires-2 c κs = search needs
 
 returns-2 : tie.Need-returns-2
-returns-2 c = (both-ok (c .before .before .before .before .before .before .before .before .before .args .m) (c .before .before .before .before .before .before .before .before .before .args .st .now) _ _ _ (c .before .before .before .before .before .runs .ensures .low) (c .before .before .before .before .before .runs .ensures .high) (c .before .before .before .newest-run .ensures .0) (not-false _ (c .before .before .if1 .left)) (c .newest-run2 .ensures .0), λ z. both-seen (c .before .before .before .before .before .before .before .before .before .args .m) (c .before .before .before .before .before .before .before .before .before .args .st .now) _ _ _ (c .before .before .before .before .before .runs .ensures .low) (c .before .before .before .before .before .runs .ensures .high) _ (c .before .before .before .newest-run .ensures .1 (not-false _ (c .before .before .if1 .left))) (c .newest-run2 .ensures .1 z))
+returns-2 c =
+    let if1 = c .before .before in
+    let nr = if1 .before in
+    let runs = nr .before .before in
+    let s = runs .before .before in
+    let t = runs .runs .ensures in
+    let a = nr .newest-run .ensures in
+    let b = c .newest-run2 .ensures in
+    let y = not-false _ (if1 .if1 .left) in
+    let ok = both-ok (s .args .m) (s .args .st .now) _ _ _ (t .low) (t .high) (a .0) y (b .0) in
+    (ok, λ z. both-seen (s .args .m) (s .args .st .now) _ _ _ (t .low) (t .high) _ (a .1 y) (b .1 z))
 
 pub newest-spec : {M : Type 1} → statement M
 newest-spec =
-    tie.close
-    (tie.spec
-    shared-slice-read-runs
-    shared-slice-read-runs-2
-    runs-requires
-    newest-run-requires
-    returns
-    newest-run-requires-2
-    returns-2)
+    tie.close (tie.spec runs-requires newest-run-requires returns newest-run-requires-2 returns-2)

@@ -1,34 +1,27 @@
 -- The invariant: the set has the items below i that have a row. The measure is the items left.
-use Rattle.spec.specs.Words.{setOf}
-use Rattle.spec.proofs.Bits.{set-lt, set-more}
-use Rattle.snapshots.specs.Snapshots.{hasRow, heldFrom}
-use borrow.Author.Needs.{needs}
-use native.Mathlib.Omega.{arith}
 use Prim.Native.Nat.{_-_, _≤_}
 use mathlib.Core.Path.{_≡_, refl, ap, _∙_}
+use native.Mathlib.Omega.{arith}
+use Rattle.spec.specs.Words.{setOf}
+use Rattle.spec.proofs.Bits.{set-lt, set-more}
+use Rattle.snapshots.specs.Snapshots.{hasRow, rowFrom}
+use Rattle.snapshots.proofs.Laws.{present-by}
+use borrow.Author.Needs.{needs}
 use Rattle.snapshots.proofs.present.Statement.{statement}
 use Rattle.snapshots.proofs.present.Tie as tie
 
 abbrev Inv-loop : tie.InvT-loop
-Inv-loop st m seen selection t set₀ i₀ set i = (i ≤ m) × (set ≡ setOf (λ x. hasRow selection x (heldFrom m st seen x)) i)
+Inv-loop st m seen selection t set₀ i₀ set i = (i ≤ m) ×
+    (set ≡ setOf (λ x. hasRow selection x (rowFrom m st t seen x)) i)
 
 abbrev μ-loop : tie.MeasureT-loop
 μ-loop st m seen selection t set₀ i₀ set i = m - i
 
-shared-slice-read-t : tie.Need-shared-slice-read-t Inv-loop μ-loop
-shared-slice-read-t c = search needs
+ring-size-requires : tie.Need-ring-size-requires Inv-loop μ-loop
+ring-size-requires c κs = search needs
 
-mul-t : tie.Need-mul-t Inv-loop μ-loop
-mul-t c = search needs
-
-add-t : tie.Need-add-t Inv-loop μ-loop
-add-t c = search needs
-
-mul-t-2 : tie.Need-mul-t-2 Inv-loop μ-loop
-mul-t-2 c = search needs
-
-add-t-2 : tie.Need-add-t-2 Inv-loop μ-loop
-add-t-2 c = search needs
+checkpoint-at-requires : tie.Need-checkpoint-at-requires Inv-loop μ-loop
+checkpoint-at-requires c κs = search needs
 
 loop-holds : tie.Need-loop-holds Inv-loop μ-loop
 unfolding setOf
@@ -44,7 +37,9 @@ has-row-requires : tie.Need-has-row-requires Inv-loop μ-loop
 has-row-requires c κs = search needs
 
 with-if-requires : tie.Need-with-if-requires Inv-loop μ-loop
-with-if-requires c κs = (omega arith, rw (c .before .before .before .loop .inv .1) (set-lt _ _))
+with-if-requires c κs =
+    let Al = c .before .before .before in
+    (omega arith, rw (Al .loop .inv .1) (set-lt _ _))
 
 add-i : tie.Need-add-i Inv-loop μ-loop
 add-i c = search needs
@@ -53,10 +48,18 @@ loop-less : tie.Need-loop-less Inv-loop μ-loop
 loop-less c = search needs
 
 loop-again : tie.Need-loop-again Inv-loop μ-loop
-loop-again c = (omega arith, set-more _ _ _ _ _ (c .before .before .before .before .loop .inv .1) (c .before .has-row .ensures) (c .with-if .ensures))
+loop-again c =
+    let hr = c .before in
+    let Al = hr .before .before .before in
+    (omega arith, set-more _ _ _ _ _ (Al .loop .inv .1) (hr .has-row .ensures) (c .with-if .ensures))
 
 returns : tie.Need-returns Inv-loop μ-loop
-returns c = let e : c .before .loop .i ≡ c .before .before .before .before .args .m = omega arith in c .before .loop .inv .1 ∙ ap (setOf _) e
+returns c =
+    let Al = c .before in
+    let s = Al .before .before .before .before in
+    let e : Al .loop .i ≡ s .args .m = omega arith in
+    present-by (s .args .m) (s .args .st .now) (s .args .seen .now) _ (omega arith) _ _
+    (Al .loop .inv .1 ∙ ap (setOf _) e)
 
 pub present-spec : {M : Type 1} → statement M
 present-spec =
@@ -64,11 +67,8 @@ present-spec =
     (tie.spec
     Inv-loop
     μ-loop
-    shared-slice-read-t
-    mul-t
-    add-t
-    mul-t-2
-    add-t-2
+    ring-size-requires
+    checkpoint-at-requires
     loop-holds
     mul-has-row
     element-copy-out-has-row
