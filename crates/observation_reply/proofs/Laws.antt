@@ -1,4 +1,5 @@
--- Laws of the replies of observations: k rows that fit or don't, and the three requests, one way through each at a time.
+-- Laws of the replies of observations: k rows that fit or don't, and the three requests, one way through each at a
+-- time.
 use Prim.Native.Nat.{ℕ, suc, _+_, _-_, _*_, _^_, _≤_, _<_}
 use mathlib.Core.Path.{_≡_, refl, sym, ap, _∙_}
 use mathlib.Core.Bool.{Bool, true, false}
@@ -6,10 +7,11 @@ use mathlib.Core.List.{List, [], _∷_, _++_}
 use native.Mathlib.Numerals.{add-one}
 use native.Mathlib.Omega.{arith}
 use lib.Count.{ones}
-use lib.ListN.{length, take, drop, length-append}
+use lib.ListN.{length, take, drop, length-append, length-take, length-drop}
 use lib.Seq.{sets, length-sets}
 use borrow.Author.Tests.{leb-true, leb-false, lt-leb, le-leb}
 use Rattle.spec.specs.Words.{bit, pickRows}
+use Rattle.spec.specs.Model.{maxItems}
 use Rattle.spec.specs.Observations.{ringSize, base, last, currentRows, atRows}
 use Rattle.spec.specs.Reply.{refuse, numbers, pairs, observationWords, observationReply}
 use Rattle.spec.specs.Calls.{first, sampleBetween, currentReply, currentUpTo}
@@ -18,12 +20,12 @@ use Rattle.spec.specs.declared.Answer.the-variants.{Done, Refused}
 use Rattle.spec.specs.declared.Selection.the-variants.{Items}
 use Rattle.rows.specs.Rows.{itemsOk, sampled, counted, rowsInto}
 use Rattle.rows.specs.declared.Counted.the-variants.{Count, Broken}
-use Rattle.snapshots.specs.Snapshots.{seenFrom, noNumbers, heldFrom, presentIn}
+use Rattle.snapshots.specs.Snapshots.{seenFrom, noNumbers, heldFrom, heldRows, presentIn}
 use Rattle.observation_reply.specs.Fitted.{Fitted}
 use Rattle.spec.proofs.Reply.{length-numbers, length-pairs}
 use Rattle.rows.proofs.Laws.{counted-count, counted-broken}
 use Rattle.snapshots.proofs.Laws.{current-count, at-rows}
-use Rattle.reply.proofs.Laws.{lent-room, lent-over, written-short, written-whole}
+use Rattle.reply.proofs.Laws.{lent-over, written-short, written-whole}
 
 -- the numbers from f up to e are at most a ring of them
 pub in-ring : (st : List ℕ) (f e : ℕ) → first st ≤ f → e ≤ suc (last st) → (base st ≤ f) × (e - f ≤ ringSize st)
@@ -31,12 +33,12 @@ in-ring st f e h g = (omega arith, omega arith)
 
 -- ---- k rows that fit or don't
 
-module _ (st reply x : List ℕ) (k next f : ℕ) (is : f ≡ first st) where
+module _ (st reply x : List ℕ) (k next f l : ℕ) (is : f ≡ first st) (il : l ≡ last st) where
   pub fitted-not : length reply < 4 + 3 * k → Fitted st reply k next false reply
   fitted-not h = record { told = sym (lt-leb _ _ h); sized = refl }
 
-  pub fitted : 4 + 3 * k ≤ length reply → x ≡ sets reply 0 (k ∷ f ∷ last st ∷ next ∷ []) → Fitted st reply k next true x
-  fitted h e = record { told = sym (le-leb _ _ h); sized = e ∙ rw is }
+  pub fitted : 4 + 3 * k ≤ length reply → x ≡ sets reply 0 (k ∷ f ∷ l ∷ next ∷ []) → Fitted st reply k next true x
+  fitted h e = record { told = sym (le-leb _ _ h); sized = e ∙ rw (is, il) }
 
 module _ {st reply x : List ℕ} {k next : ℕ} {t : Bool} (w : Fitted st reply k next t x) where
   -- a reply that is too short stays as it was
@@ -54,22 +56,29 @@ module _ {st reply x : List ℕ} {k next : ℕ} {t : Bool} (w : Fitted st reply 
     pub behind : 4 ≤ length x
     behind = omega (arith, room, ap length front, length-sets reply 0 (k ∷ first st ∷ last st ∷ next ∷ []))
 
-    pub lends : 3 * k ≤ length (take (length x - 4) (drop 4 x))
-    lends = lent-room reply x k (first st) (last st) next front (3 * k) room
+    -- so has any part that begins no later
+    pub lends : (a : ℕ) → a ≤ 4 → 3 * k ≤ length (take (length x - a) (drop a x))
+    lends a h =
+        let d = length-drop a x in
+        let l = length-sets reply 0 (k ∷ first st ∷ last st ∷ next ∷ []) in
+        omega (arith, length-take (length x - a) (drop a x), d, room, ap length front, l)
 
   module _ (rows : List (List ℕ)) (many : k ≡ length rows) where
     size : 4 + 3 * k ≡ length (k ∷ first st ∷ last st ∷ next ∷ (numbers rows ++ pairs rows))
     size = omega (arith, length-append (numbers rows) (pairs rows), length-numbers rows, length-pairs rows)
 
-    short : t ≡ false → observationReply (first st) (last st) next rows reply ≡ record { answer = Refused Space; reply = x }
+    short : t ≡ false
+        → observationReply (first st) (last st) next rows reply ≡ record { answer = Refused Space; reply = x }
     unfolding observationReply observationWords
     short f =
         let h : length reply < 4 + 3 * k = leb-false _ _ (sym (w .told) ∙ f) in
-        rw (kept f, ← many) (written-short k (k ∷ first st ∷ last st ∷ next ∷ (numbers rows ++ pairs rows)) reply (omega (arith, size)))
+        rw (kept f, ← many)
+        (written-short k (k ∷ first st ∷ last st ∷ next ∷ (numbers rows ++ pairs rows)) reply (omega (arith, size)))
 
     -- y is the part behind the sizes as it comes back
     whole : (y : List ℕ) → t ≡ true → y ≡ rowsInto (take (length x - 4) (drop 4 x)) k rows
-        → observationReply (first st) (last st) next rows reply ≡ record { answer = Done k; reply = take 4 x ++ (y ++ drop (length x - 4) (drop 4 x)) }
+        → observationReply (first st) (last st) next rows reply
+        ≡ record { answer = Done k; reply = take 4 x ++ (y ++ drop (length x - 4) (drop 4 x)) }
     unfolding observationReply observationWords
     whole y fits e =
         let n = length-numbers rows in
@@ -77,7 +86,8 @@ module _ {st reply x : List ℕ} {k next : ℕ} {t : Bool} (w : Fitted st reply 
         let r = room fits in
         rw (← many)
         (written-whole k (k ∷ first st ∷ last st ∷ next ∷ (numbers rows ++ pairs rows)) reply _ (omega (arith, size))
-        (lent-over reply x k (first st) (last st) next (front fits) y (numbers rows) (pairs rows) k (omega arith) (omega arith) e))
+        (lent-over reply x k (first st) (last st) next (front fits) y (numbers rows) (pairs rows) k (omega arith)
+        (omega arith) e))
 
 -- ---- sample
 
@@ -86,62 +96,83 @@ module _ (m : ℕ) (st : List ℕ) (selection f e : ℕ) (reply : List ℕ) wher
   unfolding sampleBetween
   sample-broken h = rw (counted-broken m st selection f e h)
 
-  module _ {k : ℕ} {t : Bool} {x : List ℕ} (count : Count k ≡ counted m st selection f e) (w : Fitted st reply k e t x) where
-    pub sample-short : t ≡ false → sampleBetween m st selection f e reply ≡ record { answer = Refused Space; reply = x }
+  module _ {k : ℕ} {t : Bool} {x : List ℕ} (count : Count k ≡ counted m st selection f e)
+      (w : Fitted st reply k e t x) where
+    pub sample-short : t ≡ false
+        → sampleBetween m st selection f e reply ≡ record { answer = Refused Space; reply = x }
     unfolding sampleBetween
-    sample-short h = let g = counted-count m st selection f e count in rw (g .0) (short w (sampled st selection f e) (g .1) h)
+    sample-short h =
+        let g = counted-count m st selection f e count in rw (g .0) (short w (sampled st selection f e) (g .1) h)
 
-    pub sample-whole : (y : List ℕ) → t ≡ true → y ≡ rowsInto (take (length x - 4) (drop 4 x)) k (sampled st selection f e)
-        → sampleBetween m st selection f e reply ≡ record { answer = Done k; reply = take 4 x ++ (y ++ drop (length x - 4) (drop 4 x)) }
+    pub sample-whole : (y : List ℕ) → t ≡ true
+        → y ≡ rowsInto (take (length x - 4) (drop 4 x)) k (sampled st selection f e)
+        → sampleBetween m st selection f e reply
+        ≡ record { answer = Done k; reply = take 4 x ++ (y ++ drop (length x - 4) (drop 4 x)) }
     unfolding sampleBetween
-    sample-whole y h i = let g = counted-count m st selection f e count in rw (g .0) (whole w (sampled st selection f e) (g .1) y h i)
+    sample-whole y h i =
+        let g = counted-count m st selection f e count in rw (g .0) (whole w (sampled st selection f e) (g .1) y h i)
 
 -- ---- current
 
-module _ (m : ℕ) (st : List ℕ) (selection : ℕ) (reply : List ℕ) {k : ℕ} {t : Bool} {x : List ℕ} (few : selection < 2 ^ m) (many : k ≡ ones selection)
-    (w : Fitted st reply k (last st + 1) t x) where
+module _ (m : ℕ) (st : List ℕ) (selection : ℕ) (reply : List ℕ) {k l : ℕ} {t : Bool} {x : List ℕ}
+    (few : selection < 2 ^ m) (many : k ≡ ones selection)
+    (il : l ≡ last st) (w : Fitted st reply k (l + 1) t x) where
   pub current-many : k ≡ length (currentRows (ringSize st) m st selection)
   current-many = many ∙ current-count (ringSize st) m st selection few
 
-  current-reply : currentReply m st reply (Items selection) ≡ observationReply (first st) (last st) (last st + 1) (currentRows (ringSize st) m st selection) reply
+  current-reply : currentReply m st reply (Items selection)
+      ≡ observationReply (first st) (last st) (l + 1) (currentRows (ringSize st) m st selection) reply
   unfolding currentReply
-  current-reply = rw (add-one (last st))
+  current-reply = rw (il, add-one (last st))
 
-  pub current-short : t ≡ false → currentReply m st reply (Items selection) ≡ record { answer = Refused Space; reply = x }
+  pub current-short : t ≡ false
+      → currentReply m st reply (Items selection) ≡ record { answer = Refused Space; reply = x }
   current-short h = current-reply ∙ short w (currentRows (ringSize st) m st selection) current-many h
 
-  pub current-whole : (y : List ℕ) → t ≡ true → y ≡ rowsInto (take (length x - 4) (drop 4 x)) k (currentRows (ringSize st) m st selection)
-      → currentReply m st reply (Items selection) ≡ record { answer = Done k; reply = take 4 x ++ (y ++ drop (length x - 4) (drop 4 x)) }
+  pub current-whole : (y : List ℕ) → t ≡ true
+      → y ≡ rowsInto (take (length x - 4) (drop 4 x)) k (currentRows (ringSize st) m st selection)
+      → currentReply m st reply (Items selection)
+      ≡ record { answer = Done k; reply = take 4 x ++ (y ++ drop (length x - 4) (drop 4 x)) }
   current-whole y h e = current-reply ∙ whole w (currentRows (ringSize st) m st selection) current-many y h e
 
 -- ---- current with at: f is first, and `seen` has each item's newest number up to `number`
 
-module _ (m : ℕ) (st : List ℕ) (selection number f : ℕ) (reply : List ℕ) (is : f ≡ first st) {r : Bool} (ok : r ≡ itemsOk m st f (number + 1)) where
+module _ (m : ℕ) (st : List ℕ) (selection number f : ℕ) (reply : List ℕ) (is : f ≡ first st) {r : Bool}
+    (ok : r ≡ itemsOk m st f (number + 1)) where
   pub at-broken : r ≡ false → currentUpTo m st selection number reply ≡ refuse Store reply
   unfolding currentUpTo
   at-broken h = let e = rw (is, add-one number) at (sym ok ∙ h) in rw e
 
   module _ (right : r ≡ true) where
-    at-reply : currentUpTo m st selection number reply
-        ≡ observationReply (first st) (last st) (last st + 1) (atRows (ringSize st) m (base st) st selection (number + 1 - f) f) reply
+    at-reply : (l : ℕ) → l ≡ last st → currentUpTo m st selection number reply
+        ≡ observationReply (first st) (last st) (l + 1)
+        (atRows (ringSize st) m (base st) st selection (number + 1 - f) f) reply
     unfolding currentUpTo
-    at-reply = let e = rw (is, add-one number) at (sym ok ∙ right) in rw (is, add-one number, add-one (last st), e)
+    at-reply l il =
+        let e = rw (is, add-one number) at (sym ok ∙ right) in rw (is, il, add-one number, add-one (last st), e)
 
-    module _ {seen : List ℕ} {chosen k : ℕ} (items : m ≤ 64) (b : 1 ≤ base st) (low : base st ≤ f)
-        (s : r ≡ true → seen ≡ seenFrom st f (number + 1) noNumbers) (c : chosen ≡ presentIn m st seen selection) (many : k ≡ ones chosen) where
-      at-have : (pickRows (bit chosen) (heldFrom m st seen) m 0 ≡ atRows (ringSize st) m (base st) st selection (number + 1 - f) f)
+    module _ {seen : List ℕ} {chosen k : ℕ} (items : m ≤ maxItems) (b : 1 ≤ base st) (low : base st ≤ f)
+        (s : r ≡ true → seen ≡ seenFrom st f (number + 1) noNumbers) (c : chosen ≡ presentIn m st seen selection)
+        (many : k ≡ ones chosen) where
+      at-have :
+          (heldRows m st seen chosen ≡ atRows (ringSize st) m (base st) st selection (number + 1 - f) f)
           × (k ≡ length (atRows (ringSize st) m (base st) st selection (number + 1 - f) f))
       at-have = at-rows m st selection f (number + 1) items b low seen chosen k (s right) c many
 
       pub at-many : k ≡ length (pickRows (bit chosen) (heldFrom m st seen) m 0)
       at-many = at-have .1 ∙ ap length (sym (at-have .0))
 
-      module _ {t : Bool} {x : List ℕ} (w : Fitted st reply k (last st + 1) t x) where
-        pub at-short : t ≡ false → currentUpTo m st selection number reply ≡ record { answer = Refused Space; reply = x }
-        at-short h = at-reply ∙ short w (atRows (ringSize st) m (base st) st selection (number + 1 - f) f) (at-have .1) h
+      module _ {t : Bool} {l : ℕ} {x : List ℕ} (il : l ≡ last st) (w : Fitted st reply k (l + 1) t x) where
+        pub at-short : t ≡ false
+            → currentUpTo m st selection number reply ≡ record { answer = Refused Space; reply = x }
+        at-short h =
+            at-reply l il ∙ short w (atRows (ringSize st) m (base st) st selection (number + 1 - f) f) (at-have .1) h
 
-        pub at-whole : (y : List ℕ) → t ≡ true → y ≡ rowsInto (take (length x - 4) (drop 4 x)) k (pickRows (bit chosen) (heldFrom m st seen) m 0)
-            → currentUpTo m st selection number reply ≡ record { answer = Done k; reply = take 4 x ++ (y ++ drop (length x - 4) (drop 4 x)) }
+        pub at-whole : (y : List ℕ) → t ≡ true
+            → y ≡ rowsInto (take (length x - 4) (drop 4 x)) k (pickRows (bit chosen) (heldFrom m st seen) m 0)
+            → currentUpTo m st selection number reply
+            ≡ record { answer = Done k; reply = take 4 x ++ (y ++ drop (length x - 4) (drop 4 x)) }
         at-whole y h e =
-            at-reply
-            ∙ whole w (atRows (ringSize st) m (base st) st selection (number + 1 - f) f) (at-have .1) y h (rw (at-have .0) at e)
+            at-reply l il
+            ∙ whole w (atRows (ringSize st) m (base st) st selection (number + 1 - f) f) (at-have .1) y h
+            (rw (at-have .0) at e)

@@ -1,10 +1,11 @@
--- The rows of the items that have one are written behind the sizes; they are as many as the set of these items has ones.
+-- The rows of the items that have one are written behind the sizes; they are as many as the set of these items has
+-- ones.
 use Prim.Native.Nat.{_+_}
 use native.Mathlib.Omega.{arith}
 use borrow.Author.Tests.{not-true, not-false}
-use borrow.Author.Needs.{needs}
 use Rattle.reply.proofs.Laws.{both}
 use Rattle.observation_reply.proofs.Laws.{in-ring, behind, lends, at-broken, at-many, at-short, at-whole}
+use borrow.Author.Needs.{needs}
 use Rattle.observation_reply.proofs.reply_at.Statement.{statement}
 use Rattle.observation_reply.proofs.reply_at.Tie as tie
 
@@ -16,16 +17,24 @@ add-newest c = search needs
 
 newest-requires : tie.Need-newest-requires
 newest-requires c κs =
-    let s = c .before .before .before .before in
-    let f = c .before .first in
-    let r = in-ring (s .args .st .now) (f .result) (s .args .number + 1) (omega (arith, f .ensures .0)) (omega arith) in
-    (s .pre .0, ((s .pre .1 .0, r .0), (omega (arith, f .ensures .0), r .1)))
+    let firs = c .before in
+    let s = firs .before .before .before in
+    let p = s .pre in
+    let f = firs .first in
+    let r = in-ring (s .args .st .now) (f .result) (s .args .number + 1) (omega (arith, f .ensures .0)) (omega arith)
+    in
+    (p .0, ((p .1 .0, r .0), (omega (arith, f .ensures .0), r .1)))
 
 returns : tie.Need-returns
 returns c =
-    let firs = c .before .before .before in
+    let newe = c .before in
+    let firs = newe .before .before in
     let s = firs .before .before .before in
-    both _ (at-broken (s .args .m) (s .args .st .now) (s .args .selection) (s .args .number) _ (s .args .reply .now) (firs .first .ensures .0) (c .before .newest .ensures .0) (not-true _ (c .if1 .taken)))
+    let f = firs .first .ensures in
+    let n = newe .newest .ensures in
+    both _
+    (at-broken (s .args .m) (s .args .st .now) (s .args .selection) (s .args .number) _ (s .args .reply .now)
+    (f .0) (n .0) (not-true _ (c .if1 .taken)))
 
 present-requires : tie.Need-present-requires
 present-requires c κs = search needs
@@ -33,8 +42,8 @@ present-requires c κs = search needs
 count-requires : tie.Need-count-requires
 count-requires c κs = search needs
 
-shared-slice-read-fit-sizes : tie.Need-shared-slice-read-fit-sizes
-shared-slice-read-fit-sizes c = search needs
+last-requires : tie.Need-last-requires
+last-requires c κs = search needs
 
 add-fit-sizes : tie.Need-add-fit-sizes
 add-fit-sizes c = search needs
@@ -48,24 +57,34 @@ same-length c = search needs
 returns-2 : tie.Need-returns-2
 returns-2 c =
     let fs = c .before .before .before in
-    let coun = fs .before .before .before in
+    let last = fs .before .before in
+    let coun = last .before in
     let pres = coun .before in
     let if1 = pres .before .before in
     let newe = if1 .before in
     let firs = newe .before .before in
     let s = firs .before .before .before in
-    let f = firs .first in
-    both _ (at-short (s .args .m) (s .args .st .now) (s .args .selection) (s .args .number) _ (s .args .reply .now) (f .ensures .0) (newe .newest .ensures .0) (not-false _ (if1 .if1 .left)) (s .pre .1 .0) (s .pre .0 .b-pos) (f .ensures .1 .0) (newe .newest .ensures .1) (pres .present .ensures) (coun .count .ensures .0) (fs .fit-sizes .ensures) (not-true _ (c .if2 .taken)))
+    let p = s .pre in
+    let f = firs .first .ensures in
+    let n = newe .newest .ensures in
+    let w = fs .fit-sizes .ensures in
+    let l = last .last .ensures .0 in
+    both _
+    (at-short (s .args .m) (s .args .st .now) (s .args .selection) (s .args .number) _ (s .args .reply .now)
+    (f .0) (n .0) (not-false _ (if1 .if1 .left)) (p .1 .0) (p .0 .b-pos) (f .1 .0) (n .1) (pres .present .ensures)
+    (coun .count .ensures .0) l w (not-true _ (c .if2 .taken)))
 
 sub-write-held : tie.Need-sub-write-held
 sub-write-held c =
-    let fs = c .before .before .before .before in
-    behind (fs .fit-sizes .ensures) (not-false _ (c .before .if2 .left))
+    let if2 = c .before in
+    let fs = if2 .before .before .before in
+    omega (arith, behind (fs .fit-sizes .ensures) (not-false _ (if2 .if2 .left)))
 
 part-write-held-start : tie.Need-part-write-held-start
 part-write-held-start c =
-    let fs = c .before .before .before .before in
-    behind (fs .fit-sizes .ensures) (not-false _ (c .before .if2 .left))
+    let if2 = c .before in
+    let fs = if2 .before .before .before in
+    omega (arith, behind (fs .fit-sizes .ensures) (not-false _ (if2 .if2 .left)))
 
 part-write-held-end : tie.Need-part-write-held-end
 part-write-held-end c = search needs
@@ -80,8 +99,14 @@ write-held-requires c κs =
     let newe = if1 .before in
     let firs = newe .before .before in
     let s = firs .before .before .before in
-    let f = firs .first in
-    (s .pre .0, (s .pre .1 .0, (at-many (s .args .m) (s .args .st .now) (s .args .selection) (s .args .number) _ (s .args .reply .now) (f .ensures .0) (newe .newest .ensures .0) (not-false _ (if1 .if1 .left)) (s .pre .1 .0) (s .pre .0 .b-pos) (f .ensures .1 .0) (newe .newest .ensures .1) (pres .present .ensures) (coun .count .ensures .0), lends (fs .fit-sizes .ensures) (not-false _ (if2 .if2 .left)))))
+    let p = s .pre in
+    let f = firs .first .ensures in
+    let n = newe .newest .ensures in
+    let w = fs .fit-sizes .ensures in
+    let k = at-many (s .args .m) (s .args .st .now) (s .args .selection) (s .args .number) _ (s .args .reply .now)
+    (f .0) (n .0) (not-false _ (if1 .if1 .left)) (p .1 .0) (p .0 .b-pos) (f .1 .0) (n .1) (pres .present .ensures)
+    (coun .count .ensures .0) in
+    (p .0, (p .1 .0, (k, lends w (not-false _ (if2 .if2 .left)) _ (omega arith))))
 
 same-length-2 : tie.Need-same-length-2
 same-length-2 c = search needs
@@ -91,14 +116,23 @@ returns-3 c =
     let wh = c .before .before in
     let if2 = wh .before .before .before in
     let fs = if2 .before .before .before in
-    let coun = fs .before .before .before in
+    let last = fs .before .before in
+    let coun = last .before in
     let pres = coun .before in
     let if1 = pres .before .before in
     let newe = if1 .before in
     let firs = newe .before .before in
     let s = firs .before .before .before in
-    let f = firs .first in
-    both _ (at-whole (s .args .m) (s .args .st .now) (s .args .selection) (s .args .number) _ (s .args .reply .now) (f .ensures .0) (newe .newest .ensures .0) (not-false _ (if1 .if1 .left)) (s .pre .1 .0) (s .pre .0 .b-pos) (f .ensures .1 .0) (newe .newest .ensures .1) (pres .present .ensures) (coun .count .ensures .0) (fs .fit-sizes .ensures) _ (not-false _ (if2 .if2 .left)) (wh .write-held .ensures))
+    let p = s .pre in
+    let f = firs .first .ensures in
+    let n = newe .newest .ensures in
+    let w = fs .fit-sizes .ensures in
+    let l = last .last .ensures .0 in
+    let y = not-false _ (if2 .if2 .left) in
+    both _
+    (at-whole (s .args .m) (s .args .st .now) (s .args .selection) (s .args .number) _ (s .args .reply .now)
+    (f .0) (n .0) (not-false _ (if1 .if1 .left)) (p .1 .0) (p .0 .b-pos) (f .1 .0) (n .1) (pres .present .ensures)
+    (coun .count .ensures .0) l w _ y (wh .write-held .ensures))
 
 pub reply-at-spec : {M : Type 1} → statement M
 reply-at-spec =
@@ -110,7 +144,7 @@ reply-at-spec =
     returns
     present-requires
     count-requires
-    shared-slice-read-fit-sizes
+    last-requires
     add-fit-sizes
     fit-sizes-requires
     same-length

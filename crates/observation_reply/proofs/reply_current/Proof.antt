@@ -1,16 +1,17 @@
 -- As many rows as the selection has ones are written behind the sizes.
+use native.Mathlib.Omega.{arith}
 use borrow.Author.Tests.{not-true, not-false}
-use borrow.Author.Needs.{needs}
 use Rattle.reply.proofs.Laws.{both}
 use Rattle.observation_reply.proofs.Laws.{behind, lends, current-many, current-short, current-whole}
+use borrow.Author.Needs.{needs}
 use Rattle.observation_reply.proofs.reply_current.Statement.{statement}
 use Rattle.observation_reply.proofs.reply_current.Tie as tie
 
 count-requires : tie.Need-count-requires
 count-requires c κs = search needs
 
-shared-slice-read-fit-sizes : tie.Need-shared-slice-read-fit-sizes
-shared-slice-read-fit-sizes c = search needs
+last-requires : tie.Need-last-requires
+last-requires c κs = search needs
 
 add-fit-sizes : tie.Need-add-fit-sizes
 add-fit-sizes c = search needs
@@ -24,29 +25,40 @@ same-length c = search needs
 returns : tie.Need-returns
 returns c =
     let fs = c .before .before .before in
-    let coun = fs .before .before .before in
+    let last = fs .before .before in
+    let coun = last .before in
     let s = coun .before .before .before in
-    both _ (current-short (s .args .m) (s .args .st .now) (s .args .selection) (s .args .reply .now) (s .pre .1 .1) (coun .count .ensures .0) (fs .fit-sizes .ensures) (not-true _ (c .if1 .taken)))
+    let w = fs .fit-sizes .ensures in
+    let l = last .last .ensures .0 in
+    both _
+    (current-short (s .args .m) (s .args .st .now) (s .args .selection) (s .args .reply .now) (s .pre .1 .1)
+    (coun .count .ensures .0) l w (not-true _ (c .if1 .taken)))
 
 sub-write-latest : tie.Need-sub-write-latest
 sub-write-latest c =
     let fs = c .before .before .before in
-    behind (fs .fit-sizes .ensures) (not-false _ (c .if1 .left))
+    omega (arith, behind (fs .fit-sizes .ensures) (not-false _ (c .if1 .left)))
 
 part-write-latest-start : tie.Need-part-write-latest-start
 part-write-latest-start c =
     let fs = c .before .before .before in
-    behind (fs .fit-sizes .ensures) (not-false _ (c .if1 .left))
+    omega (arith, behind (fs .fit-sizes .ensures) (not-false _ (c .if1 .left)))
 
 part-write-latest-end : tie.Need-part-write-latest-end
 part-write-latest-end c = search needs
 
 write-latest-requires : tie.Need-write-latest-requires
 write-latest-requires c κs =
-    let fs = c .before .before .before .before in
-    let coun = fs .before .before .before in
+    let if1 = c .before in
+    let fs = if1 .before .before .before in
+    let last = fs .before .before in
+    let coun = last .before in
     let s = coun .before .before .before in
-    (s .pre .0, (s .pre .1 .0, (current-many (s .args .m) (s .args .st .now) (s .args .selection) (s .args .reply .now) (s .pre .1 .1) (coun .count .ensures .0) (fs .fit-sizes .ensures), lends (fs .fit-sizes .ensures) (not-false _ (c .before .if1 .left)))))
+    let p = s .pre in
+    let w = fs .fit-sizes .ensures in
+    let n = current-many (s .args .m) (s .args .st .now) (s .args .selection) (s .args .reply .now) (s .pre .1 .1)
+    (coun .count .ensures .0) (last .last .ensures .0) w in
+    (p .0, (p .1 .0, (n, lends w (not-false _ (if1 .if1 .left)) _ (omega arith))))
 
 same-length-2 : tie.Need-same-length-2
 same-length-2 c = search needs
@@ -56,16 +68,22 @@ returns-2 c =
     let wl = c .before .before in
     let if1 = wl .before .before in
     let fs = if1 .before .before .before in
-    let coun = fs .before .before .before in
+    let last = fs .before .before in
+    let coun = last .before in
     let s = coun .before .before .before in
-    both _ (current-whole (s .args .m) (s .args .st .now) (s .args .selection) (s .args .reply .now) (s .pre .1 .1) (coun .count .ensures .0) (fs .fit-sizes .ensures) _ (not-false _ (if1 .if1 .left)) (wl .write-latest .ensures))
+    let w = fs .fit-sizes .ensures in
+    let l = last .last .ensures .0 in
+    let y = not-false _ (if1 .if1 .left) in
+    both _
+    (current-whole (s .args .m) (s .args .st .now) (s .args .selection) (s .args .reply .now) (s .pre .1 .1)
+    (coun .count .ensures .0) l w _ y (wl .write-latest .ensures))
 
 pub reply-current-spec : {M : Type 1} → statement M
 reply-current-spec =
     tie.close
     (tie.spec
     count-requires
-    shared-slice-read-fit-sizes
+    last-requires
     add-fit-sizes
     fit-sizes-requires
     same-length

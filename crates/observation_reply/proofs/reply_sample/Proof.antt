@@ -2,18 +2,19 @@
 use mathlib.Core.Path.{sym, _∙_}
 use native.Mathlib.Omega.{arith}
 use borrow.Author.Tests.{not-true, not-false}
-use borrow.Author.Needs.{needs}
 use Rattle.rows.proofs.Laws.{counted-count, counted-few}
 use Rattle.reply.proofs.Laws.{both}
 use Rattle.observation_reply.proofs.Laws.{in-ring, behind, lends, sample-broken, sample-short, sample-whole}
+use borrow.Author.Needs.{needs}
 use Rattle.observation_reply.proofs.reply_sample.Statement.{statement}
 use Rattle.observation_reply.proofs.reply_sample.Tie as tie
 
 count-rows-requires : tie.Need-count-rows-requires
 count-rows-requires c κs =
     let s = c .before .before in
-    let r = in-ring (s .args .st .now) (s .args .f) (s .args .e) (s .pre .1 .1 .0) (s .pre .1 .1 .1 .1) in
-    (s .pre .0, ((s .pre .1 .0, r .0), (s .pre .1 .1 .1 .0, r .1)))
+    let p = s .pre in
+    let r = in-ring (s .args .st .now) (s .args .f) (s .args .e) (p .1 .1 .0) (p .1 .1 .1 .1) in
+    (p .0, ((p .1 .0, r .0), (p .1 .1 .1 .0, r .1)))
 
 enum-known-k : tie.Need-enum-known-k
 enum-known-k c = search needs
@@ -25,16 +26,21 @@ returns : tie.Need-returns
 returns c =
     let cr = c .before .before in
     let s = cr .before .before .before in
-    both _ (sample-broken (s .args .m) (s .args .st .now) (s .args .selection) (s .args .f) (s .args .e) (s .args .reply .now) (sym (c .enum-told .given .1) ∙ cr .count-rows .ensures))
+    let n = sym (c .enum-told .given .1) ∙ cr .count-rows .ensures in
+    both _
+    (sample-broken (s .args .m) (s .args .st .now) (s .args .selection) (s .args .f) (s .args .e)
+    (s .args .reply .now) n)
 
 fit-sizes-requires : tie.Need-fit-sizes-requires
 fit-sizes-requires c κs =
     let k = c .before .before in
     let cr = k .before .before in
     let s = cr .before .before .before in
-    let r = in-ring (s .args .st .now) (s .args .f) (s .args .e) (s .pre .1 .1 .0) (s .pre .1 .1 .1 .1) in
-    let n = counted-few (s .args .m) (s .args .st .now) (s .args .selection) (s .args .f) (s .args .e) (sym (k .k .given .1) ∙ cr .count-rows .ensures) in
-    (s .pre .0, omega (arith, s .pre .0 .n-max))
+    let p = s .pre in
+    let r = in-ring (s .args .st .now) (s .args .f) (s .args .e) (p .1 .1 .0) (p .1 .1 .1 .1) in
+    let n = counted-few (s .args .m) (s .args .st .now) (s .args .selection) (s .args .f) (s .args .e)
+    (sym (k .k .given .1) ∙ cr .count-rows .ensures) in
+    (p .0, omega (arith, p .0 .n-max))
 
 same-length : tie.Need-same-length
 same-length c = search needs
@@ -45,30 +51,39 @@ returns-2 c =
     let k = fs .before .before .before in
     let cr = k .before .before in
     let s = cr .before .before .before in
-    both _ (sample-short (s .args .m) (s .args .st .now) (s .args .selection) (s .args .f) (s .args .e) (s .args .reply .now) (sym (k .k .given .1) ∙ cr .count-rows .ensures) (fs .fit-sizes .ensures) (not-true _ (c .if1 .taken)))
+    let n = sym (k .k .given .1) ∙ cr .count-rows .ensures in
+    let w = fs .fit-sizes .ensures in
+    both _
+    (sample-short (s .args .m) (s .args .st .now) (s .args .selection) (s .args .f) (s .args .e)
+    (s .args .reply .now) n w (not-true _ (c .if1 .taken)))
 
 sub-write-rows : tie.Need-sub-write-rows
 sub-write-rows c =
     let fs = c .before .before .before in
-    behind (fs .fit-sizes .ensures) (not-false _ (c .if1 .left))
+    omega (arith, behind (fs .fit-sizes .ensures) (not-false _ (c .if1 .left)))
 
 part-write-rows-start : tie.Need-part-write-rows-start
 part-write-rows-start c =
     let fs = c .before .before .before in
-    behind (fs .fit-sizes .ensures) (not-false _ (c .if1 .left))
+    omega (arith, behind (fs .fit-sizes .ensures) (not-false _ (c .if1 .left)))
 
 part-write-rows-end : tie.Need-part-write-rows-end
 part-write-rows-end c = search needs
 
 write-rows-requires : tie.Need-write-rows-requires
 write-rows-requires c κs =
-    let fs = c .before .before .before .before in
+    let if1 = c .before in
+    let fs = if1 .before .before .before in
     let k = fs .before .before .before in
     let cr = k .before .before in
     let s = cr .before .before .before in
-    let r = in-ring (s .args .st .now) (s .args .f) (s .args .e) (s .pre .1 .1 .0) (s .pre .1 .1 .1 .1) in
-    let g = counted-count (s .args .m) (s .args .st .now) (s .args .selection) (s .args .f) (s .args .e) (sym (k .k .given .1) ∙ cr .count-rows .ensures) in
-    (s .pre .0, ((s .pre .1 .0, r .0), ((s .pre .1 .1 .1 .0, r .1), (g .0, (g .1, lends (fs .fit-sizes .ensures) (not-false _ (c .before .if1 .left)))))))
+    let p = s .pre in
+    let r = in-ring (s .args .st .now) (s .args .f) (s .args .e) (p .1 .1 .0) (p .1 .1 .1 .1) in
+    let g = counted-count (s .args .m) (s .args .st .now) (s .args .selection) (s .args .f) (s .args .e)
+    (sym (k .k .given .1) ∙ cr .count-rows .ensures) in
+    let w = fs .fit-sizes .ensures in
+    let y = not-false _ (if1 .if1 .left) in
+    (p .0, ((p .1 .0, r .0), ((p .1 .1 .1 .0, r .1), (g .0, (g .1, lends w y _ (omega arith))))))
 
 same-length-2 : tie.Need-same-length-2
 same-length-2 c = search needs
@@ -81,7 +96,11 @@ returns-3 c =
     let k = fs .before .before .before in
     let cr = k .before .before in
     let s = cr .before .before .before in
-    both _ (sample-whole (s .args .m) (s .args .st .now) (s .args .selection) (s .args .f) (s .args .e) (s .args .reply .now) (sym (k .k .given .1) ∙ cr .count-rows .ensures) (fs .fit-sizes .ensures) _ (not-false _ (if1 .if1 .left)) (wr .write-rows .ensures))
+    let n = sym (k .k .given .1) ∙ cr .count-rows .ensures in
+    let w = fs .fit-sizes .ensures in
+    both _
+    (sample-whole (s .args .m) (s .args .st .now) (s .args .selection) (s .args .f) (s .args .e)
+    (s .args .reply .now) n w _ (not-false _ (if1 .if1 .left)) (wr .write-rows .ensures))
 
 pub reply-sample-spec : {M : Type 1} → statement M
 reply-sample-spec =
