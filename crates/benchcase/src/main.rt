@@ -1,4 +1,5 @@
-// The bench case of document 01 with one request from standard input: number and k on a line, then the reply's words on a line.
+// The bench case of document 01 with one request from standard input: number and k on a line, then the reply's words
+// on a line.
 ghost use Prim.Native.Nat.{_≤_};
 ghost use lib.ListN.{length};
 
