@@ -114,7 +114,7 @@ false_fact() { # LOG
         /\/must-fail\/[^ \/]+\/[^ \/]+\/proofs\/[^ ]*\.antt:[0-9]+:[0-9]+: error: `[^`]*`: / {
             said = $0
             sub(/^.*: error: `[^`]*`: /, "", said)
-            if (said ~ /^(as printed|computed as far as they go), the two types /) fact = 1
+            if (said ~ /^(as printed|computed as far as they go), the two (types|sides) /) fact = 1
             if (said ~ /^expected type `/) fact = 1
             if (said ~ /^`search`: no proof of /) fact = 1
             if (said ~ /^`rw`: no occurrence of /) fact = 1
