@@ -21,7 +21,7 @@ use Rattle.asset_reply.specs.declared.Found.{Found}
 use Rattle.asset_reply.specs.Cells.{Cells, FoundAll}
 use Rattle.spec.proofs.Reply.{length-numbers, length-lengths}
 use Rattle.reply.proofs.Laws.{sets-set, lent-over, written-short, written-whole}
-use Rattle.text.proofs.Laws.{split-at-more, split-at-last}
+use Rattle.parts.proofs.Laws.{split-at-more, split-at-last}
 use Rattle.asset_reply.specs.declared.Found.the-variants as found
 
 -- ---- rows of cells

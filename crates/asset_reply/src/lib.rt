@@ -117,7 +117,7 @@ fn find_all(assets: &[u8], text: &[u8], start: usize, cells: &mut [u64; ASSET_SL
     let mut at = start;
     let mut k: u64 = 0;
     loop {
-        let end = text::id_end(text, at);
+        let end = parts::id_end(text, at);
         let cell = assets::find(assets, &text[at..end]);
         if u <= cell {
             return Found::Missing;

@@ -1,20 +1,15 @@
-// The observation store: its head, ring places, adding with eviction, and start.
+// The observation store: its head, and the places of ring and tables, read and written.
 ghost use mathlib.Core.Path.{_≡_};
-ghost use mathlib.Core.Bool.{true};
 ghost use mathlib.Core.List.{[], _∷_};
-ghost use Prim.Native.Nat.{suc, _+_, _*_, _≤_, _<_};
-ghost use lib.ListN.{length, getD, replicate};
+ghost use Prim.Native.Nat.{_+_, _*_, _≤_, _<_};
+ghost use lib.ListN.{length, getD, set, replicate};
 ghost use Rattle.spec.specs.Words.{row, put};
 ghost use Rattle.spec.specs.Model.{maxItems};
-ghost use Rattle.spec.specs.Observations.{maxRing, maxNumber, ringSize, base, last};
+ghost use Rattle.spec.specs.Observations.{maxRing, maxNumber, ringSize, base, last, lastAt, ringAt};
 ghost use Rattle.spec.specs.Observations.{latestAt, checkpointAt, latestRow, storeWords, place};
-ghost use Rattle.spec.specs.Observations.{headOk, Head, evict, evictOk, blank, startStore};
-ghost use Rattle.spec.specs.Calls.{first, roomFor, added};
-ghost use Rattle.observations.specs.Adding.{Adding, Overwriting, Sizes};
+ghost use Rattle.spec.specs.Observations.{headOk, Head, blank};
+ghost use Rattle.spec.specs.Calls.{first};
 ghost use Rattle.observations.specs.Ring.{ringTime, ringWord};
-use spec::Refusal;
-use spec::Value;
-use spec::Verdict;
 
 // The places of the head's words, and how many there are: the ring begins behind them.
 const RING_SIZE_AT: usize = 0;
@@ -183,28 +178,6 @@ pub fn latest_word(st: &[u64], m: u64, item: u64) -> u64
     latest.packed
 }
 
-// Whether a number is left, and the entry that it overwrites, if any, has an item of the model.
-pub fn room_for(st: &[u64], m: u64) -> Verdict
-    requires { ⌜ Head m (now st) ⌝ }
-    requires { ⌜ m ≤ maxItems ⌝ }
-    ensures { λ r. ⌜ r ≡ roomFor m (now (st .entry)) ⌝ }
-{
-    let n = ring_size(st, m);
-    let b = base(st, m);
-    let last = last(st, m);
-    if spec::MAX_NUMBER <= last {
-        return Verdict::Refused(Refusal::Spent);
-    }
-    if last + 1 - b < n {
-        return Verdict::Fine;
-    }
-    let p = place(n, b, last + 1);
-    if value::item_of(ring_word(st, n, p)) < m {
-        return Verdict::Fine;
-    }
-    Verdict::Refused(Refusal::Store)
-}
-
 // Row i of two columns of w words each, the first at word b.
 fn put_two(st: &mut [u64], b: usize, w: usize, i: usize, x: u64, y: u64)
     requires { ⌜ i < w ⌝ }
@@ -225,38 +198,27 @@ fn put_three(st: &mut [u64], b: usize, w: usize, i: usize, x: u64, y: u64, z: u6
     put_two(st, b + w, w, i, y, z);
 }
 
-// The entry that number s is about to overwrite, if any, goes to its item's checkpoint.
-fn evict(st: &mut [u64], n: u64, m: u64, b: u64, s: u64)
-    requires { ⌜ Overwriting n m b s (now st) ⌝ }
-    ensures { λ r. ⌜ now (st .exit) ≡ evict n m b s (now (st .entry)) ⌝ }
+// Place p of a ring of n entries takes a time and a packed word.
+pub fn put_ring(st: &mut [u64], n: u64, p: u64, time: u64, word: u64)
+    requires { ⌜ (p < n) × (latestAt n ≤ length (now st)) ⌝ }
+    ensures { λ r. ⌜ now (st .exit) ≡ put (now (st .entry)) ringAt n p (time ∷ word ∷ []) ⌝ }
 {
-    if n <= s - b {
-        let oldest = place(n, b, s);
-        let time = ring_time(st, n, oldest);
-        let word = ring_word(st, n, oldest);
-        let item = value::item_of(word) as usize;
-        let checkpoint = checkpoint_at(n, m) as usize;
-        put_three(st, checkpoint, m as usize, item, s - n, time, word);
-    }
+    put_two(st, HEAD_WORDS, n as usize, p as usize, time, word);
 }
 
-// One observation more, as last + 1: the overwritten entry's checkpoint, the ring, the item's latest, and last.
-pub fn add(st: &mut [u64], m: u64, item: u64, time: u64, word: u64)
-    requires { ⌜ Adding m (now st) ⌝ }
-    requires { ⌜ evictOk (ringSize (now st)) m (base (now st)) (suc (last (now st))) (now st) ≡ true ⌝ }
-    requires { ⌜ m ≤ maxItems ⌝ }
-    requires { ⌜ item < m ⌝ }
-    ensures { λ r. ⌜ now (st .exit) ≡ added m (now (st .entry)) item time word ⌝ }
+// Item i's row of the table of m items that begins at word t takes an observation.
+pub fn put_row(st: &mut [u64], m: u64, t: u64, i: u64, number: u64, time: u64, packed: u64)
+    requires { ⌜ (i < m) × (t + 3 * m ≤ length (now st)) ⌝ }
+    ensures { λ r. ⌜ now (st .exit) ≡ put (now (st .entry)) t m i (number ∷ time ∷ packed ∷ []) ⌝ }
 {
-    let n = st[RING_SIZE_AT];
-    let b = st[BASE_AT];
-    let last = st[LAST_AT];
-    let s = last + 1;
-    evict(st, n, m, b, s);
-    let p = place(n, b, s);
-    put_two(st, HEAD_WORDS, n as usize, p as usize, time, word);
-    let latest = latest_at(n) as usize;
-    put_three(st, latest, m as usize, item as usize, s, time, word);
+    put_three(st, t as usize, m as usize, i as usize, number, time, packed);
+}
+
+// The newest number becomes s.
+pub fn set_last(st: &mut [u64], s: u64)
+    requires { ⌜ ringAt ≤ length (now st) ⌝ }
+    ensures { λ r. ⌜ now (st .exit) ≡ set (now (st .entry)) lastAt s ⌝ }
+{
     st[LAST_AT] = s;
 }
 
@@ -272,7 +234,7 @@ fn clear(st: &mut [u64])
 }
 
 // A head that has given no number yet, and zeros.
-fn make_blank(st: &mut [u64], n: u64, m: u64, b: u64)
+pub fn make_blank(st: &mut [u64], n: u64, m: u64, b: u64)
     requires { ⌜ length (now st) ≡ storeWords n m ⌝ }
     requires { ⌜ 1 ≤ b ⌝ }
     ensures { λ r. ⌜ now (st .exit) ≡ blank n m b ⌝ }
@@ -282,19 +244,4 @@ fn make_blank(st: &mut [u64], n: u64, m: u64, b: u64)
     st[ITEM_COUNT_AT] = m;
     st[BASE_AT] = b;
     st[LAST_AT] = b - 1;
-}
-
-// The store that start makes, whatever stood there: one Unavailable per item, in item order, numbered from b on.
-pub fn start_store(st: &mut [u64], n: u64, m: u64, b: u64, host: u64)
-    requires { ⌜ Sizes n m b ⌝ }
-    requires { ⌜ length (now st) ≡ storeWords n m ⌝ }
-    ensures { λ r. ⌜ now (st .exit) ≡ startStore n m b host ⌝ }
-{
-    make_blank(st, n, m, b);
-    let mut item: u64 = 0;
-    while item < m {
-        let word = value::pack(item, Value::Unavailable);
-        add(st, m, item, host, word);
-        item += 1;
-    }
 }

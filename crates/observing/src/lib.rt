@@ -28,12 +28,12 @@ fn record(observations: &mut [u64], m: u64, item: u64, time: u64, word: u64) -> 
         (r ≡ x .answer) × (now (observations .exit) ≡ x .observations))
         ⌝ }
 {
-    let verdict = observations::room_for(observations, m);
+    let verdict = recording::room_for(observations, m);
     match verdict {
         Verdict::Refused(refusal) => ObserveAnswer::Refused(refusal),
         Verdict::Fine => {
             let number = observations::last(observations, m) + 1;
-            observations::add(observations, m, item, time, word);
+            recording::add(observations, m, item, time, word);
             ObserveAnswer::Recorded(number)
         }
     }

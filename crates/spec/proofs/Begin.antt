@@ -9,9 +9,9 @@ use mathlib.Core.List.{[]}
 use lib.Dec.{leb, ltb, eqb}
 use lib.ListN.{length}
 use borrow.Author.Tests.{ltb-true, ltb-false, leb-true, eqb-true, eqb-false, le-leb, lt-leb}
-use Rattle.spec.specs.Model.{items, modelOk}
+use Rattle.spec.specs.Model.{maxItems, items, modelOk}
 use Rattle.spec.specs.Observations.{maxRing, storeWords, startStore}
-use Rattle.spec.specs.Assets.{maxAssets, startAssets}
+use Rattle.spec.specs.Assets.{maxAssets, storeBytes, startAssets}
 use Rattle.spec.specs.Calls.{startOk}
 use Rattle.spec.specs.Calls
 use Rattle.spec.specs.Reference.{State, Begun, Observation, nothing, newestOr, sizeWrong, unavailable, begin, beginAnswer}
@@ -37,7 +37,7 @@ one-not b = go (eqb b 0) refl
     go true e = lt-leb 1 b (omega (arith, eqb-true b 0 e))
     go false e = let n : b ≢ 0 = eqb-false b 0 e in le-leb 1 b (omega arith)
 
-top-not : (m B : ℕ) → m ≤ 64 → leb (B + m) (2 ^ 63) ≡ not (ltb (2 ^ 63 - m) B)
+top-not : (m B : ℕ) → m ≤ maxItems → leb (B + m) (2 ^ 63) ≡ not (ltb (2 ^ 63 - m) B)
 top-not m B h = go (ltb (2 ^ 63 - m) B) refl
   where
     go : (t : Bool) → ltb (2 ^ 63 - m) B ≡ t → leb (B + m) (2 ^ 63) ≡ not t
@@ -57,7 +57,7 @@ both-not : (d e : Bool) → (not d || not e) ≡ not (d && e)
 both-not true e = refl
 both-not false e = refl
 
-size-wrong : (m N A B words size : ℕ) → m ≤ 64 → sizeWrong m N A B words size ≡ not (startOk m N A B words size)
+size-wrong : (m N A B words size : ℕ) → m ≤ maxItems → sizeWrong m N A B words size ≡ not (startOk m N A B words size)
 unfolding sizeWrong startOk
 size-wrong m N A B words size h =
     let q : 2 + A * 544 ≡ 2 + 544 * A = omega arith in
@@ -71,7 +71,7 @@ size-wrong m N A B words size h =
 
 -- refused or not, whatever the model, names, numbers and lengths
 pub start-answers : (a : Start) → storesStart a .answer ≡ beginAnswer (begins a)
-unfolding Calls.start begin
+unfolding Calls.start Calls.startBoth begin
 start-answers a = go (modelOk (a .model) (a .names)) refl
   where
     m : ℕ
@@ -150,34 +150,40 @@ not-back : (t : Bool) → not t ≡ false → t ≡ true
 not-back true e = refl
 not-back false e = sym e
 
--- the facts of a start that is right
-record Sizes (m N A B : ℕ) : Type 0 where
-  N-low : 1 ≤ N
-  N-high : N ≤ maxRing
-  A-low : 1 ≤ A
-  A-high : A ≤ maxAssets
-  B-low : 1 ≤ B
-  B-high : B + m ≤ 2 ^ 63
+-- what a start's test says of the sizes, the first number and the stores' lengths
+pub record StartSizes (m N A B words size : ℕ) : Type 0 where
+  pub N-low : 1 ≤ N
+  pub N-high : N ≤ maxRing
+  pub A-low : 1 ≤ A
+  pub A-high : A ≤ maxAssets
+  pub B-low : 1 ≤ B
+  pub B-high : B + m ≤ 2 ^ 63
+  pub words-is : words ≡ storeWords N m
+  pub size-is : size ≡ storeBytes A
 
-start-sizes : (m N A B words size : ℕ) → startOk m N A B words size ≡ true → Sizes m N A B
-unfolding startOk
-start-sizes m N A B words size e =
-    let e1 = and-right (leb 1 N) _ e in
-    let e2 = and-right (leb N maxRing) _ e1 in
-    let e3 = and-right (leb 1 A) _ e2 in
-    let e4 = and-right (leb A maxAssets) _ e3 in
-    let e5 = and-right (leb 1 B) _ e4 in
-    record {
-      N-low = leb-true 1 N (and-left (leb 1 N) _ e);
-      N-high = leb-true N maxRing (and-left (leb N maxRing) _ e1);
-      A-low = leb-true 1 A (and-left (leb 1 A) _ e2);
-      A-high = leb-true A maxAssets (and-left (leb A maxAssets) _ e3);
-      B-low = leb-true 1 B (and-left (leb 1 B) _ e4);
-      B-high = leb-true (B + m) (2 ^ 63) (and-left (leb (B + m) (2 ^ 63)) _ e5);
-    }
+module _ (m N A B words size : ℕ) where
+  pub start-sizes : startOk m N A B words size ≡ true → StartSizes m N A B words size
+  unfolding startOk
+  start-sizes e =
+      let e1 = and-right (leb 1 N) _ e in
+      let e2 = and-right (leb N maxRing) _ e1 in
+      let e3 = and-right (leb 1 A) _ e2 in
+      let e4 = and-right (leb A maxAssets) _ e3 in
+      let e5 = and-right (leb 1 B) _ e4 in
+      let e6 = and-right (leb (B + m) (2 ^ 63)) _ e5 in
+      record {
+        N-low = leb-true _ _ (and-left _ _ e);
+        N-high = leb-true _ _ (and-left _ _ e1);
+        A-low = leb-true _ _ (and-left _ _ e2);
+        A-high = leb-true _ _ (and-left _ _ e3);
+        B-low = leb-true _ _ (and-left _ _ e4);
+        B-high = leb-true _ _ (and-left _ _ e5);
+        words-is = eqb-true _ _ (and-left _ _ e6);
+        size-is = eqb-true _ _ (and-right (eqb words (storeWords N m)) _ e6);
+      }
 
 pub start-good : (a : Start) (p : State) → begins a ≡ begun p → Begins a p
-unfolding Calls.start begin
+unfolding Calls.start Calls.startBoth begin
 start-good a p e =
     let e1 = begun-past (not (modelOk (a .model) (a .names))) _ p Model e in
     let right : modelOk (a .model) (a .names) ≡ true = not-back (modelOk (a .model) (a .names)) (e1 .0) in
@@ -185,7 +191,7 @@ start-good a p e =
     let low = checked (a .model) (a .names) right .sizes in
     let ok : startOk m (a .N) (a .A) (a .B) words size ≡ true =
     not-back (startOk m (a .N) (a .A) (a .B) words size) (sym (size-wrong m (a .N) (a .A) (a .B) words size (low .m-max)) ∙ e2 .0) in
-    let S : Sizes m (a .N) (a .A) (a .B) = start-sizes m (a .N) (a .A) (a .B) words size ok in
+    let S = start-sizes m (a .N) (a .A) (a .B) words size ok in
     subst (Begins a) (begun-one _ p (e2 .1))
     (record {
       good =

@@ -16,10 +16,10 @@ use Rattle.spec.specs.Assets.{assetHeadOk, idOk, bodyOk, assetOk, find, 
 use Rattle.spec.specs.Assets.{lengthOk, bodyPlace}
 use Rattle.spec.specs.Reply.{numbers, pairs, lengths, observationWords, assetWords, written, observationReply}
 use Rattle.spec.specs.Reply.{assetReply, readRows}
-use Rattle.spec.specs.Calls.{startOk, start, roomFor, observeItem, observe, keepAsset, storeAsset, inRange}
-use Rattle.spec.specs.Calls.{sampleBetween, sampleReply, currentReply, currentUpTo, atReply, cellRows, allCells}
-use Rattle.spec.specs.Calls.{cellsReply, findAll, namedReply, downFrom, answerRequest, answerReading, request}
-use Rattle.spec.specs.Calls.{body}
+use Rattle.spec.specs.Calls.{startOk, startBoth, start, roomFor, observeItem, observe, keepAsset, storeAsset}
+use Rattle.spec.specs.Calls.{inRange, sampleBetween, sampleReply, currentReply, currentUpTo, atReply, cellRows}
+use Rattle.spec.specs.Calls.{allCells, cellsReply, findAll, namedReply, downFrom, answerRequest, answerReading}
+use Rattle.spec.specs.Calls.{request, body}
 use Rattle.spec.specs.Reference.{keep, newestOr, lastOr, sizeWrong, unavailable, begin, observeAnswer, place}
 use Rattle.spec.specs.Reference.{storeAnswer, sampleFor, currentFor, foundRows, atFor, heldRows, allHeld}
 use Rattle.spec.specs.Reference.{placesOf, newestFirst, replyTo, replyReading, reply, bodyOf}
@@ -65,7 +65,7 @@ unfolding numbers pairs lengths observationWords assetWords written observationR
 openedReply = tt
 
 unfoldable pub openedCalls : Unit {0}
-unfolding startOk start roomFor observeItem observe keepAsset storeAsset inRange sampleBetween sampleReply
+unfolding startOk startBoth start roomFor observeItem observe keepAsset storeAsset inRange sampleBetween sampleReply
     currentReply currentUpTo atReply cellRows allCells cellsReply findAll namedReply downFrom answerRequest
     answerReading request body
 openedCalls = tt

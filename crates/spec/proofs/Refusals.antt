@@ -18,8 +18,8 @@ use Rattle.spec.specs.Answers.{answerNumber, observeWord, storeWord}
 use Rattle.spec.specs.Text.{Request, Reading}
 use Rattle.spec.specs.Text.Request.{sample, current, currentAt, assets, allAssets}
 use Rattle.spec.specs.Text.Reading.{unread, asked}
-use Rattle.spec.specs.Calls.{timeOr, Started, Observed, Kept, first, startOf, endOf, startOk, start, roomFor}
-use Rattle.spec.specs.Calls.{observeBy, observeItem, observe, keepBy, keepAsset, storeAsset, unless, inRange}
+use Rattle.spec.specs.Calls.{timeOr, Started, Observed, Kept, first, startOf, endOf, startOk, startBoth, start}
+use Rattle.spec.specs.Calls.{roomFor, observeBy, observeItem, observe, keepBy, keepAsset, storeAsset, unless, inRange}
 use Rattle.spec.specs.Calls.{sampleBetween, sampleReply, currentReply, currentUpTo, atReply, cellRows, allCells}
 use Rattle.spec.specs.Calls.{cellsReply, findAll, namedReply, answerRequest, answerReading, request}
 use Rattle.spec.specs.Bench.{benchModel, benchNames}
@@ -87,7 +87,7 @@ abbrev KeepsStart : List ℕ → List ℕ → Started → Type 0
 KeepsStart st bs o = (r : Refusal) → o .answer ≡ Refused r → (o .observations ≡ st) × (o .assets ≡ bs)
 
 pub start-keeps : (model names st bs : List ℕ) (N A B host : ℕ) → KeepsStart st bs (start model names st bs N A B host)
-unfolding start
+unfolding start startBoth
 start-keeps model names st bs N A B host =
     by-cond (KeepsStart st bs) (modelOk model names) _ _
     (λ h. by-cond (KeepsStart st bs) (startOk (items model) N A B (length st) (length bs)) _ _ (λ g r e. (cc, cc)) (λ g r e. (refl, refl)))

@@ -36,13 +36,13 @@ fn keep_changed(
         ⌝ }
 {
     let m = model::items(model);
-    let verdict = observations::room_for(observations, m);
+    let verdict = recording::room_for(observations, m);
     match verdict {
         Verdict::Refused(refusal) => StoreAnswer::Refused(refusal),
         Verdict::Fine => {
             let cell = assets::store(assets, id, body);
             let word = value::pack(change, Value::Event(cell as u32));
-            observations::add(observations, m, change, host, word);
+            recording::add(observations, m, change, host, word);
             StoreAnswer::Stored(cell)
         }
     }

@@ -1,7 +1,6 @@
 -- The verdict decides; room for a number is what an addition needs.
 use mathlib.Core.Path.{refl}
 use native.Mathlib.Numerals.{add-one}
-use Rattle.observations.proofs.Laws.{room}
 use Rattle.spec.proofs.Words.{told}
 use borrow.Author.Needs.{needs}
 use Rattle.observing.proofs.record.Statement.{statement}
@@ -25,12 +24,11 @@ add-number c = search needs
 add-requires : tie.Need-add-requires
 add-requires c κs =
     let s = c .before .before .before .before .before .before .before .before .pre in
-    let o =
-    room (s .0)
-    (told (c .before .before .before .before .before .room-for .ensures)
-    (c .before .before .before .enum-told .given .1))
+    let room =
+    told (c .before .before .before .before .before .room-for .ensures)
+    (c .before .before .before .enum-told .given .1)
     in
-    (o .adding, (o .ok, s .1))
+    (s .0, (room, s .1))
 
 same-length : tie.Need-same-length
 same-length c = search needs

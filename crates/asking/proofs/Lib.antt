@@ -1,0 +1,3 @@
+-- The laws that the proofs of asking and text cite.
+pub mod Laws
+pub mod Texts

@@ -1,0 +1,72 @@
+-- Invariant: Filling, the words stand for the items added so far, and the rest makes the whole.
+-- Measure: the items left.
+use Prim.Native.Nat.{_-_}
+use mathlib.Core.Path.{sym, _∙_}
+use native.Mathlib.Omega.{arith}
+use borrow.Author.Needs.{needs}
+use Rattle.recording.proofs.Laws.{Filling, filling-none, filling-fits, filling-more, filling-all}
+use Rattle.recording.proofs.start_store.Statement.{statement}
+use Rattle.recording.proofs.start_store.Tie as tie
+
+abbrev Inv-loop : tie.InvT-loop
+Inv-loop st₀ n m b host item₀ st item = Filling n m b host item st
+
+abbrev μ-loop : tie.MeasureT-loop
+μ-loop st₀ n m b host item₀ st item = m - item
+
+make-blank-requires : tie.Need-make-blank-requires Inv-loop μ-loop
+make-blank-requires c κs = search needs
+
+loop-holds : tie.Need-loop-holds Inv-loop μ-loop
+loop-holds c =
+    let b = c .before .before in
+    rw (b .make-blank .ensures) (filling-none _ _ _ _ (b .before .before .before .pre .0))
+
+pack-requires : tie.Need-pack-requires Inv-loop μ-loop
+pack-requires c κs = search needs
+
+add-write : tie.Need-add-write Inv-loop μ-loop
+add-write c = search needs
+
+write-requires : tie.Need-write-requires Inv-loop μ-loop
+write-requires c κs =
+    let l = c .before .before in
+    let s = l .before .before .before .before .before .before .before in
+    (filling-fits (l .before .loop .inv) (s .pre .0) (l .loop-test .taken), l .loop-test .taken)
+
+add-item : tie.Need-add-item Inv-loop μ-loop
+add-item c = search needs
+
+loop-less : tie.Need-loop-less Inv-loop μ-loop
+loop-less c = omega arith
+
+loop-again : tie.Need-loop-again Inv-loop μ-loop
+loop-again c =
+    let a = c .before .before in
+    let p = a .before .before in
+    filling-more (p .before .before .loop .inv) (p .before .loop-test .taken) (p .pack .ensures) (a .write .ensures)
+
+same-length : tie.Need-same-length Inv-loop μ-loop
+same-length c =
+    let l = c .before in
+    l .loop .inv .rep .words ∙ sym (l .before .before .before .before .before .before .pre .1)
+
+returns : tie.Need-returns Inv-loop μ-loop
+returns c = filling-all (c .before .loop .inv) (c .loop-test .left)
+
+pub start-store-spec : {M : Type 1} → statement M
+start-store-spec =
+    tie.close
+    (tie.spec
+    Inv-loop
+    μ-loop
+    make-blank-requires
+    loop-holds
+    pack-requires
+    add-write
+    write-requires
+    add-item
+    loop-less
+    loop-again
+    same-length
+    returns)

@@ -1,0 +1,50 @@
+-- Eviction, ring, latest and last are written in the definition's order.
+use borrow.Author.Needs.{needs}
+use Rattle.recording.proofs.Laws.{written}
+use Rattle.recording.proofs.write.Statement.{statement}
+use Rattle.recording.proofs.write.Tie as tie
+
+evict-requires : tie.Need-evict-requires
+evict-requires c κs = search needs
+
+place-requires : tie.Need-place-requires
+place-requires c κs = search needs
+
+put-ring-requires : tie.Need-put-ring-requires
+put-ring-requires c κs = search needs
+
+latest-at-requires : tie.Need-latest-at-requires
+latest-at-requires c κs = search needs
+
+put-row-requires : tie.Need-put-row-requires
+put-row-requires c κs = search needs
+
+set-last-requires : tie.Need-set-last-requires
+set-last-requires c κs = search needs
+
+same-length : tie.Need-same-length
+same-length c = search needs
+
+returns : tie.Need-returns
+returns c =
+    let z = c .before .before in
+    let w = z .before .before .before .before in
+    let l = w .before .before in
+    let r = l .before .before .before in
+    let p = r .before .before in
+    let e = p .before .before .before in
+    written _ _ _ _ _ _ _ _ _ _ _ _ _ _ (e .evict .ensures) (p .place .ensures .0) (r .put-ring .ensures)
+    (l .latest-at .ensures) (w .put-row .ensures) (z .set-last .ensures)
+
+pub write-spec : {M : Type 1} → statement M
+write-spec =
+    tie.close
+    (tie.spec
+    evict-requires
+    place-requires
+    put-ring-requires
+    latest-at-requires
+    put-row-requires
+    set-last-requires
+    same-length
+    returns)

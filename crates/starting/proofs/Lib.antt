@@ -1,0 +1,2 @@
+-- The laws that the proofs of starting cite.
+pub mod Laws

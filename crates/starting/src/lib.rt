@@ -1,0 +1,64 @@
+// What start does behind the check of model and names: the sizes and lengths are refused, or both stores are made anew.
+ghost use mathlib.Core.Path.{_≡_};
+ghost use Prim.Native.Nat.{_≤_};
+ghost use Rattle.spec.specs.Model.{maxItems};
+ghost use Rattle.spec.specs.Calls.{startOk, startBoth};
+use spec::Answer;
+use spec::MAX_ASSETS;
+use spec::MAX_NUMBER;
+use spec::MAX_RING;
+use spec::Refusal;
+
+// Whether the sizes, the first number and the stores' lengths are ones that start takes.
+fn start_ok(m: u64, n: u64, a: u64, b: u64, words: u64, size: u64) -> bool
+    requires { ⌜ m ≤ maxItems ⌝ }
+    ensures { λ r. ⌜ r ≡ startOk m n a b words size ⌝ }
+{
+    if n < 1 {
+        return false;
+    }
+    if MAX_RING < n {
+        return false;
+    }
+    if a < 1 {
+        return false;
+    }
+    if MAX_ASSETS < a {
+        return false;
+    }
+    if b < 1 {
+        return false;
+    }
+    // b + m could wrap
+    if MAX_NUMBER + 1 - m < b {
+        return false;
+    }
+    if words != observations::words_for(n, m) {
+        return false;
+    }
+    size == assets::bytes_for(a)
+}
+
+// Both stores anew: one Unavailable for each of m items from number b on, at the host's time, and no asset.
+pub fn start_both(
+    observations: &mut [u64],
+    assets: &mut [u8],
+    m: u64,
+    n: u64,
+    a: u64,
+    b: u64,
+    host: u64,
+) -> Answer
+    requires { ⌜ (1 ≤ m) × (m ≤ maxItems) ⌝ }
+    ensures { λ r. ⌜
+        (let x = startBoth m (now (observations .entry)) (now (assets .entry)) n a b host in
+        (r ≡ x .answer) × (now (observations .exit) ≡ x .observations) × (now (assets .exit) ≡ x .assets))
+        ⌝ }
+{
+    if !start_ok(m, n, a, b, observations.len() as u64, assets.len() as u64) {
+        return Answer::Refused(Refusal::Size);
+    }
+    recording::start_store(observations, n, m, b, host);
+    assets::start(assets, a);
+    Answer::Done(0)
+}
