@@ -10,7 +10,7 @@ use lib.ListN.{length, getD, set, take, drop, length-set, length-append, length-
 use lib.Seq.{sets, drop-cons, getD-take, length-take-le, take-suc-set, append-snoc, getD-set-same, getD-set-other}
 use borrow.Author.Tests.{lt-ltb, le-ltb, leb-true, ltb-true, ltb-false, eqb-true, eqb-false}
 use Rattle.spec.specs.Bytes.{before, split}
-use Rattle.spec.specs.Text.{idText, idTexts}
+use Rattle.spec.specs.Text.{idText, idTexts, longestText}
 use Rattle.spec.specs.Assets.{maxAssets, capacity, used, lengthAt, lengthOk, find}
 use Rattle.spec.specs.Reply.{refuse, numbers, lengths, assetWords, assetReply}
 use Rattle.spec.specs.Calls.{cellRows, allCells, cellsReply, findAll, namedReply, downFrom}
@@ -261,7 +261,7 @@ module _ (bs text : List ℕ) (at end : ℕ) (ends : end ≡ at + before 59 59 (
   missing-here h =
       by-more (λ ids. allCells (stored bs) (findAll bs ids) ≡ false) (λ l. rw (le-ltb _ _ h)) (λ l. rw (le-ltb _ _ h))
 
-  module _ {start k cell : ℕ} {cells : List ℕ} (w : Finding bs text start at k cells) (short : length text ≤ 256)
+  module _ {start k cell : ℕ} {cells : List ℕ} (w : Finding bs text start at k cells) (short : length text ≤ longestText)
       (inside : end ≤ length text) (is : cell ≡ find bs here) where
     -- there is a place for its cell
     pub finding-room : k < maxAssets

@@ -5,7 +5,7 @@ ghost use Prim.Native.Nat.{_*_, _≤_};
 ghost use lib.ListN.{length, take, drop};
 ghost use lib.Seq.{sets};
 ghost use Rattle.spec.specs.Bytes.{split};
-ghost use Rattle.spec.specs.Text.{idTexts};
+ghost use Rattle.spec.specs.Text.{idTexts, longestText};
 ghost use Rattle.spec.specs.Assets.{AssetHead, maxAssets, used, lengthAt, lengthOk};
 ghost use Rattle.spec.specs.Reply.{numbers, lengths};
 ghost use Rattle.spec.specs.Calls.{cellRows, allCells, cellsReply, namedReply, downFrom};
@@ -24,7 +24,9 @@ pub enum Found {
 fn lengths_ok(assets: &[u8], cells: &[u64; ASSET_SLOTS], k: u64) -> bool
     requires { ⌜ AssetHead (now assets) ⌝ }
     requires { ⌜ Cells (now assets) (now cells) k ⌝ }
-    ensures { λ r. ⌜ r ≡ allCells (λ i. lengthOk (lengthAt (now (assets .entry)) i)) (take k (now (cells .entry))) ⌝ }
+    ensures { λ r. ⌜
+        r ≡ allCells (λ i. lengthOk (lengthAt (now (assets .entry)) i)) (take k (now (cells .entry)))
+        ⌝ }
 {
     let mut i: u64 = 0;
     while i < k {
@@ -106,7 +108,7 @@ pub fn reply_all(assets: &[u8], reply: &mut [u64]) -> Answer
 // The cells of the ids joined by ';' from `start` on, in their order. No id is empty, so a text has at most 128.
 fn find_all(assets: &[u8], text: &[u8], start: usize, cells: &mut [u64; ASSET_SLOTS]) -> Found
     requires { ⌜ AssetHead (now assets) ⌝ }
-    requires { ⌜ (start ≤ length (now text)) × (length (now text) ≤ 256) ⌝ }
+    requires { ⌜ (start ≤ length (now text)) × (length (now text) ≤ longestText) ⌝ }
     requires { ⌜ idTexts (split 59 (drop start (now text))) ≡ true ⌝ }
     requires { ⌜ length (now cells) ≡ maxAssets ⌝ }
     ensures { λ r. ⌜
@@ -135,7 +137,7 @@ fn find_all(assets: &[u8], text: &[u8], start: usize, cells: &mut [u64; ASSET_SL
 // tested (2).
 pub fn reply_named(assets: &[u8], text: &[u8], start: usize, reply: &mut [u64]) -> Answer
     requires { ⌜ AssetHead (now assets) ⌝ }
-    requires { ⌜ (start ≤ length (now text)) × (length (now text) ≤ 256) ⌝ }
+    requires { ⌜ (start ≤ length (now text)) × (length (now text) ≤ longestText) ⌝ }
     requires { ⌜ idTexts (split 59 (drop start (now text))) ≡ true ⌝ }
     ensures { λ r. ⌜
         (let x = namedReply (now (assets .entry)) (split 59 (drop start (now (text .entry)))) (now (reply .entry)) in

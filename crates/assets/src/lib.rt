@@ -13,9 +13,14 @@ use spec::MAX_ASSETS;
 use spec::MAX_BODY;
 use spec::Place;
 
-// Where the id cells begin; the bytes of one asset's two cells, and of the length in front of a body.
+// The places of the head's bytes, and where the id cells begin behind them.
+const CAPACITY_AT: usize = 0;
+
+const USED_AT: usize = 1;
+
 const IDS_AT: usize = 2;
 
+// The bytes of one asset's two cells, and of the length in front of a body.
 const ASSET_BYTES: usize = ID_BYTES + CELL_BYTES;
 
 const LENGTH_BYTES: u64 = 2;
@@ -42,7 +47,7 @@ pub fn capacity(bs: &[u8]) -> u64
     ensures { λ r. ⌜ r ≡ capacity (now (bs .entry)) ⌝ }
     ensures { λ r. ⌜ r ≤ maxAssets ⌝ }
 {
-    wide(bs[0])
+    wide(bs[CAPACITY_AT])
 }
 
 // How many assets the store holds.
@@ -51,7 +56,7 @@ pub fn used(bs: &[u8]) -> u64
     ensures { λ r. ⌜ r ≡ used (now (bs .entry)) ⌝ }
     ensures { λ r. ⌜ r ≤ capacity (now (bs .entry)) ⌝ }
 {
-    wide(bs[1])
+    wide(bs[USED_AT])
 }
 
 // Whether the head and the length of an asset store are right.
@@ -61,14 +66,14 @@ pub fn head_ok(bs: &[u8]) -> bool
     if bs.len() < IDS_AT {
         return false;
     }
-    let a = wide(bs[0]);
+    let a = wide(bs[CAPACITY_AT]);
     if a < 1 {
         return false;
     }
     if MAX_ASSETS < a {
         return false;
     }
-    if a < wide(bs[1]) {
+    if a < wide(bs[USED_AT]) {
         return false;
     }
     bs.len() as u64 == bytes_for(a)
@@ -110,7 +115,8 @@ pub fn find(bs: &[u8], id: &[u8]) -> u64
     ensures { λ r. ⌜ r ≡ spec.find (now (bs .entry)) (now (id .entry)) ⌝ }
     ensures { λ r. ⌜ r ≤ used (now (bs .entry)) ⌝ }
 {
-    let u = used(bs);
+    // not by `used`: read in place, the byte costs the callers less
+    let u = wide(bs[USED_AT]);
     if !id_ok(id) {
         return u;
     }
@@ -184,7 +190,7 @@ pub fn start(bs: &mut [u8], a: u64)
 {
     let n = bs.len();
     cells::clear(bs, 0, n);
-    bs[0] = a as u8;
+    bs[CAPACITY_AT] = a as u8;
 }
 
 // The cell that is given up: the one that holds the id, none (u) while there is room, or the oldest.
@@ -238,7 +244,7 @@ fn put_asset(bs: &mut [u8], out: u64, n: u64, id: &[u8], body: &[u8])
         &head,
         body,
     );
-    bs[1] = n as u8;
+    bs[USED_AT] = n as u8;
 }
 
 // The asset replaces the one with its id, goes into a free cell, or takes the oldest one's place. The answer is its

@@ -92,7 +92,8 @@ pub extern "C" fn mtcore_store_asset(
     ensures { λ r. ⌜
         (let x = calls.storeAsset (now (model .entry)) (now (names .entry)) (now (observations .entry))
         (now (assets .entry)) (now (id .entry)) (now (body .entry)) host in
-        (r ≡ storeWord (x .answer)) × (now (observations .exit) ≡ x .observations) × (now (assets .exit) ≡ x .assets))
+        (r ≡ storeWord (x .answer)) × (now (observations .exit) ≡ x .observations)
+        × (now (assets .exit) ≡ x .assets))
         ⌝ }
 {
     let answer = agent::store_asset(model, names, observations, assets, id, body, host);

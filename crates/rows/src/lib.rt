@@ -141,7 +141,9 @@ pub fn write_rows(st: &[u64], m: u64, selection: u64, f: u64, e: u64, k: u64, ou
     requires { ⌜ (f ≤ e) × (e - f ≤ ringSize (now st)) ⌝ }
     requires { ⌜ itemsOk m (now st) f e ≡ true ⌝ }
     requires { ⌜ (k ≡ length (sampled (now st) selection f e)) × (3 * k ≤ length (now out)) ⌝ }
-    ensures { λ r. ⌜ now (out .exit) ≡ rowsInto (now (out .entry)) k (sampled (now (st .entry)) selection f e) ⌝ }
+    ensures { λ r. ⌜
+        now (out .exit) ≡ rowsInto (now (out .entry)) k (sampled (now (st .entry)) selection f e)
+        ⌝ }
 {
     let r = runs(st, m, f, e);
     let p = r.place;

@@ -103,7 +103,9 @@ fn items_of(model: &[u32], names: &[u8], set: u64, typed: bool, y: &[u8]) -> u64
 // What //T selects; where `typed` asks for it, what //T//DataItem[@type="Y"] does.
 fn select_names(model: &[u32], names: &[u8], t: &[u8], typed: bool, y: &[u8]) -> Selection
     requires { ⌜ Checked (now model) (now names) ⌝ }
-    ensures { λ r. ⌜ r ≡ byNames (now (model .entry)) (now (names .entry)) (now (t .entry)) typed (now (y .entry)) ⌝ }
+    ensures { λ r. ⌜
+        r ≡ byNames (now (model .entry)) (now (names .entry)) (now (t .entry)) typed (now (y .entry))
+        ⌝ }
 {
     let set = under_type(model, names, t);
     if set == 0 {

@@ -18,15 +18,18 @@ Inv-loop bs id u key i₀ i = Searching bs id key u i
 abbrev μ-loop : tie.MeasureT-loop
 μ-loop bs id u key i₀ i = u - i
 
-used-requires : tie.Need-used-requires Inv-loop μ-loop
-used-requires c κs = search needs
+shared-slice-read-wide : tie.Need-shared-slice-read-wide Inv-loop μ-loop
+shared-slice-read-wide c = search needs
+
+wide-requires : tie.Need-wide-requires Inv-loop μ-loop
+wide-requires c κs = search needs
 
 id-ok-requires : tie.Need-id-ok-requires Inv-loop μ-loop
 id-ok-requires c κs = search needs
 
 returns : tie.Need-returns Inv-loop μ-loop
 returns c = (
-  no-id _ _ _ (c .before .before .used .ensures .0)
+  no-id _ _ _ (c .before .before .wide .ensures .0)
       (told (c .before .id-ok .ensures) (not-true _ (c .if1 .taken))),
   omega arith,
 )
@@ -41,7 +44,7 @@ write-requires c κs =
 
 loop-holds : tie.Need-loop-holds Inv-loop μ-loop
 loop-holds c =
-    searching-none _ _ _ _ (c .before .before .before .before .before .used .ensures .0)
+    searching-none _ _ _ _ (c .before .before .before .before .before .wide .ensures .0)
     (told (c .before .before .before .before .id-ok .ensures) (not-false _ (c .before .before .before .if1 .left)))
     (c .before .write .ensures)
 
@@ -94,7 +97,8 @@ find-spec =
     (tie.spec
     Inv-loop
     μ-loop
-    used-requires
+    shared-slice-read-wide
+    wide-requires
     id-ok-requires
     returns
     slice-aggregate-write
