@@ -207,8 +207,8 @@ static inline int mtcore_packed_ok(uint64_t m, uint64_t packed) {
 /* ---- model and names, which every call but mtcore_body takes ----
  *
  * model: word 0 is c (components, 1 to 64), word 1 is m (items, 1 to 64), then c component words, then m item
- * words; exactly 2 + c + m words. names: cells of MTCORE_NAME bytes, 1 to 256 of them, each 1 to 24 letters, digits
- * or '_', then zeros. Name and component are indices, counted from 0.
+ * words; exactly 2 + c + m words. names: 1 to 256 cells of MTCORE_NAME bytes. A cell is a name, of at least one letter,
+ * digit or '_', filled up with zeros. Name and component are indices, counted from 0.
  */
 
 /* parent * 256 + name: component 0 is its own parent, and all others stand behind theirs */

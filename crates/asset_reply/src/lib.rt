@@ -133,8 +133,7 @@ fn find_all(assets: &[u8], text: &[u8], start: usize, cells: &mut [u64; ASSET_SL
     }
 }
 
-// The reply of the assets whose ids stand in the text from `start` on: all are looked up (13) before any length is
-// tested (2).
+// The reply of the assets whose ids stand in the text from `start` on: 13 by any of them, then 2 by a cell's length.
 pub fn reply_named(assets: &[u8], text: &[u8], start: usize, reply: &mut [u64]) -> Answer
     requires { ⌜ AssetHead (now assets) ⌝ }
     requires { ⌜ (start ≤ length (now text)) × (length (now text) ≤ longestText) ⌝ }

@@ -76,7 +76,7 @@ pub fn add(st: &mut [u64], m: u64, item: u64, time: u64, word: u64)
     write(st, n, m, b, last + 1, item, time, word);
 }
 
-// The store that start makes, whatever stood there: one Unavailable per item, in item order, numbered from b on.
+// The store that start makes, whatever stood there: each item in turn Unavailable, the first with number b.
 pub fn start_store(st: &mut [u64], n: u64, m: u64, b: u64, host: u64)
     requires { ⌜ Sizes n m b ⌝ }
     requires { ⌜ length (now st) ≡ storeWords n m ⌝ }

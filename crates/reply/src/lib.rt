@@ -1,4 +1,4 @@
-// The four sizes at the front of every reply. The arrays are written into the rest of the buffer behind them.
+// The four sizes at the front of every reply, and the laws of the words that others write behind them.
 ghost use mathlib.Core.Path.{_≡_};
 ghost use mathlib.Core.List.{[], _∷_};
 ghost use Prim.Native.Nat.{_≤_};

@@ -288,8 +288,8 @@ fn component_of(word: u32) -> u8 {
 /// Words and names are the host's, lent (`&[u32]`) or owned (`Vec<u32>`, `[u32; 6]`). Word 0 is the
 /// number of components, 1 to 64, word 1 that of items, 1 to 64; then stand the components' words
 /// ([`component_word`]), the device first, and the items' ([`item_word`]); nothing behind them. Names are
-/// cells of 24 bytes, 1 to 256 of them, each 1 to 24 letters, digits or `_`, then zeros. An item is named
-/// by its place among the items, counted from 0.
+/// 1 to 256 cells of 24 bytes; a cell is a name, of at least one letter, digit or `_`, filled up with zeros.
+/// An item is named by its place among the items, counted from 0.
 #[derive(Clone, Copy, PartialEq, Eq, Debug)]
 pub struct Model<W, N> {
     words: W,
