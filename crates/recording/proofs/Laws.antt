@@ -6,9 +6,9 @@ use mathlib.Core.List.{List, [], _∷_, _++_}
 use native.Mathlib.Omega.{arith}
 use native.Mathlib.Nat.{sub-zero, add-zero}
 use native.Mathlib.Numerals.{add-one}
-use lib.Dec.{leb}
+use lib.Dec.{leb, ltb}
 use lib.ListN.{length, set, length-append}
-use borrow.Author.Tests.{le-leb, lt-leb, ltb-true, lt-ltb, le-ltb}
+use borrow.Author.Tests.{le-leb, lt-leb, ltb-true}
 use Rattle.spec.specs.Words.{row, put}
 use Rattle.spec.specs.Model.{maxItems}
 use Rattle.spec.specs.Value.{itemOf, pack}
@@ -66,13 +66,10 @@ module _ (st : List ℕ) (m n b l : ℕ) (hn : n ≡ ringSize st) (hb : b ≡ ba
       over : leb (ringSize st) (suc (last st) - base st) ≡ true
       over = le-leb (ringSize st) (suc (last st) - base st) (omega arith)
 
-      pub room-used : i < m → Fine ≡ roomFor m st
+      -- its item decides
+      pub room-entry : cond (ltb i m) Fine (Refused Store) ≡ roomFor m st
       unfolding roomFor evictOk
-      room-used k = rw (left, over, lt-ltb _ _ (rw there at k))
-
-      pub room-broken : m ≤ i → Refused Store ≡ roomFor m st
-      unfolding roomFor evictOk
-      room-broken k = rw (left, over, le-ltb _ _ (rw there at k))
+      room-entry = rw (left, over, there)
 
 -- ---- adding
 

@@ -1,6 +1,13 @@
 -- One law to each branch.
 use native.Mathlib.Omega.{arith}
-use Rattle.recording.proofs.Laws.{room-spent, room-unused, room-used, room-broken}
+use mathlib.Core.Bool.{cond}
+use mathlib.Core.Path.{_≡_}
+use lib.Dec.{ltb}
+use borrow.Author.Tests.{lt-ltb, le-ltb}
+use Rattle.spec.specs.Calls.{roomFor}
+use Rattle.spec.specs.declared.Refusal.the-variants.{Store}
+use Rattle.spec.specs.declared.Verdict.the-variants.{Fine, Refused}
+use Rattle.recording.proofs.Laws.{room-spent, room-unused, room-entry}
 use borrow.Author.Needs.{needs}
 use Rattle.recording.proofs.room_for.Statement.{statement}
 use Rattle.recording.proofs.room_for.Tie as tie
@@ -50,31 +57,24 @@ ring-word-requires c κs = search needs
 item-of-requires : tie.Need-item-of-requires
 item-of-requires c κs = search needs
 
+-- where the number overwrites an entry, that entry's item decides
+by-item : (c : tie.After-item-of) →
+    let s = c .before .before .before .before .before .before .before .before .before in
+    cond (ltb (c .item-of .result) (s .args .m)) Fine (Refused Store) ≡ roomFor (s .args .m) (s .args .st .now)
+by-item c =
+    let w = c .before in
+    let p = w .before in
+    let l = p .before .before .before in
+    let b = l .before in
+    let n = b .before in
+    room-entry _ _ _ _ _ (n .ring-size .ensures .0) (b .base .ensures) (l .last .ensures .0) (omega arith) _ _ _
+    (omega arith) (p .place .ensures .0) (w .ring-word .ensures) (c .item-of .ensures)
+
 returns-3 : tie.Need-returns-3
-returns-3 c =
-    let io = c .before in
-    let rwx = io .before in
-    let plac = rwx .before in
-    let last = plac .before .before .before in
-    let base = last .before in
-    let rs = base .before in
-    let s = rs .before .before in
-    room-used (s .args .st .now) (s .args .m) _ _ _ (rs .ring-size .ensures .0) (base .base .ensures)
-    (last .last .ensures .0) (omega arith) _ _ _ (omega arith) (plac .place .ensures .0) (rwx .ring-word .ensures)
-    (io .item-of .ensures) (omega arith)
+returns-3 c = rw (lt-ltb _ _ (c .if3 .taken)) at (by-item (c .before))
 
 returns-4 : tie.Need-returns-4
-returns-4 c =
-    let io = c .before in
-    let rwx = io .before in
-    let plac = rwx .before in
-    let last = plac .before .before .before in
-    let base = last .before in
-    let rs = base .before in
-    let s = rs .before .before in
-    room-broken (s .args .st .now) (s .args .m) _ _ _ (rs .ring-size .ensures .0) (base .base .ensures)
-    (last .last .ensures .0) (omega arith) _ _ _ (omega arith) (plac .place .ensures .0) (rwx .ring-word .ensures)
-    (io .item-of .ensures) (omega arith)
+returns-4 c = rw (le-ltb _ _ (c .if3 .left)) at (by-item (c .before))
 
 pub room-for-spec : {M : Type 1} → statement M
 room-for-spec =
