@@ -28,6 +28,7 @@ fn refusal_number(refusal: Refusal) -> u64
         Refusal::AssetNotFound => 13,
         Refusal::Asset => 14,
         Refusal::Space => 15,
+        Refusal::Batch => 16,
     }
 }
 
@@ -38,7 +39,7 @@ fn refusal_word(refusal: Refusal) -> u64
     9223372036854775808 + refusal_number(refusal)
 }
 
-// The number of start's or request's answer: 0, or the refusal's.
+// The number of an answer with a count: 0, or the refusal's.
 pub fn answer_number(answer: Answer) -> u64
     ensures { λ r. ⌜ r ≡ answerNumber answer ⌝ }
 {
@@ -48,7 +49,7 @@ pub fn answer_number(answer: Answer) -> u64
     }
 }
 
-// The count of start's or request's answer: 0 with a refusal.
+// The count of such an answer: 0 with a refusal.
 pub fn answer_count(answer: Answer) -> u64
     ensures { λ r. ⌜ r ≡ answerCount answer ⌝ }
 {

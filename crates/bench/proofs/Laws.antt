@@ -6,7 +6,8 @@ use mathlib.Core.List.{List}
 use lib.IntN.{pos, negsuc}
 use lib.ListN.{length, replicate}
 use Rattle.spec.specs.Calls
-use Rattle.spec.specs.Bench.{benchModel, benchNames, benchWords, benchBytes, storesAfter, benchStores, benchRequest}
+use Rattle.spec.specs.Bench.{benchModel, benchNames, benchWords, benchBytes, benchStores, benchRequest}
+use Rattle.spec.specs.History.{storesAfter}
 use Rattle.spec.specs.declared.Answer.{Answer}
 use Rattle.spec.specs.declared.Value.the-variants.{Sample}
 use Rattle.bench.specs.Print.{replyLength}

@@ -1,7 +1,7 @@
 -- One law to each branch of the room for a number; eviction and addition by their writes; start's turns.
 use Prim.Native.Nat.{ℕ, suc, _+_, _-_, _≤_, _<_}
 use mathlib.Core.Path.{_≡_, refl, _∙_}
-use mathlib.Core.Bool.{Bool, true, false, cond}
+use mathlib.Core.Bool.{true, false, cond}
 use mathlib.Core.List.{List, [], _∷_, _++_}
 use native.Mathlib.Omega.{arith}
 use native.Mathlib.Nat.{sub-zero, add-zero}
@@ -18,8 +18,8 @@ use Rattle.spec.specs.Calls.{roomFor}
 use Rattle.spec.specs.Reference.{Observation}
 use Rattle.spec.specs.declared.Refusal.the-variants.{Spent, Store}
 use Rattle.spec.specs.declared.Value.the-variants.{Unavailable}
-use Rattle.spec.specs.declared.Verdict.{Verdict}
 use Rattle.spec.specs.declared.Verdict.the-variants.{Fine, Refused}
+use Rattle.spec.proofs.Heads.{room-for}
 use Rattle.spec.proofs.Kept.{Rep, next, add-rep}
 use Rattle.spec.proofs.Rows.{evict-ok}
 use Rattle.spec.proofs.Start.{blank-rep}
@@ -73,25 +73,17 @@ module _ (st : List ℕ) (m n b l : ℕ) (hn : n ≡ ringSize st) (hb : b ≡ ba
 
 -- ---- adding
 
-room-case : (t u : Bool) → _≡_ {A = Verdict} (cond t (Refused Spent) (cond u Fine (Refused Store))) Fine
-    → (t ≡ false) × (u ≡ true)
-room-case true u e = absurd (let z : _≡_ {A = ℕ} 0 1 = (cc) in omega arith)
-room-case false true e = (refl, refl)
-room-case false false e = absurd (let z : _≡_ {A = ℕ} 0 1 = (cc) in omega arith)
-
 -- a head with room for a number: the next one may be written
 pub next-fits : {m n b l : ℕ} {st : List ℕ} → n ≡ ringSize st → b ≡ base st → l ≡ last st → m ≤ maxItems → Head m st
     → roomFor m st ≡ Fine → Overwriting n m b (l + 1) st
-unfolding roomFor
 next-fits {m} {n} {b} {l} {st} en eb el k h e =
-    let c = room-case (leb maxNumber (last st)) (evictOk (ringSize st) m (base st) (suc (last st)) st) e in
     record {
       n-pos = omega (arith, h .n-pos);
       n-max = omega (arith, h .n-max);
       m-max = k;
       b-s = omega (arith, h .b-last);
       len = rw en (h .len);
-      ok = rw (en, eb, el, add-one (last st)) (c .1);
+      ok = rw (en, eb, el, add-one (last st)) (room-for m st e .1);
     }
 
 -- the writes behind an eviction are an addition

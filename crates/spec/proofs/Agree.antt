@@ -16,12 +16,20 @@ use Rattle.spec.specs.Text.{Request, Reading, readText}
 use Rattle.spec.specs.Text.Request.{sample, current, currentAt, assets, allAssets}
 use Rattle.spec.specs.Text.Reading.{unread, asked}
 use Rattle.spec.specs.Path.{select}
-use Rattle.spec.specs.Observations.{maxRing, ringSize, base, last, storeWords, latestAt, headOk, add, evictOk, ringOk, sampleRows, heldRow, currentRows, atRows}
-use Rattle.spec.specs.Assets.{maxBody, used, assetHeadOk, assetOk, idOk, bodyOk, cellFor, storeCells, lengthAt, lengthOk, bodyStart, bodyPlace, part}
+use Rattle.spec.specs.Observations.{maxRing, ringSize, base, last, storeWords, latestAt, headOk, add, evictOk}
+use Rattle.spec.specs.Observations.{ringOk, sampleRows, heldRow, currentRows, atRows}
+use Rattle.spec.specs.Assets.{maxBody, used, assetHeadOk, assetOk, idOk, bodyOk, cellFor, storeCells, lengthAt}
+use Rattle.spec.specs.Assets.{lengthOk, bodyStart, bodyPlace, part}
 use Rattle.spec.specs.Reply.{Replied, refuse, assetReply}
-use Rattle.spec.specs.Calls.{Observed, Kept, roomFor, observeBy, timeOr, observeItem, keepBy, keepAsset, unless, inRange, sampleBetween, sampleReply, currentReply, currentUpTo, atReply, cellRows, allCells, cellsReply, namedReply, downFrom, answerRequest, answerReading, added}
+use Rattle.spec.specs.Calls.{Observed, Kept, roomFor, observeBy, timeOr, observeItem, keepBy, keepAsset, unless}
+use Rattle.spec.specs.Calls.{inRange, sampleBetween, sampleReply, currentReply, currentUpTo, atReply, cellRows}
+use Rattle.spec.specs.Calls.{allCells, cellsReply, namedReply, downFrom, answerRequest, answerReading, added}
 use Rattle.spec.specs.Calls
-use Rattle.spec.specs.Reference.{State, Observation, Held, nothing, newestOr, newest, lastOf, firstOf, within, keep, triple, outside, eqValue, spent, observeAnswer, observeNext, withOne, place, holds, assetsAfter, storeAnswer, storeNext, sampleStart, sampleEnd, sampleFor, currentFor, foundRows, atFor, selected, contentAt, heldRows, allHeld, placesOf, newestFirst, replyTo, replyReading, bodyOf}
+use Rattle.spec.specs.Reference.{State, Observation, Held, nothing, newestOr, newest, lastOf, firstOf, within}
+use Rattle.spec.specs.Reference.{keep, triple, outside, eqValue, spent, observeAnswer, observeNext, withOne}
+use Rattle.spec.specs.Reference.{place, holds, assetsAfter, storeAnswer, storeNext, sampleStart, sampleEnd}
+use Rattle.spec.specs.Reference.{sampleFor, currentFor, foundRows, atFor, selected, contentAt, heldRows, allHeld}
+use Rattle.spec.specs.Reference.{placesOf, newestFirst, replyTo, replyReading, bodyOf}
 use Rattle.spec.specs.Reference
 use Rattle.spec.specs.declared.Value.{Value}
 use Rattle.spec.specs.declared.Value.the-variants.{Event}
@@ -41,7 +49,8 @@ use Rattle.spec.proofs.Observations.{head-ok}
 use Rattle.spec.proofs.Recorded.{lastOr-some, newestOr-append, newestOr-item, within-slice}
 use Rattle.spec.proofs.Kept.{Rep, next, add-rep}
 use Rattle.spec.proofs.Rows.{ring-rows, held-at, ring-ok, evict-ok}
-use Rattle.spec.proofs.Encoding.{Ok, AllOk, Stands, encode, find-is, find-all, store-cells, cell-is, length-at, length-ok, part-is, asset-heads}
+use Rattle.spec.proofs.Encoding.{Ok, AllOk, Stands, encode, find-is, find-all, store-cells, cell-is, length-at}
+use Rattle.spec.proofs.Encoding.{length-ok, part-is, asset-heads}
 
 -- ---- the relation
 
@@ -71,7 +80,8 @@ module _ {A B : Type 0} (P : A → B → Type 0) where
   same-test false false e f g = g refl
 
   -- the second asks the other way round
-  other-test : (t u : Bool) {x y : A} {x' y' : B} → u ≡ not t → (t ≡ true → P x y') → (t ≡ false → P y x') → P (cond t x y) (cond u x' y')
+  pub other-test : (t u : Bool) {x y : A} {x' y' : B} → u ≡ not t → (t ≡ true → P x y') → (t ≡ false → P y x')
+      → P (cond t x y) (cond u x' y')
   other-test true true e f g = absurd (true≢false e)
   other-test true false e f g = f refl
   other-test false true e f g = g refl

@@ -17,9 +17,10 @@ use Rattle.spec.specs.Text.Request.{sample, current, currentAt, assets, 
 use Rattle.spec.specs.Text.Reading.{unread, asked}
 use Rattle.spec.specs.Path.{select}
 use Rattle.spec.specs.Answers.{refusalNumber, observeWord, storeWord}
-use Rattle.spec.specs.History.{Call, Stores, Start, Window, storesStart, callOutputs, windowsOf, Meets}
+use Rattle.spec.specs.History.{Call, Stores, Start, Window, storesStart, storesAfter, callOutputs, windowsOf}
+use Rattle.spec.specs.History.{Meets}
 use Rattle.spec.specs.History.Output.{observed, stored, returned}
-use Rattle.spec.specs.Bench.{benchStart, benchObserves, storesAfter, benchStores}
+use Rattle.spec.specs.Bench.{benchStart, benchObserves, benchStores}
 use Rattle.spec.specs.declared.Level.the-variants.{Normal, Warning, Fault}
 use Rattle.spec.specs.declared.Value.{Value}
 use Rattle.spec.specs.declared.Value.the-variants.{Unavailable, Sample, Event, Condition}

@@ -1,9 +1,10 @@
--- Calls through the C interface, whose observe takes a value's word: each word decodes to a value that fits its
--- type, so the history theorem holds of every list of them with no hypothesis on types.
+-- Calls through the C interface, whose observe and batch take a value's word: each word decodes to a value that fits
+-- its type, so the history theorem holds of every list of them with no hypothesis on types.
 use mathlib.Core.Path.{_≡_}
 use Prim.Native.Nat.{ℕ}
 use mathlib.Core.List.{List, [], _∷_, map}
 use Rattle.spec.specs.Value.{decode}
+use Rattle.spec.specs.declared.Record.{Record}
 use Rattle.spec.specs.Reference.{State}
 use Rattle.spec.specs.Reference.Begun.{begun}
 use Rattle.spec.specs.History.{Call, Typed, AllTyped, Start, History, begins, storesOutputs, referenceAfter}
@@ -11,9 +12,10 @@ use Rattle.spec.proofs.Packing.{decode-fits}
 use Rattle.spec.proofs.History.{Sequence, history, sequence}
 use Rattle.spec.proofs.Never.{AllFree, never-store}
 
--- a call of `mtcore`; the reply buffer's words at the call are part of it
+-- a call of `mtcore`; the words of the reply or answer buffer at the call are part of it
 pub data HostCall : Type 0 where
   observe : (item time host word : ℕ) → HostCall
+  batch : (records : List Record) (host : ℕ) (answers : List ℕ) → HostCall
   storeAsset : (id body : List ℕ) (host : ℕ) → HostCall
   request : (text reply : List ℕ) → HostCall
   body : (id : List ℕ) → HostCall
@@ -21,12 +23,14 @@ pub data HostCall : Type 0 where
 -- the call that it makes
 abbrev pub made : HostCall → Call
 made (HostCall.observe item time host word) = Call.observe item time host (decode word)
+made (HostCall.batch records host answers) = Call.batch records host answers
 made (HostCall.storeAsset id content host) = Call.storeAsset id content host
 made (HostCall.request text reply) = Call.request text reply
 made (HostCall.body id) = Call.body id
 
 typed : (c : HostCall) → Typed (made c)
 typed (HostCall.observe item time host word) = decode-fits word
+typed (HostCall.batch records host answers) = tt
 typed (HostCall.storeAsset id content host) = tt
 typed (HostCall.request text reply) = tt
 typed (HostCall.body id) = tt

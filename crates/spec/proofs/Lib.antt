@@ -10,6 +10,8 @@ pub mod Read
 pub mod Print
 pub mod Path
 pub mod Observations
+pub mod Heads
+pub mod Admission
 pub mod Assets
 pub mod Reply
 pub mod Recorded
@@ -18,10 +20,12 @@ pub mod Rows
 pub mod Start
 pub mod Encoding
 pub mod Agree
+pub mod Offers
 pub mod Begin
 pub mod Windows
 pub mod History
 pub mod Never
+pub mod Singles
 pub mod Interface
 pub mod Opened
 pub mod Fixtures
@@ -30,4 +34,5 @@ pub mod Examples
 pub mod Bounds
 pub mod Orders
 pub mod Damaged
+pub mod Batches
 pub mod Refusals

@@ -16,16 +16,19 @@ use Rattle.spec.specs.Assets.{assetHeadOk, idOk, bodyOk, assetOk, find, 
 use Rattle.spec.specs.Assets.{lengthOk, bodyPlace}
 use Rattle.spec.specs.Reply.{numbers, pairs, lengths, observationWords, assetWords, written, observationReply}
 use Rattle.spec.specs.Reply.{assetReply, readRows}
-use Rattle.spec.specs.Calls.{startOk, startBoth, start, roomFor, observeItem, observe, keepAsset, storeAsset}
+use Rattle.spec.specs.Calls.{startOk, startBoth, start, roomFor, observeItem, observe, observeAll, admitted}
+use Rattle.spec.specs.Calls.{observeBatch, keepAsset, storeAsset}
 use Rattle.spec.specs.Calls.{inRange, sampleBetween, sampleReply, currentReply, currentUpTo, atReply, cellRows}
 use Rattle.spec.specs.Calls.{allCells, cellsReply, findAll, namedReply, downFrom, answerRequest, answerReading}
 use Rattle.spec.specs.Calls.{request, body}
-use Rattle.spec.specs.Reference.{keep, newestOr, lastOr, sizeWrong, unavailable, begin, observeAnswer, place}
+use Rattle.spec.specs.Reference.{keep, newestOr, lastOr, sizeWrong, unavailable, begin, observeAnswer}
+use Rattle.spec.specs.Reference.{offersAnswers, offersNext, batchAnswer, place}
 use Rattle.spec.specs.Reference.{storeAnswer, sampleFor, currentFor, foundRows, atFor, heldRows, allHeld}
 use Rattle.spec.specs.Reference.{placesOf, newestFirst, replyTo, replyReading, reply, bodyOf}
-use Rattle.spec.specs.History.{storesRun, referenceRun, referenceAfter, callOutputs, storesOutputs}
-use Rattle.spec.specs.History.{referenceOutputs, windowsOfOutputs, windowsOf, lastNext, joined}
-use Rattle.spec.specs.Bench.{storesAfter, benchStores, benchRequest}
+use Rattle.spec.specs.History.{storesRun, storesAfter, referenceRun, referenceAfter, callOutputs}
+use Rattle.spec.specs.History.{storesOutputs, referenceOutputs, windowsOfOutputs, windowsOf, lastNext}
+use Rattle.spec.specs.History.{joined}
+use Rattle.spec.specs.Bench.{benchStores, benchRequest}
 
 unfoldable pub openedWords : Unit {0}
 unfolding every firstWhere anyBelow countBelow pickRows setOf row put
@@ -65,23 +68,24 @@ unfolding numbers pairs lengths observationWords assetWords written observationR
 openedReply = tt
 
 unfoldable pub openedCalls : Unit {0}
-unfolding startOk startBoth start roomFor observeItem observe keepAsset storeAsset inRange sampleBetween sampleReply
-    currentReply currentUpTo atReply cellRows allCells cellsReply findAll namedReply downFrom answerRequest
-    answerReading request body
+unfolding startOk startBoth start roomFor observeItem observe observeAll admitted observeBatch keepAsset storeAsset
+    inRange sampleBetween sampleReply currentReply currentUpTo atReply cellRows allCells cellsReply findAll namedReply
+    downFrom answerRequest answerReading request body
 openedCalls = tt
 
 unfoldable pub openedReference : Unit {0}
-unfolding keep newestOr lastOr sizeWrong unavailable begin observeAnswer place storeAnswer sampleFor currentFor
-    foundRows atFor heldRows allHeld placesOf newestFirst replyTo replyReading reply bodyOf
+unfolding keep newestOr lastOr sizeWrong unavailable begin observeAnswer offersAnswers offersNext batchAnswer place
+    storeAnswer sampleFor currentFor foundRows atFor heldRows allHeld placesOf newestFirst replyTo replyReading reply
+    bodyOf
 openedReference = tt
 
 unfoldable pub openedHistory : Unit {0}
-unfolding storesRun referenceRun referenceAfter callOutputs storesOutputs referenceOutputs windowsOfOutputs windowsOf
-    lastNext joined
+unfolding storesRun storesAfter referenceRun referenceAfter callOutputs storesOutputs referenceOutputs windowsOfOutputs
+    windowsOf lastNext joined
 openedHistory = tt
 
 unfoldable pub openedBench : Unit {0}
-unfolding storesAfter benchStores benchRequest
+unfolding benchStores benchRequest
 openedBench = tt
 
 unfoldable pub opened : Unit {0}

@@ -9,7 +9,8 @@ use mathlib.Core.List.{List, [], _∷_, _++_, map}
 use lib.Dec.{leb, ltb, eqb}
 use lib.ListN.{length, getD, take, drop, length-append, List·getD-append}
 use lib.Seq.{slice, take-nil, drop-nil, getD-append-seam}
-use borrow.Author.Tests.{ltb-true, ltb-false, leb-true, leb-false, eqb-true, eqb-false, lt-ltb, le-ltb, le-leb, lt-leb, eq-eqb, ne-eqb}
+use borrow.Author.Tests.{ltb-true, ltb-false, leb-true, leb-false, eqb-true, eqb-false, lt-ltb, le-ltb, le-leb, lt-leb}
+use borrow.Author.Tests.{eq-eqb, ne-eqb}
 use Rattle.spec.specs.Reference.{Observation, nothing, keep, newestOr, newest, lastOr, within, matching}
 
 -- H's numbers are B, B + 1, ..
@@ -84,6 +85,11 @@ mod-apart N k j h l e = go (ltb (k / N) (j / N)) refl
     go false t =
         let q : j / N * N ≤ k / N * N = mul-le-mul-right N (ltb-false (k / N) (j / N) t) in
         omega (arith, div-add-mod' k N, div-add-mod' j N)
+
+pub lastOr-append : (H : List Observation) (d : ℕ) (o : Observation) → lastOr d (H ++ (o ∷ [])) ≡ o .number
+unfolding lastOr
+lastOr-append [] d o = refl
+lastOr-append (x ∷ H) d o = lastOr-append H (x .number) o
 
 pub lastOr-some : (H : List Observation) (B d : ℕ) → Numbered B H → 0 < length H → suc (lastOr d H) ≡ B + length H
 unfolding lastOr

@@ -1,4 +1,4 @@
--- Refusals: each of the fifteen is given by some call; a refused call changes nothing, whatever its inputs.
+-- Refusals: each of the sixteen is given by some call; a refused call changes nothing, whatever its inputs.
 use mathlib.Core.Path.{_≡_, refl}
 use mathlib.Core.Bool.{_&&_}
 use Prim.Native.Nat.{ℕ, suc, _-_, _^_}
@@ -18,15 +18,20 @@ use Rattle.spec.specs.Answers.{answerNumber, observeWord, storeWord}
 use Rattle.spec.specs.Text.{Request, Reading}
 use Rattle.spec.specs.Text.Request.{sample, current, currentAt, assets, allAssets}
 use Rattle.spec.specs.Text.Reading.{unread, asked}
-use Rattle.spec.specs.Calls.{timeOr, Started, Observed, Kept, first, startOf, endOf, startOk, startBoth, start}
-use Rattle.spec.specs.Calls.{roomFor, observeBy, observeItem, observe, keepBy, keepAsset, storeAsset, unless, inRange}
+use Rattle.spec.specs.Calls.{timeOr, Started, Observed, Answered, Batched, Kept, first, startOf, endOf, startOk}
+use Rattle.spec.specs.Calls.{startBoth, start}
+use Rattle.spec.specs.Calls.{observeAll, admitted, batchBy, observeBatch}
+use Rattle.spec.specs.Calls.{roomFor, observeBy, observeItem, observe, keepBy, keepAsset, storeAsset, unless}
+use Rattle.spec.specs.Calls.{inRange}
 use Rattle.spec.specs.Calls.{sampleBetween, sampleReply, currentReply, currentUpTo, atReply, cellRows, allCells}
 use Rattle.spec.specs.Calls.{cellsReply, findAll, namedReply, answerRequest, answerReading, request}
 use Rattle.spec.specs.Bench.{benchModel, benchNames}
+use Rattle.spec.specs.declared.Record.{Record}
 use Rattle.spec.specs.declared.Value.{Value}
 use Rattle.spec.specs.declared.Value.the-variants.{Sample}
 use Rattle.spec.specs.declared.Refusal.{Refusal}
 use Rattle.spec.specs.declared.Refusal.the-variants.{Space}
+use Rattle.spec.specs.declared.Answer.{Answer}
 use Rattle.spec.specs.declared.Answer.the-variants.{Done, Refused}
 use Rattle.spec.specs.declared.ObserveAnswer.the-variants.{Refused as Unrecorded}
 use Rattle.spec.specs.declared.StoreAnswer.the-variants.{Stored, Refused as Unstored}
@@ -57,6 +62,10 @@ spentObserve =
     let st = start benchModel benchNames (replicate 22 0) (replicate 546 0) 3 1 (2 ^ 63 - 2) 1000 .observations in
     observeWord (observe benchModel benchNames st 1 1 1 (Sample (pos 5)) .answer) - 2 ^ 63
 
+-- a record of item 0
+abbrev unavailable : Record
+unavailable = record { item = 0; time = 0; value = 0 }
+
 -- the bench case's model with model [], a store [], N = 0, and so on
 pub given : List ℕ
 given =
@@ -75,9 +84,10 @@ given =
     ∷ asks (bytes "/asset/T1")
     ∷ (storeWord (storeAsset benchModel benchNames benchStore noAssets [] (1 ∷ []) 1 .answer) - 2 ^ 63)
     ∷ asksIn 1 (bytes "/current")
+    ∷ answerNumber (observeBatch benchModel benchNames benchStore (replicate 257 unavailable) 1 [] .answer)
     ∷ []
 
-pub each-given : given ≡ 1 ∷ 2 ∷ 3 ∷ 4 ∷ 5 ∷ 6 ∷ 7 ∷ 8 ∷ 9 ∷ 10 ∷ 11 ∷ 12 ∷ 13 ∷ 14 ∷ 15 ∷ []
+pub each-given : given ≡ 1 ∷ 2 ∷ 3 ∷ 4 ∷ 5 ∷ 6 ∷ 7 ∷ 8 ∷ 9 ∷ 10 ∷ 11 ∷ 12 ∷ 13 ∷ 14 ∷ 15 ∷ 16 ∷ []
 unfolding asksIn asks observes spentObserve given opened
 each-given = refl
 
@@ -113,6 +123,20 @@ observe-keeps model names st item time host v =
     (λ c r q. refl))
     (λ b r q. refl))
     (λ a r q. refl)
+
+abbrev KeepsBatch : List ℕ → List ℕ → Batched → Type 0
+KeepsBatch st answers o = (r : Refusal) → o .answer ≡ Refused r → (o .observations ≡ st) × (o .answers ≡ answers)
+
+batch-by : (x : Answer) (q : Answered) (st answers : List ℕ) → KeepsBatch st answers (batchBy x q st answers)
+batch-by (Done n) q st answers r e = (cc, cc)
+batch-by (Refused x) q st answers r e = (refl, refl)
+
+pub batch-keeps : (model names st : List ℕ) (records : List Record) (host : ℕ) (answers : List ℕ)
+    → KeepsBatch st answers (observeBatch model names st records host answers)
+unfolding observeBatch
+batch-keeps model names st records host answers =
+    batch-by (admitted model names st (length records) (length answers)) (observeAll model names st host records) st
+    answers
 
 abbrev KeepsStore : List ℕ → List ℕ → Kept → Type 0
 KeepsStore st bs o = (r : Refusal) → o .answer ≡ Unstored r → (o .observations ≡ st) × (o .assets ≡ bs)

@@ -17,11 +17,16 @@ use Rattle.spec.specs.Text.{Reading, readText}
 use Rattle.spec.specs.Text.Request.{sample, current, currentAt, assets, allAssets}
 use Rattle.spec.specs.Text.Reading.{unread, asked}
 use Rattle.spec.specs.Path.{select}
-use Rattle.spec.specs.Reply.{Replied, refuse, numbers, pairs, observationWords, over, written, observationReply, readRows, rowsOf}
-use Rattle.spec.specs.Reference.{State, Observation, keep, within, matching, triple, lastOf, firstOf, outside, observeAnswer, observeNext, storeAnswer, storeNext, sampleStart, sampleEnd, sampleFor, selected, replyTo, replyReading}
+use Rattle.spec.specs.Reply.{Replied, refuse, numbers, pairs, observationWords, over, written, observationReply}
+use Rattle.spec.specs.Reply.{readRows, rowsOf}
+use Rattle.spec.specs.Reference.{State, Observation, keep, within, matching, triple, lastOf, firstOf, outside}
+use Rattle.spec.specs.Reference.{Offer, observeAnswer, observeNext, offerNext, offersNext, storeAnswer, storeNext}
+use Rattle.spec.specs.Reference.{sampleStart, sampleEnd, sampleFor, selected, replyTo, replyReading}
 use Rattle.spec.specs.Reference
-use Rattle.spec.specs.History.{Call, Start, Window, windowOfReading, windowOfAnswer, windowsOfOutputs, windowsOfCall, Meets, lastNext, joined, setSelected, selection, matchingRows, referenceOutput, referenceNext, referenceAfter}
-use Rattle.spec.specs.History.Call.{observe, storeAsset, request, body}
+use Rattle.spec.specs.History.{Call, Start, Window, windowOfReading, windowOfAnswer, windowsOfOutputs}
+use Rattle.spec.specs.History.{windowsOfCall, Meets, lastNext, joined, setSelected, selection, matchingRows}
+use Rattle.spec.specs.History.{offersOf, referenceOutput, referenceNext, referenceAfter}
+use Rattle.spec.specs.History.Call.{observe, batch, storeAsset, request, body}
 use Rattle.spec.specs.declared.Refusal.the-variants.{Space, TooMany, OutOfRange}
 use Rattle.spec.specs.declared.Answer.{Answer}
 use Rattle.spec.specs.declared.Answer.the-variants.{Done, Refused}
@@ -189,13 +194,25 @@ module _ (a : Start) where
   later-trans : (H K L : List Observation) → Later H K → Later K L → Later H L
   later-trans H K L x y = (x .0 ++ y .0, y .1 ∙ ap (λ (z : List Observation). z ++ y .0) (x .1) ∙ append-assoc H (x .0) (y .0))
 
-  later-next : (p : State) (c : Call) → Later (p .H) (referenceNext (a .model) (a .names) p c .H)
-  later-next p (observe item time host v) = go (observeAnswer (a .model) (a .names) p item v)
+  later-offer : (p : State) (o : Offer) → Later (p .H) (offerNext (a .model) (a .names) p o .H)
+  later-offer p o = go (observeAnswer (a .model) (a .names) p (o .item) (o .value))
     where
-      go : (x : ObserveAnswer) → Later (p .H) (observeNext x p item time host v .H)
+      go : (x : ObserveAnswer) → Later (p .H) (observeNext x p (o .item) (o .time) (o .host) (o .value) .H)
       go (Recorded n) = (_, refl)
       go Same = later-self (p .H)
       go (Unrecorded r) = later-self (p .H)
+
+  later-offers : (os : List Offer) (p : State) → Later (p .H) (offersNext (a .model) (a .names) p os .H)
+  unfolding offersNext
+  later-offers [] p = later-self (p .H)
+  later-offers (o ∷ os) p =
+      let q = offerNext (a .model) (a .names) p o in
+      later-trans (p .H) (q .H) (offersNext (a .model) (a .names) q os .H) (later-offer p o) (later-offers os q)
+
+  later-next : (p : State) (c : Call) → Later (p .H) (referenceNext (a .model) (a .names) p c .H)
+  later-next p (observe item time host v) = later-offers (offersOf (a .model) (a .names) (observe item time host v)) p
+  later-next p (batch records host answers) =
+      later-offers (offersOf (a .model) (a .names) (batch records host answers)) p
   later-next p (storeAsset id content host) = go (storeAnswer (a .model) (a .names) p id content) (hasChange (a .model)) refl
     where
       go : (x : StoreAnswer) (t : Bool) → hasChange (a .model) ≡ t → Later (p .H) (storeNext x (a .model) p id content host .H)
@@ -222,6 +239,7 @@ module _ (a : Start) where
       → AllTrue (p .H ++ X) (windowsOfCall c (referenceOutput (a .model) (a .names) p c))
   unfolding windowsOfOutputs Reference.reply replyReading
   call-true p (observe item time host v) X right n l n' = tt
+  call-true p (batch records host answers) X right n l n' = tt
   call-true p (storeAsset id content host) X right n l n' = tt
   call-true p (request text reply) X right n l n' =
       rw right

@@ -1,7 +1,10 @@
--- The refusals' numbers, and each answer as number, count and word: document 01, "Reply words" and "Refusal table".
+-- The refusals' numbers, and each answer as number, count and word: document 01, "Reply words" and "Refusal table"; 16
+-- is document 02's, Req 01.
 use Prim.Native.Nat.{ℕ, _+_, _^_}
 use Rattle.spec.specs.declared.Refusal.{Refusal}
-use Rattle.spec.specs.declared.Refusal.the-variants.{Model, Store, Size, Item, Kind, Spent, InvalidUri, InvalidRequest, Unsupported, TooMany, InvalidXpath, OutOfRange, AssetNotFound, Asset, Space}
+use Rattle.spec.specs.declared.Refusal.the-variants.{Model, Store, Size, Item, Kind, Spent, InvalidUri}
+use Rattle.spec.specs.declared.Refusal.the-variants.{InvalidRequest, Unsupported, TooMany, InvalidXpath}
+use Rattle.spec.specs.declared.Refusal.the-variants.{OutOfRange, AssetNotFound, Asset, Space, Batch}
 use Rattle.spec.specs.declared.Answer.{Answer}
 use Rattle.spec.specs.declared.Answer.the-variants.{Done, Refused}
 use Rattle.spec.specs.declared.ObserveAnswer.{ObserveAnswer}
@@ -25,8 +28,9 @@ refusalNumber OutOfRange = 12
 refusalNumber AssetNotFound = 13
 refusalNumber Asset = 14
 refusalNumber Space = 15
+refusalNumber Batch = 16
 
--- start and request: 0 and k, or the refusal's number and 0
+-- start, request and observe-batch: 0 and k, or the refusal's number and 0
 abbrev pub answerNumber : Answer → ℕ
 answerNumber (Done k) = 0
 answerNumber (Refused r) = refusalNumber r

@@ -11,7 +11,7 @@ use Rattle.spec.specs.Reply.{Replied, over}
 use Rattle.spec.specs.Calls
 use Rattle.spec.specs.Reference
 use Rattle.spec.specs.Reference.{State}
-use Rattle.spec.specs.History.{Call, Stores, Start, storesNext, referenceAfter}
+use Rattle.spec.specs.History.{Call, Stores, Start, storesAfter, referenceAfter}
 use Rattle.spec.specs.History.Call.{observe}
 use Rattle.spec.specs.declared.Value.the-variants.{Sample}
 use Rattle.spec.specs.declared.Refusal.the-variants.{InvalidRequest, TooMany, OutOfRange}
@@ -32,11 +32,6 @@ benchStart st bs =
 -- item 1: 5000 at 1010; 5000 at 1020; -1 at time 0, host 1030
 abbrev pub benchObserves : List Call
 benchObserves = observe 1 1010 1010 (Sample (pos 5000)) ∷ observe 1 1020 1020 (Sample (pos 5000)) ∷ observe 1 0 1030 (Sample (negsuc 0)) ∷ []
-
--- the stores behind a list of calls
-unfoldable pub storesAfter : List ℕ → List ℕ → Stores → List Call → Stores
-storesAfter model names s [] = s
-storesAfter model names s (c ∷ cs) = storesAfter model names (storesNext model names s c) cs
 
 -- words and bytes of the two stores
 abbrev pub benchWords : ℕ

@@ -32,6 +32,9 @@ pub const MAX_BODY: u64 = 510;
 // How many numbers a sample considers where no count is given.
 pub const DEFAULT_COUNT: u64 = 100;
 
+// Records of a batch.
+pub const MAX_BATCH: usize = 256;
+
 // A condition's level.
 pub enum Level {
     Normal,
@@ -47,7 +50,15 @@ pub enum Value {
     Condition(Level, u32),
 }
 
-// The refusals 1 to 15, in the order of their numbers.
+// A record of a batch: an item, a time and a value's word, laid out as C has it.
+#[repr(C)]
+pub struct Record {
+    pub item: u64,
+    pub time: u64,
+    pub value: u64,
+}
+
+// The refusals 1 to 16, in the order of their numbers.
 pub enum Refusal {
     Model,
     Store,
@@ -64,9 +75,11 @@ pub enum Refusal {
     AssetNotFound,
     Asset,
     Space,
+    Batch,
 }
 
-// The answer of start and request: how many rows the reply has, or the refusal.
+// The answer of start, request and observe_batch: how many rows the reply has or records were observed, or the
+// refusal.
 pub enum Answer {
     Done(u64),
     Refused(Refusal),
