@@ -1,4 +1,5 @@
-// The C interface: every exported function, thin over the calls of `agent`. include/mtcore.h declares the same.
+// The C interface: every exported function, thin over the calls of `agent` and `delivery`. include/mtcore.h declares
+// the same.
 ghost use mathlib.Core.Path.{_≡_};
 ghost use lib.ListN.{take, drop};
 ghost use Rattle.spec.specs.Answers.{answerNumber, answerCount, observeWord, storeWord};
@@ -8,8 +9,9 @@ ghost use Rattle.spec.specs.Calls as calls;
 ghost use Rattle.agent.specs.Place.{placeStart, placeLength};
 use spec::Answer;
 use spec::Place;
+use spec::Record;
 
-// The answer of start and request: 0 and k, or the refusal's number and 0.
+// The answer of start, request and observe_batch: 0 and k, or the refusal's number and 0.
 #[repr(C)]
 pub struct Outcome {
     pub number: u64,
@@ -76,6 +78,27 @@ pub extern "C" fn mtcore_observe(
     let v = value::decode(value);
     let answer = agent::observe(model, names, observations, item, time, host, v);
     answers::observe_word(answer)
+}
+
+// A batch of observations: delivery's observe_batch.
+#[no_mangle]
+pub extern "C" fn mtcore_observe_batch(
+    model: &[u32],
+    names: &[u8],
+    observations: &mut [u64],
+    records: &[Record],
+    host: u64,
+    answers: &mut [u64],
+) -> Outcome
+    ensures { λ r. ⌜
+        (let x = calls.observeBatch (now (model .entry)) (now (names .entry)) (now (observations .entry))
+        (now (records .entry)) host (now (answers .entry)) in
+        (r .number ≡ answerNumber (x .answer)) × (r .count ≡ answerCount (x .answer))
+        × (now (observations .exit) ≡ x .observations) × (now (answers .exit) ≡ x .answers))
+        ⌝ }
+{
+    let answer = delivery::observe_batch(model, names, observations, records, host, answers);
+    outcome_of(answer)
 }
 
 // An asset's id and body: agent's store_asset.

@@ -1,0 +1,5 @@
+pub mod Again
+pub mod Facts
+pub mod Laws
+pub mod Lent
+pub mod While
