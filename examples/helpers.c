@@ -1,5 +1,6 @@
 /* Tries every helper of mtcore.h, as C and as C++: what goes in comes out again, and what isn't there gives
- * nothing. Prints the number of trials, or the first that fails. */
+ * nothing. So does a delivery, whose records are a struct that the header lays out. Prints the number of trials, or
+ * the first that fails. */
 #include <stdio.h>
 #include <string.h>
 
@@ -123,6 +124,39 @@ static void try_rows(void) {
     HOLDS(no_row.number == 0 && no_row.time == 0 && no_row.packed == 0);
 }
 
+static uint64_t deliver(const mtcore_record *records, size_t records_len, uint64_t *words, size_t words_len) {
+    mtcore_answer r = mtcore_observe_batch(MODEL, observations, COUNT(observations), records, records_len, 9, words,
+                                           words_len);
+    HOLDS(r.count == (r.number == 0 ? records_len : 0));
+    return r.number;
+}
+
+/* behind the last row of try_rows; what is refused leaves answers and stores */
+static void try_batch(void) {
+    static mtcore_record many[MTCORE_MAX_BATCH + 1];
+    static uint64_t words[MTCORE_MAX_BATCH + 1];
+    const mtcore_record records[] = {{1, 5, mtcore_sample(-7)},
+                                     {ITEMS, 5, MTCORE_UNAVAILABLE},
+                                     {0, 0, mtcore_event(3)},
+                                     {1, 6, mtcore_sample(-7)},
+                                     {0, 0, mtcore_sample(3)}};
+    uint64_t before = mtcore_reply_last(reply);
+    words[COUNT(records)] = 1;
+    HOLDS(sizeof(mtcore_record) == 3 * sizeof(uint64_t));
+    HOLDS(deliver(records, COUNT(records), words, COUNT(records) - 1) == MTCORE_SPACE && words[0] == 0);
+    HOLDS(deliver(many, COUNT(many), words, COUNT(words)) == MTCORE_BATCH && words[0] == 0);
+    HOLDS(deliver(NULL, 0, NULL, 0) == 0);
+    HOLDS(ask("/sample").number == 0 && mtcore_reply_last(reply) == before);
+    HOLDS(deliver(records, COUNT(records), words, COUNT(words)) == 0 && words[COUNT(records)] == 1);
+    HOLDS(words[0] == before + 1 && mtcore_refusal_of(words[1]) == MTCORE_ITEM && words[2] == before + 2);
+    HOLDS(words[3] == MTCORE_SAME && mtcore_refusal_of(words[4]) == MTCORE_KIND);
+    HOLDS(ask("/current").number == 0 && mtcore_reply_last(reply) == before + 2);
+    HOLDS(mtcore_reply_row(reply, 1).time == 5 && mtcore_sample_of(mtcore_reply_row(reply, 1).packed) == -7);
+    HOLDS(mtcore_reply_row(reply, 0).time == 9 && mtcore_code_of(mtcore_reply_row(reply, 0).packed) == 3);
+    HOLDS(deliver(many, MTCORE_MAX_BATCH, words, MTCORE_MAX_BATCH) == 0);
+    HOLDS(words[0] == before + 3 && words[1] == MTCORE_SAME && words[MTCORE_MAX_BATCH - 1] == MTCORE_SAME);
+}
+
 static void try_cells(void) {
     HOLDS(none(mtcore_cell_id(ASSETS, 0)) && none(mtcore_cell_body(ASSETS, 0)));
     HOLDS(store("T1", "drill") == 0 && store("T2345678901234567890123456789012", "tap") == 1);
@@ -169,6 +203,7 @@ int main(void) {
     try_packed_ok();
     try_names();
     try_rows();
+    try_batch();
     try_cells();
     try_damaged_cells();
     try_words();

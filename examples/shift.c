@@ -1,6 +1,7 @@
-/* A shift of a mill, replayed in a second: 06:00 to 14:00, a ring of 1,000, a tool changed, and three clients that
- * poll at their own pace, one of them asleep until it is late. Prints the shift's page. Everything that the core
- * delivers is compared with a log of the whole shift, which a box doesn't have. */
+/* A shift of a mill, replayed in a second: 06:00 to 14:00, a ring of 1,000, a scan every ten seconds that goes to the
+ * core as one delivery, a tool changed, and three clients that poll at their own pace, one of them asleep until it is
+ * late. Prints the shift's page. Everything that the core delivers is compared with a log of the whole shift, which a
+ * box doesn't have. */
 #include <inttypes.h>
 #include <stdio.h>
 #include <string.h>
@@ -74,9 +75,19 @@ static const char *const levels[] = {"Normal", "Warning", "Fault"};
 
 enum { N = 1000, A = 4, LOG = 10000, SECOND = 1000, MINUTE = 60 * SECOND, HOUR = 60 * MINUTE, STEP = 10 * SECOND };
 
+/* the most readings of a scan: of every item but the asset change's, and of one that the model doesn't have */
+enum { SCAN = ITEMS };
+
 static uint64_t observations[MTCORE_OBSERVATION_WORDS(N, ITEMS)];
 static uint8_t assets[MTCORE_ASSET_BYTES(A)];
 static uint64_t reply[MTCORE_REPLY_WORDS(N)];
+
+/* what a scan has found so far, and room for the words that it is answered with */
+static struct {
+    mtcore_record records[SCAN];
+    uint64_t words[SCAN];
+    size_t length;
+} scan;
 
 #define MODEL model, COUNT(model), names[0], sizeof names
 #define OBSERVATIONS observations, COUNT(observations)
@@ -120,8 +131,17 @@ static void start(void) {
         log_next(0, item, MTCORE_UNAVAILABLE);
 }
 
-static void observe(uint64_t time, uint64_t item, uint64_t value) {
-    uint64_t word = mtcore_observe(MODEL, OBSERVATIONS, item, six + time, six + time, value);
+static void found(uint64_t time, uint64_t item, uint64_t value) {
+    if (!agreed(scan.length < SCAN))
+        return;
+    scan.records[scan.length].item = item;
+    scan.records[scan.length].time = six + time;
+    scan.records[scan.length].value = value;
+    scan.length++;
+}
+
+/* one record's word: a refused record is the adapter's fault, and the others were recorded all the same */
+static void take_word(uint64_t time, mtcore_record record, uint64_t word) {
     adapter.readings++;
     if (mtcore_refusal_of(word) != 0) {
         adapter.refused++;
@@ -130,9 +150,19 @@ static void observe(uint64_t time, uint64_t item, uint64_t value) {
         adapter.same++;
     } else {
         adapter.recorded++;
-        log_next(time, item, value);
+        log_next(time, record.item, record.value);
         agreed(word == last);
     }
+}
+
+/* what the scan found goes to the core in one call */
+static void deliver(uint64_t time) {
+    mtcore_answer r = mtcore_observe_batch(MODEL, OBSERVATIONS, scan.records, scan.length, six + time, scan.words,
+                                           COUNT(scan.words));
+    if (agreed(r.number == 0 && r.count == scan.length))
+        for (size_t i = 0; i < scan.length; i++)
+            take_word(time, scan.records[i], scan.words[i]);
+    scan.length = 0;
 }
 
 /* gives the cell */
@@ -178,9 +208,9 @@ static uint64_t system_at(uint64_t time) {
 }
 
 static void read_axes(uint64_t time, int moves) {
-    observe(time, POSITION, mtcore_sample(moves ? (int32_t)below(400000) - 200000 : 0));
-    observe(time, SPINDLE_SPEED, mtcore_sample(moves ? 8000000 + 5000 * (int32_t)below(3) : 0));
-    observe(time, LOAD, mtcore_sample(moves ? 40000 + 500 * (int32_t)below(3) + (int32_t)(time / HOUR) * 2500 : 0));
+    found(time, POSITION, mtcore_sample(moves ? (int32_t)below(400000) - 200000 : 0));
+    found(time, SPINDLE_SPEED, mtcore_sample(moves ? 8000000 + 5000 * (int32_t)below(3) : 0));
+    found(time, LOAD, mtcore_sample(moves ? 40000 + 500 * (int32_t)below(3) + (int32_t)(time / HOUR) * 2500 : 0));
 }
 
 static void step(uint64_t time) {
@@ -188,13 +218,16 @@ static void step(uint64_t time) {
     enum execution now = execution_at(time);
     if (time > 0 && execution_at(time - STEP) == ACTIVE && now == READY)
         parts++;
-    observe(time, AVAILABILITY, mtcore_event(1));
-    observe(time, POWER_STATE, mtcore_event(1));
-    observe(time, PROGRAM, mtcore_event(time < second_program ? 0 : 1));
-    observe(time, EXECUTION, mtcore_event(now));
-    observe(time, SYSTEM, system_at(time));
-    observe(time, PART_COUNT, mtcore_event(parts));
+    found(time, AVAILABILITY, mtcore_event(1));
+    found(time, POWER_STATE, mtcore_event(1));
+    if (time == end_of_shift)
+        found(time, NO_SUCH_ITEM, MTCORE_UNAVAILABLE);
+    found(time, PROGRAM, mtcore_event(time < second_program ? 0 : 1));
+    found(time, EXECUTION, mtcore_event(now));
+    found(time, SYSTEM, system_at(time));
+    found(time, PART_COUNT, mtcore_event(parts));
     read_axes(time, now == ACTIVE);
+    deliver(time);
 }
 
 /* ---- clients ---- */
@@ -521,7 +554,6 @@ int main(void) {
         step(time);
         poll_due(time);
     }
-    observe(end_of_shift, NO_SUCH_ITEM, MTCORE_UNAVAILABLE);
     print_summary();
     print_clients();
     print_sleeper(&clients[LAPTOP]);

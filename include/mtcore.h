@@ -8,13 +8,13 @@
  * For every function:
  *
  * - A buffer is a pointer and its length in elements (not bytes). The pointer is aligned for its element:
- *   4 bytes for uint32_t, 8 for uint64_t. It may be NULL only if the length is 0.
+ *   4 bytes for uint32_t, 8 for uint64_t and mtcore_record. It may be NULL only if the length is 0.
  * - No two buffers of one call overlap, unless the call only reads both.
- * - A refusal changes nothing: no store, no reply. It is tested for before anything is written. Every
- *   input is answered, right or wrong; no call traps, loops for ever or reads outside the buffers.
- * - mtcore_start, mtcore_observe and mtcore_store_asset write the stores: while one of them runs, no
- *   other call may use the same stores. That lock is the caller's. mtcore_request and mtcore_body only
- *   read the stores: any number of them may run side by side, each with its own reply buffer.
+ * - A refusal changes nothing: no store, no reply, no answers. It is tested for before anything is written.
+ *   Every input is answered, right or wrong; no call traps, loops for ever or reads outside the buffers.
+ * - mtcore_start, mtcore_observe, mtcore_observe_batch and mtcore_store_asset write the stores: while one of
+ *   them runs, no other call may use the same stores. That lock is the caller's. mtcore_request and mtcore_body
+ *   only read the stores: any number of them may run side by side, each with its own reply buffer.
  * - The stores hold no pointers. Between calls they may be saved, copied and restored bytewise, also in
  *   another process, and used on without a start. Nobody else should write them: MTCORE_STORE sees a wrong
  *   head, length, item of a ring entry or length of a body, and no other damage. Latest and checkpoint
@@ -42,7 +42,7 @@ extern "C" {
 /* MAJOR moves where a host has to look at its own code, MINOR where something was added: CHANGELOG.md. Header and
  * archive are taken from the same version; the archive does not hold a number of its own. */
 #define MTCORE_VERSION_MAJOR 1
-#define MTCORE_VERSION_MINOR 1
+#define MTCORE_VERSION_MINOR 2
 
 /* Moves where the form of a store or of the model does. Saved stores outlive a version: save this number beside
  * them, and start anew where it differs, since refusal 2 need not see another form. */
@@ -65,14 +65,16 @@ enum mtcore_refusal {
     MTCORE_OUT_OF_RANGE = 12,    /* text: from or at is no longer, or not yet, held */
     MTCORE_ASSET_NOT_FOUND = 13, /* text: an id isn't stored */
     MTCORE_ASSET = 14,           /* id or body break their rules */
-    MTCORE_SPACE = 15            /* the reply buffer is too short */
+    MTCORE_SPACE = 15,           /* the buffer for the reply, or for the answers, is too short */
+    MTCORE_BATCH = 16            /* more records than one delivery may have */
 };
 
-/* The words of mtcore_observe and mtcore_store_asset: 0 is Same, bit 63 marks a refusal. */
+/* The words of mtcore_observe, of mtcore_store_asset and of a delivery's answers: 0 is Same, bit 63 marks a
+ * refusal. */
 #define MTCORE_SAME UINT64_C(0)
 #define MTCORE_REFUSED (UINT64_C(1) << 63)
 
-/* The refusal in such a word, or 0 where the call was not refused. A later version may have numbers above 15: a
+/* The refusal in such a word, or 0 where the call was not refused. A later version may have numbers above 16: a
  * host treats a number that it doesn't know as a refusal all the same. */
 static inline unsigned mtcore_refusal_of(uint64_t word) {
     return word >= MTCORE_REFUSED ? (unsigned)(word & 63) : 0u;
@@ -88,6 +90,7 @@ static inline unsigned mtcore_refusal_of(uint64_t word) {
 #define MTCORE_MAX_TEXT 256      /* bytes of a request's text */
 #define MTCORE_MAX_NAMED 125     /* ids that /asset/ID;ID.. has room for */
 #define MTCORE_DEFAULT_COUNT 100 /* a sample's count where the text has none */
+#define MTCORE_MAX_BATCH 256     /* records of a delivery */
 
 /* uint64_t words of the observation store, for a ring of n observations and m items */
 #define MTCORE_OBSERVATION_WORDS(n, m) (4 + 2 * (size_t)(n) + 6 * (size_t)(m))
@@ -352,13 +355,20 @@ static inline mtcore_bytes mtcore_cell_body(const uint8_t *assets, size_t assets
     return body;
 }
 
-/* ---- the five calls ---- */
+/* ---- the six calls ---- */
 
-/* number 0 and the count k of rows (0 for a start); or the refusal's number and 0 */
+/* number 0 and the count: of a request's rows, of a delivery's records, 0 for a start; or the refusal's number and 0 */
 typedef struct {
     uint64_t number;
     uint64_t count;
 } mtcore_answer;
+
+/* an observation of a delivery: what mtcore_observe takes for one, but for the host time */
+typedef struct {
+    uint64_t item;
+    uint64_t time;  /* 0 where it is missing */
+    uint64_t value; /* made by MTCORE_UNAVAILABLE, mtcore_sample, mtcore_event or mtcore_condition */
+} mtcore_record;
 
 /* the bytes assets[start] to assets[start + length - 1]; length 0: refused */
 typedef struct {
@@ -393,6 +403,25 @@ mtcore_answer mtcore_start(const uint32_t *model, size_t model_len, const uint8_
 uint64_t mtcore_observe(const uint32_t *model, size_t model_len, const uint8_t *names, size_t names_len,
                         uint64_t *observations, size_t observations_len,
                         uint64_t item, uint64_t time, uint64_t host, uint64_t value);
+
+/*
+ * Records a delivery of observations. Each record is observed in its turn, as mtcore_observe does it with the same
+ * `host`, on the store that the record before it left; model, names and the store's head are tested once for all.
+ *
+ * Takes: 0 to MTCORE_MAX_BATCH records, and at least as many words for the answers.
+ * Gives: 0 and the number of records n. answers[0] to answers[n - 1] are the words of the records, each the one that
+ * mtcore_observe would have given there: a sequence number, MTCORE_SAME, or MTCORE_REFUSED + the refusal. Words behind
+ * them stay. A record that is refused adds nothing and doesn't stop the others: 0 and n says that every record has its
+ * word, and mtcore_refusal_of says of each word whether it is a refusal.
+ * Refuses, in this order: MTCORE_MODEL, MTCORE_STORE (the head), MTCORE_BATCH, MTCORE_SPACE (fewer answers than
+ * records). No record is observed then, and no word is written.
+ * In a word, in this order: MTCORE_ITEM, MTCORE_KIND, (Same,) MTCORE_SPENT, MTCORE_STORE (the entry about to be
+ * overwritten is damaged).
+ */
+mtcore_answer mtcore_observe_batch(const uint32_t *model, size_t model_len, const uint8_t *names, size_t names_len,
+                                   uint64_t *observations, size_t observations_len,
+                                   const mtcore_record *records, size_t records_len, uint64_t host,
+                                   uint64_t *answers, size_t answers_len);
 
 /*
  * Stores an asset as the newest: in place of the one with its id, in a free cell, or in place of the one that was

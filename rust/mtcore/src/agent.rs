@@ -2,7 +2,8 @@
 
 use crate::sizes::{BODY_CELL, ID_CELL};
 use crate::{
-    assets_words, calls, cells, current_words, sample_words, Model, Observed, Refusal, Reply, Sizes, Value,
+    assets_words, calls, cells, current_words, sample_words, Answers, Model, Observed, Record, Refusal,
+    Reply, Sizes, Value,
 };
 
 /// A model, its names and its two stores, held together: every call gets the ones that belong together.
@@ -12,9 +13,10 @@ use crate::{
 /// one by [`AsRef`] and [`AsMut`] (`&mut [u64]`, `[u64; 22]`, `Vec<u64>`). The stores cannot be written
 /// but through the agent.
 ///
-/// [`observe`](Agent::observe), [`store_asset`](Agent::store_asset) and [`restart`](Agent::restart) take
-/// the agent by `&mut`; requests and bodies only by `&`, so that behind a `RwLock` any number of
-/// them run side by side, each with a reply buffer of its own.
+/// [`observe`](Agent::observe), [`observe_batch`](Agent::observe_batch),
+/// [`store_asset`](Agent::store_asset) and [`restart`](Agent::restart) take the agent by `&mut`; requests
+/// and bodies only by `&`, so that behind a `RwLock` any number of them run side by side, each with a reply
+/// buffer of its own.
 ///
 /// ```
 /// use mtcore::{Agent, Model, Observed, Reply, Sizes, Value};
@@ -199,6 +201,51 @@ where
     pub fn observe(&mut self, item: u64, time: u64, host: u64, value: Value) -> Result<Observed, Refusal> {
         let (model, names) = (self.model.words(), self.model.names());
         calls::observe(model, names, self.observations.as_mut(), item, time, host, value)
+    }
+
+    /// Records a delivery of observations, up to [`MAX_BATCH`](crate::MAX_BATCH) of them, and gives the
+    /// answer of each; see [`observe_batch`](crate::observe_batch).
+    ///
+    /// # Errors
+    ///
+    /// As [`observe_batch`](crate::observe_batch).
+    ///
+    /// ```
+    /// # use mtcore::{Agent, Model, Sizes};
+    /// # let names = mtcore::names(["Device", "POSITION"]).unwrap();
+    /// # let model = Model::new([1, 1, 0, 1], names.as_flattened()).unwrap();
+    /// # let sizes = Sizes { places: 10, cells: 1, origin: 1 };
+    /// # let observations = vec![0; mtcore::observation_words(10, 1)];
+    /// # let assets = vec![0; mtcore::asset_bytes(1)];
+    /// # let mut agent = Agent::start(model, observations, assets, sizes, 1000).unwrap();
+    /// use mtcore::{Observed, Record, Refusal, Value, MAX_BATCH};
+    ///
+    /// // One buffer for all deliveries; of each the front is used.
+    /// let mut words = [0; MAX_BATCH];
+    /// let scan = [
+    ///     Record::new(0, 1010, Value::Sample(12_500)),
+    ///     Record::new(1, 1010, Value::Sample(7)), // no such item: the others are recorded all the same
+    ///     Record::new(0, 1011, Value::Sample(12_501)),
+    /// ];
+    /// let mut recorded = 0;
+    /// for (record, answer) in scan.iter().zip(agent.observe_batch(&scan, 1020, &mut words)?.iter()) {
+    ///     match answer {
+    ///         Ok(Observed::Recorded(_)) => recorded += 1,
+    ///         Ok(Observed::Same) => {}
+    ///         Err(refusal) => eprintln!("item {}: {refusal}", record.item), // a fault of the adapter: log it
+    ///     }
+    /// }
+    /// assert_eq!(recorded, 2);
+    /// # Ok::<(), Refusal>(())
+    /// ```
+    pub fn observe_batch<'r>(
+        &mut self,
+        records: &[Record],
+        host: u64,
+        answers: &'r mut [u64],
+    ) -> Result<Answers<'r>, Refusal> {
+        let (model, names) = (self.model.words(), self.model.names());
+        calls::observe_batch(model, names, self.observations.as_mut(), records, host, answers)
     }
 
     /// Stores an asset as the newest and answers its cell; see [`store_asset`](crate::store_asset).

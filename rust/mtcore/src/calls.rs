@@ -1,6 +1,6 @@
-//! The five calls, over slices that the host passes each time.
+//! The six calls, over slices that the host passes each time.
 
-use crate::{ffi, Refusal, Sizes, Value};
+use crate::{ffi, Answers, Record, Refusal, Sizes, Value};
 
 /// What an accepted observe did.
 #[derive(Clone, Copy, PartialEq, Eq, Hash, Debug)]
@@ -9,6 +9,28 @@ pub enum Observed {
     Recorded(u64),
     /// Equal to the item's newest value: nothing was recorded, the time neither.
     Same,
+}
+
+impl Observed {
+    /// What an answer's word says, of a single observe or of a delivery's record: a number, 0 for Same, or
+    /// 2^63 + the refusal.
+    ///
+    /// # Errors
+    ///
+    /// The refusal that the word holds.
+    ///
+    /// ```
+    /// use mtcore::{Observed, Refusal};
+    /// assert_eq!(Observed::from_word(8), Ok(Observed::Recorded(8)));
+    /// assert_eq!(Observed::from_word(0), Ok(Observed::Same));
+    /// assert_eq!(Observed::from_word((1 << 63) + 5), Err(Refusal::Kind));
+    /// ```
+    pub fn from_word(word: u64) -> Result<Observed, Refusal> {
+        match accepted(word)? {
+            0 => Ok(Observed::Same),
+            number => Ok(Observed::Recorded(number)),
+        }
+    }
 }
 
 /// Writes both stores afresh, whatever stood in them: every item Unavailable at the host's time, numbered
@@ -67,10 +89,61 @@ pub fn observe(
     host: u64,
     value: Value,
 ) -> Result<Observed, Refusal> {
-    match word(ffi::observe(model, names, observations, item, time, host, value.word()))? {
-        0 => Ok(Observed::Same),
-        number => Ok(Observed::Recorded(number)),
-    }
+    Observed::from_word(ffi::observe(model, names, observations, item, time, host, value.word()))
+}
+
+/// Records a delivery of observations: each in its turn, as [`observe`] does it with the same `host`, on the
+/// store that the one before it left. Model, names and the store's head are tested once for all, so that a
+/// delivery of what a scan found costs less than its single observes.
+///
+/// `answers` has at least as many words as there are records; words behind them stay as they were. No
+/// records at all are right too. A record that is refused adds nothing and does not stop the others: `Ok`
+/// says that every record has its answer, and [`Answers`] says what it is.
+///
+/// # Errors
+///
+/// In this order: [`Refusal::Model`], [`Refusal::Store`] (the head), [`Refusal::Batch`] (more than
+/// [`MAX_BATCH`](crate::MAX_BATCH) records), [`Refusal::Space`]. Nothing is recorded or written then.
+///
+/// An answer is one of [`observe`]'s: in this order [`Refusal::Item`], [`Refusal::Kind`], (Same,)
+/// [`Refusal::Spent`], [`Refusal::Store`] (the ring entry about to be overwritten is damaged).
+///
+/// (Where an archive of another version counts more answers than there are words: [`Refusal::Unknown`]
+/// with number 0.)
+///
+/// ```
+/// # let (model, names) = ([1, 2, 0, 131_072, 1], mtcore::names(["SYSTEM", "POSITION"]).unwrap());
+/// # let names = names.as_flattened();
+/// # let sizes = mtcore::Sizes { places: 4, cells: 1, origin: 1 };
+/// # let mut observations = [0; mtcore::observation_words(4, 2)];
+/// # let mut assets = [0; mtcore::asset_bytes(1)];
+/// # mtcore::start(&model, &names, &mut observations, &mut assets, sizes, 1).unwrap();
+/// use mtcore::{Level, Observed, Record, Refusal, Value};
+/// // Item 0 is a condition, item 1 a sample.
+/// let records = [
+///     Record::new(1, 1010, Value::Sample(12_500)),
+///     Record::new(0, 1010, Value::Sample(1)),
+///     Record::new(0, 0, Value::Condition(Level::Fault, 7)), // no time of its own: 1020
+///     Record::new(1, 1015, Value::Sample(12_500)),
+/// ];
+/// let mut words = [0; 4];
+/// let answers = mtcore::observe_batch(&model, &names, &mut observations, &records, 1020, &mut words)?;
+/// let expected =
+///     [Ok(Observed::Recorded(3)), Err(Refusal::Kind), Ok(Observed::Recorded(4)), Ok(Observed::Same)];
+/// assert!(answers.iter().eq(expected));
+/// # Ok::<(), Refusal>(())
+/// ```
+pub fn observe_batch<'a>(
+    model: &[u32],
+    names: &[u8],
+    observations: &mut [u64],
+    records: &[Record],
+    host: u64,
+    answers: &'a mut [u64],
+) -> Result<Answers<'a>, Refusal> {
+    let count = done(ffi::observe_batch(model, names, observations, records, host, answers))?;
+    let words = usize::try_from(count).ok().and_then(|count| answers.get(..count));
+    words.map(Answers::read).ok_or(Refusal::Unknown { number: 0 })
 }
 
 /// Stores an asset as the newest and answers its cell.
@@ -107,7 +180,7 @@ pub fn store_asset(
     body: &[u8],
     host: u64,
 ) -> Result<u64, Refusal> {
-    word(ffi::store_asset(model, names, observations, assets, id, body, host))
+    accepted(ffi::store_asset(model, names, observations, assets, id, body, host))
 }
 
 /// Answers a request text into the reply buffer and tells how many rows there are. Words behind the
@@ -247,7 +320,7 @@ fn done(answer: ffi::Answer) -> Result<u64, Refusal> {
 }
 
 /// A returned answer word as a result.
-fn word(word: u64) -> Result<u64, Refusal> {
+fn accepted(word: u64) -> Result<u64, Refusal> {
     const REFUSED: u64 = 1 << 63;
     // A recorded number is at most 2^63 - 1.
     match word.checked_sub(REFUSED) {
@@ -258,20 +331,22 @@ fn word(word: u64) -> Result<u64, Refusal> {
 
 #[cfg(test)]
 mod tests {
-    use super::{done, word};
+    use super::{accepted, done, Observed};
     use crate::ffi::Answer;
     use crate::Refusal;
 
     #[test]
     fn words_as_results() {
-        assert_eq!(word(0), Ok(0));
-        assert_eq!(word((1 << 63) - 1), Ok((1 << 63) - 1));
+        assert_eq!(accepted(0), Ok(0));
+        assert_eq!(accepted((1 << 63) - 1), Ok((1 << 63) - 1));
         for number in 0..100 {
-            let refusal = word((1 << 63) + number).unwrap_err();
+            let refusal = accepted((1 << 63) + number).unwrap_err();
             assert_eq!(refusal.number(), number);
+            assert_eq!(Observed::from_word((1 << 63) + number), Err(refusal));
         }
-        assert_eq!(word((1 << 63) + 12), Err(Refusal::OutOfRange));
-        assert_eq!(word(u64::MAX).unwrap_err().number(), (1 << 63) - 1);
+        assert_eq!(accepted((1 << 63) + 12), Err(Refusal::OutOfRange));
+        assert_eq!(accepted(u64::MAX).unwrap_err().number(), (1 << 63) - 1);
+        assert_eq!(Observed::from_word((1 << 63) - 1), Ok(Observed::Recorded((1 << 63) - 1)));
     }
 
     #[test]

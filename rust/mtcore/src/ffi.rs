@@ -3,6 +3,7 @@
 //! A host that wants results and values calls the functions of the crate's root, or an
 //! [`Agent`](crate::Agent); they say what a call takes, gives and refuses.
 
+use crate::Record;
 use core::ptr;
 
 /// 0 and k, or the refusal's number and 0.
@@ -11,7 +12,7 @@ use core::ptr;
 pub struct Answer {
     /// 0, or the refusal's number.
     pub number: u64,
-    /// The number of rows; 0 for a start and for a refusal.
+    /// The number of a request's rows or of a delivery's records; 0 for a start and for a refusal.
     pub count: u64,
 }
 
@@ -29,6 +30,7 @@ pub struct Part {
 /// one may be NULL. No two slices of a call may overlap unless the call only reads both.
 pub mod raw {
     use super::{Answer, Part};
+    use crate::Record;
 
     extern "C" {
         /// Writes both stores afresh: a ring of `n` places, `a` asset cells, numbers from `b` on.
@@ -60,6 +62,21 @@ pub mod raw {
             host: u64,
             value: u64,
         ) -> u64;
+
+        /// Observes each record in its turn, and writes the word of each into the answers.
+        pub fn mtcore_observe_batch(
+            model: *const u32,
+            model_len: usize,
+            names: *const u8,
+            names_len: usize,
+            observations: *mut u64,
+            observations_len: usize,
+            records: *const Record,
+            records_len: usize,
+            host: u64,
+            answers: *mut u64,
+            answers_len: usize,
+        ) -> Answer;
 
         /// Stores an asset: its cell, or 2^63 + the refusal.
         pub fn mtcore_store_asset(
@@ -172,6 +189,33 @@ pub fn observe(
             time,
             host,
             value,
+        )
+    }
+}
+
+/// `mtcore_observe_batch` over slices.
+pub fn observe_batch(
+    model: &[u32],
+    names: &[u8],
+    observations: &mut [u64],
+    records: &[Record],
+    host: u64,
+    answers: &mut [u64],
+) -> Answer {
+    // SAFETY: see above.
+    unsafe {
+        raw::mtcore_observe_batch(
+            pointer(model),
+            model.len(),
+            pointer(names),
+            names.len(),
+            pointer_mut(observations),
+            observations.len(),
+            pointer(records),
+            records.len(),
+            host,
+            pointer_mut(answers),
+            answers.len(),
         )
     }
 }

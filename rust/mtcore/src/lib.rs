@@ -34,7 +34,7 @@
 //! # A host
 //!
 //! ```
-//! use mtcore::{Agent, Category, Component, Level, ModelBuilder, Reply, Row, Sizes, Value};
+//! use mtcore::{Agent, Category, Component, Level, ModelBuilder, Record, Reply, Row, Sizes, Value};
 //!
 //! const PLACES: usize = 1000; // observations that the ring holds
 //! const CELLS: usize = 16; // tool records
@@ -62,8 +62,14 @@
 //!
 //!     // What the adapters tell. A refusal here is a fault of theirs: log it and go on.
 //!     mill.observe(available, now + 100, now + 101, Value::Event(1))?;
-//!     mill.observe(position, now + 200, now + 201, Value::Sample(12_500))?; // 12.5 mm
-//!     mill.observe(travel, 0, now + 300, Value::Condition(Level::Warning, 77))?; // no time of its own
+//!     let scan = [
+//!         Record::new(position, now + 200, Value::Sample(12_500)), // 12.5 mm
+//!         Record::new(travel, 0, Value::Condition(Level::Warning, 77)), // no time of its own: the host's
+//!     ];
+//!     let mut words = [0; 2];
+//!     for answer in mill.observe_batch(&scan, now + 201, &mut words)?.iter() {
+//!         answer?;
+//!     }
 //!     mill.store_asset(b"T17", b"drill, 8 mm, 412 parts left", now + 400)?;
 //!
 //!     // What clients ask. The reply is the largest buffer: this one is for counts up to 100.
@@ -116,7 +122,10 @@
 //! * [`Model`] lists components and data items with their type names. [`ModelBuilder`] puts one together;
 //!   [`component_word`], [`item_word`] and [`names`] are for one that is written as a constant.
 //! * [`Agent`] holds a model and its two stores, so that they cannot be mixed up. The plain functions
-//!   [`start`], [`observe`], [`store_asset`], [`request`] and [`body`] take them as slices each time.
+//!   [`start`], [`observe`], [`observe_batch`], [`store_asset`], [`request`] and [`body`] take them as slices
+//!   each time.
+//! * [`observe_batch`] records what a scan found together in one call: [`Record`]s go in, [`Answers`] come
+//!   out.
 //! * [`request`] says what each request text means, with examples.
 //! * [`Reply`], [`Observations`] and [`Assets`] take a reply apart; [`cell_id`] and [`cell_body`] lead from
 //!   an asset reply's cell to its tool.
@@ -134,6 +143,7 @@
 //! | reply to `current` | [`current_words`] | `u64`, 4 + 3 m |
 //! | reply to `/assets`, `/asset/..` | [`assets_words`] | `u64`, 4 + 2 max(A, 125) |
 //! | any reply of k rows | [`reply_words`], [`asset_reply_words`] | `u64` |
+//! | a delivery's answers | one for each record, at most [`MAX_BATCH`] | `u64` |
 //!
 //! # A client that polls
 //!
@@ -170,6 +180,7 @@
 extern crate std;
 
 mod agent;
+mod batch;
 mod builder;
 mod calls;
 mod cells;
@@ -181,16 +192,17 @@ mod sizes;
 mod value;
 
 pub use agent::{Agent, LentAgent};
+pub use batch::{Answers, Record};
 pub use builder::ModelBuilder;
-pub use calls::{body, observe, request, start, store_asset, Observed};
+pub use calls::{body, observe, observe_batch, request, start, store_asset, Observed};
 pub use cells::{cell_body, cell_id};
 pub use model::{component_word, item_word, names, Category, Component, Model, ModelError};
 pub use refusal::Refusal;
 pub use reply::{AssetRow, Assets, Observations, Reply, Row};
 pub use sizes::{
     asset_bytes, asset_reply_words, assets_words, current_words, model_words, name_bytes, observation_words,
-    reply_words, sample_words, Sizes, DEFAULT_COUNT, MAX_BODY, MAX_CELLS, MAX_COMPONENTS, MAX_ID, MAX_ITEMS,
-    MAX_NAMED, MAX_NAMES, MAX_PLACES, MAX_TEXT, NAME_BYTES,
+    reply_words, sample_words, Sizes, DEFAULT_COUNT, MAX_BATCH, MAX_BODY, MAX_CELLS, MAX_COMPONENTS, MAX_ID,
+    MAX_ITEMS, MAX_NAMED, MAX_NAMES, MAX_PLACES, MAX_TEXT, NAME_BYTES,
 };
 pub use value::{Level, Value};
 

@@ -2,7 +2,8 @@
 
 use core::fmt;
 
-/// Why a call was refused. A refused call has changed nothing, neither a store nor the reply buffer.
+/// Why a call was refused. A refused call has changed nothing, neither a store nor the buffer for its reply
+/// or answers.
 ///
 /// Later versions of the core give refusals of their own; a number that this version of the crate does
 /// not know arrives as [`Refusal::Unknown`].
@@ -58,8 +59,11 @@ pub enum Refusal {
     /// not of 1 to 510 bytes.
     Asset,
     /// 15: the reply buffer is shorter than the reply. A host that reserves less than the largest reply
-    /// answers a sample so with TOO_MANY; for other requests it reserves more.
+    /// answers a sample so with TOO_MANY; for other requests it reserves more. Of a delivery: there are
+    /// fewer words for answers than records.
     Space,
+    /// 16: a delivery of more than 256 records. The host makes several of it.
+    Batch,
     /// A number that this version of the crate has no name for: an archive of a later version is
     /// linked. It is a refusal all the same, and nothing was changed.
     #[non_exhaustive]
@@ -70,7 +74,7 @@ pub enum Refusal {
 }
 
 /// The refusals in the order of their numbers, from 1 on, with their words and their MTConnect errorCode.
-const TABLE: [(Refusal, &str, Option<&str>); 15] = [
+const TABLE: [(Refusal, &str, Option<&str>); 16] = [
     (Refusal::Model, "model or names break their rules", None),
     (Refusal::Store, "a store is damaged or not the model's", Some("INTERNAL_ERROR")),
     (Refusal::Size, "the stores' sizes do not go together", None),
@@ -85,11 +89,12 @@ const TABLE: [(Refusal, &str, Option<&str>); 15] = [
     (Refusal::OutOfRange, "OUT_OF_RANGE", Some("OUT_OF_RANGE")),
     (Refusal::AssetNotFound, "ASSET_NOT_FOUND", Some("ASSET_NOT_FOUND")),
     (Refusal::Asset, "the asset's id or body cannot be stored", None),
-    (Refusal::Space, "the reply buffer is too short", Some("TOO_MANY")),
+    (Refusal::Space, "the buffer for reply or answers is too short", Some("TOO_MANY")),
+    (Refusal::Batch, "a delivery has too many records", None),
 ];
 
 impl Refusal {
-    /// The refusal's number: 1 to 15, or the one that [`Refusal::Unknown`] holds.
+    /// The refusal's number: 1 to 16, or the one that [`Refusal::Unknown`] holds.
     ///
     /// ```
     /// use mtcore::Refusal;
@@ -152,7 +157,7 @@ mod tests {
         for number in (1..100).chain([255, 256, 1 << 32, (1 << 63) - 1, u64::MAX]) {
             let refusal = Refusal::from_number(number).unwrap();
             assert_eq!(refusal.number(), number);
-            assert_eq!(matches!(refusal, Refusal::Unknown { .. }), number > 15, "{number}");
+            assert_eq!(matches!(refusal, Refusal::Unknown { .. }), number > 16, "{number}");
         }
     }
 
@@ -175,6 +180,7 @@ mod tests {
             (13, Refusal::AssetNotFound),
             (14, Refusal::Asset),
             (15, Refusal::Space),
+            (16, Refusal::Batch),
         ];
         for (number, refusal) in numbered {
             assert_eq!((refusal.number(), Refusal::from_number(number)), (number, Some(refusal)));

@@ -24,6 +24,8 @@ pub const MAX_TEXT: usize = 256;
 pub const MAX_NAMED: usize = 125;
 /// A sample's count where its text has none.
 pub const DEFAULT_COUNT: usize = 100;
+/// The largest number of records of a delivery.
+pub const MAX_BATCH: usize = 256;
 
 /// Bytes of an id cell of the asset store.
 pub(crate) const ID_CELL: usize = MAX_ID;

@@ -5,8 +5,8 @@ mod common;
 
 use common::Rng;
 use mtcore::{
-    Agent, Assets, Category, Component, LentAgent, Level, Model, ModelBuilder, Observations, Refusal, Reply,
-    Sizes, Value,
+    Agent, Assets, Category, Component, LentAgent, Level, Model, ModelBuilder, Observations, Observed,
+    Record, Refusal, Reply, Sizes, Value, MAX_BATCH,
 };
 
 const PLACES: usize = 7;
@@ -96,6 +96,110 @@ fn agent_and_plain_functions_agree() {
         }
         assert_eq!((agent.observations(), agent.assets()), (&observations[..], &assets[..]));
     }
+}
+
+/// Deliveries of all lengths give what the single observes of their records give, in answers and store; a
+/// refused one changes nothing, and words behind the answers stay.
+#[test]
+fn deliveries_are_their_single_observes() {
+    const BLANK: u64 = 77;
+    let mut rng = Rng::new(31);
+    let start = || {
+        let (o, a) = stores();
+        Agent::start(model(), o, a, SIZES, 9).unwrap()
+    };
+    let (mut delivered, mut single) = (start(), start());
+    let mut seen = [0; 3];
+    for host in 10..400 {
+        let length = rng.pick(&[0, 1, 2, 3, 8, 60, MAX_BATCH, MAX_BATCH + 1]);
+        let record = |rng: &mut Rng| {
+            let time = rng.below(2) * rng.below(1000);
+            let word = if rng.below(20) == 0 { rng.next() } else { value(rng).word() };
+            Record { item: rng.below(5), time, value: word }
+        };
+        let records: Vec<_> = (0..length).map(|_| record(&mut rng)).collect();
+        let room = (length + rng.below(4) as usize).saturating_sub(1);
+        let (mut answers, before) = (vec![BLANK; room], single.observations().to_vec());
+        let given = delivered.observe_batch(&records, host, &mut answers);
+        let refusal = match (length > MAX_BATCH, room < length) {
+            (true, _) => Some(Refusal::Batch),
+            (_, true) => Some(Refusal::Space),
+            _ => None,
+        };
+        if let Some(refusal) = refusal {
+            assert_eq!(given, Err(refusal));
+            assert_eq!(delivered.observations(), before);
+            assert!(answers.iter().all(|&word| word == BLANK));
+            continue;
+        }
+        let given: Vec<_> = given.unwrap().iter().collect();
+        let one_by_one: Vec<_> = records.iter().map(|record| observe(&mut single, record, host)).collect();
+        assert_eq!(given, one_by_one);
+        assert_eq!(delivered.observations(), single.observations());
+        assert!(answers[length..].iter().all(|&word| word == BLANK));
+        for answer in given {
+            seen[answer.map_or(2, |observed| usize::from(observed == Observed::Same))] += 1;
+        }
+    }
+    assert!(seen.iter().all(|&times| times > 100), "recorded, Same, refused: {seen:?}");
+}
+
+type Lathe = Agent<Vec<u32>, Vec<u8>, Vec<u64>, Vec<u8>>;
+
+/// The single observe of a record; a word that no value has is given as one that every item refuses.
+fn observe(agent: &mut Lathe, record: &Record, host: u64) -> Result<Observed, Refusal> {
+    let none = Value::Condition(Level::Fault, u32::MAX);
+    agent.observe(record.item, record.time, host, Value::from_word(record.value).unwrap_or(none))
+}
+
+/// A wrong model comes before a wrong head, this before too many records, and these before too few answers.
+#[test]
+fn deliveries_are_refused_in_order() {
+    let owned = model();
+    let ((mut observations, mut assets), wrong) = (stores(), vec![9; 8]);
+    mtcore::start(owned.words(), owned.names(), &mut observations, &mut assets, SIZES, 9).unwrap();
+    let damaged: Vec<_> = [0].into_iter().chain(observations[1..].iter().copied()).collect();
+    let record = Record::new(1, 0, Value::Sample(5));
+    let (some, most) = (vec![record; MAX_BATCH + 1], vec![record; MAX_BATCH]);
+    let none: Vec<Record> = Vec::new();
+    let deliver = |words: &[u32], store: &[u64], records: &[Record], room: usize| {
+        let (mut store, mut answers) = (store.to_vec(), vec![3; room]);
+        let given = mtcore::observe_batch(words, owned.names(), &mut store, records, 10, &mut answers);
+        let given = given.map(|answers| answers.len());
+        (given, store, answers)
+    };
+    let refused = |words: &[u32], store: &[u64], records: &[Record], room: usize, refusal| {
+        assert_eq!(deliver(words, store, records, room), (Err(refusal), store.to_vec(), vec![3; room]));
+    };
+    let right = owned.words();
+    refused(&wrong, &damaged, &some, 0, Refusal::Model);
+    refused(&wrong, &damaged, &none, 0, Refusal::Model);
+    refused(right, &damaged, &some, 0, Refusal::Store);
+    refused(right, &damaged, &none, 0, Refusal::Store);
+    refused(right, &observations[1..], &some, 0, Refusal::Store);
+    refused(right, &observations, &some, 0, Refusal::Batch);
+    refused(right, &observations, &some, MAX_BATCH + 1, Refusal::Batch);
+    refused(right, &observations, &most, MAX_BATCH - 1, Refusal::Space);
+    assert_eq!(deliver(right, &observations, &none, 0), (Ok(0), observations.clone(), vec![]));
+    assert_eq!(deliver(right, &observations, &none, 2), (Ok(0), observations.clone(), vec![3, 3]));
+    let (given, store, answers) = deliver(right, &observations, &most, MAX_BATCH);
+    assert_eq!((given, store[3], answers[0]), (Ok(MAX_BATCH), 9, 9));
+    assert!(answers[1..].iter().all(|&word| word == 0));
+}
+
+/// Numbers run out inside a delivery: what is the same as before is still Same, the rest is spent.
+#[test]
+fn numbers_run_out_inside_a_delivery() {
+    let last = (1 << 63) - 1;
+    let (o, a) = stores();
+    let sizes = Sizes { origin: last - ITEMS as u64, ..SIZES };
+    let mut agent = Agent::start(model(), o, a, sizes, 9).unwrap();
+    let records = [4, 4, 5, 4].map(|thousandths| Record::new(1, 0, Value::Sample(thousandths)));
+    let mut words = [0; 4];
+    let answers = agent.observe_batch(&records, 10, &mut words).unwrap();
+    let expected =
+        [Ok(Observed::Recorded(last)), Ok(Observed::Same), Err(Refusal::Spent), Ok(Observed::Same)];
+    assert_eq!(answers.iter().collect::<Vec<_>>(), expected);
 }
 
 /// What a category holds is what the core takes for its items; only asset changes are not observed.

@@ -1,8 +1,9 @@
-//! The C header and the crate say the same numbers.
+//! The C header and the crate say the same numbers, and declare the same functions.
 
 use mtcore::{Category, Level, Refusal};
 
 const HEADER: &str = include_str!("../../../include/mtcore.h");
+const FFI: &str = include_str!("../src/ffi.rs");
 
 /// The number of a `#define NAME number`, or of an enum's `NAME = number`.
 #[track_caller]
@@ -27,12 +28,12 @@ fn c_name(rust: &str) -> String {
 
 #[test]
 fn refusals() {
-    for number_here in 1..=15 {
+    for number_here in 1..=16 {
         let refusal = Refusal::from_number(number_here).unwrap();
         assert_eq!(number(&c_name(&format!("{refusal:?}"))), number_here);
     }
     let body = HEADER.split_once("enum mtcore_refusal {").unwrap().1.split_once("};").unwrap().0;
-    assert_eq!(body.matches(" = ").count(), 15, "a refusal of the header has no name here");
+    assert_eq!(body.matches(" = ").count(), 16, "a refusal of the header has no name here");
 }
 
 #[test]
@@ -65,9 +66,47 @@ fn limits() {
         ("MTCORE_MAX_TEXT", mtcore::MAX_TEXT),
         ("MTCORE_MAX_NAMED", mtcore::MAX_NAMED),
         ("MTCORE_DEFAULT_COUNT", mtcore::DEFAULT_COUNT),
+        ("MTCORE_MAX_BATCH", mtcore::MAX_BATCH),
         ("MTCORE_NAME", mtcore::NAME_BYTES),
     ];
     for (name, limit) in limits {
         assert_eq!(number(name), limit as u64, "{name}");
     }
+}
+
+/// Of every function declared, its name and its arguments' names. A mention in a comment declares nothing.
+fn declared(text: &str, argument: fn(&str) -> &str) -> Vec<Vec<&str>> {
+    let read = |(at, _)| {
+        let (name, rest) = text.split_at(at).1.split_once('(')?;
+        let (arguments, behind) = rest.split_once(')')?;
+        let plain = name.chars().all(|c| c.is_ascii_lowercase() || c == '_');
+        if !plain || !(behind.starts_with(';') || behind.starts_with(" -> ")) {
+            return None;
+        }
+        let parts = arguments.split(',').map(str::trim).filter(|part| !part.is_empty());
+        Some([name].into_iter().chain(parts.map(argument)).collect())
+    };
+    text.match_indices("mtcore_").filter_map(read).collect()
+}
+
+/// The header's calls are those of `ffi::raw`, with the same arguments in the same order.
+#[test]
+fn functions() {
+    let calls = HEADER.split_once("} mtcore_answer;").unwrap().1;
+    let c = declared(calls, |part| part.rsplit([' ', '*']).next().unwrap_or(part));
+    let raw = FFI.split_once("extern \"C\" {").unwrap().1.split_once("\n}\n").unwrap().0;
+    let rust = declared(raw, |part| part.split(':').next().unwrap_or(part));
+    assert!(c.len() >= 6, "{c:?}");
+    assert_eq!(c, rust);
+}
+
+/// A record's fields stand in the same order on both sides; `mtcore::Record` has C's layout.
+#[test]
+fn records() {
+    let before = HEADER.split_once("} mtcore_record;").unwrap().0;
+    let fields = before.rsplit_once("typedef struct {").unwrap().1;
+    let words = fields.lines().filter_map(|line| line.trim().strip_prefix("uint64_t ")?.split_once(';'));
+    assert_eq!(words.map(|(name, _)| name).collect::<Vec<_>>(), ["item", "time", "value"]);
+    let record = mtcore::Record { item: 1, time: 2, value: 3 };
+    assert_eq!(format!("{record:?}"), "Record { item: 1, time: 2, value: 3 }");
 }

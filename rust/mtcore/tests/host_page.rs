@@ -106,7 +106,7 @@ fn requests_are_answered_as_the_page_says() {
 #[test]
 fn refusals_have_the_page_s_error_codes() {
     let rows = table("| No. | name |");
-    assert_eq!(rows.len(), 15);
+    assert_eq!(rows.len(), 16);
     for row in rows {
         let refusal = Refusal::from_number(row[0].parse().unwrap()).unwrap();
         assert_eq!(refusal.error_code().unwrap_or(""), row[2], "{refusal:?}");
