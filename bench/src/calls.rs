@@ -1,7 +1,7 @@
 //! The calls that are measured.
 
 use crate::stage::{self, Stage, Step, BODY, HOST};
-use reference::Core;
+use reference::{Core, Record};
 use std::hint::black_box;
 use std::ops::Range;
 
@@ -62,6 +62,67 @@ impl Call for Observe {
         } else {
             answer[0] == 0
         }
+    }
+}
+
+// Deliveries.
+
+/// Observations of a delivery: the most there may be.
+pub const RECORDS: usize = 256;
+
+/// The same observations in one call, or in one call each.
+pub struct Delivery {
+    name: String,
+    scans: Vec<Vec<Record>>,
+    at_once: bool,
+}
+
+pub fn delivery(stage: &Stage) -> Delivery {
+    Delivery { name: delivery_name(stage.shape.cells), scans: scans(stage), at_once: true }
+}
+
+pub fn one_by_one(stage: &Stage) -> Delivery {
+    Delivery { name: one_by_one_name(stage.shape.cells), scans: scans(stage), at_once: false }
+}
+
+pub fn delivery_name(cells: usize) -> String {
+    format!("delivery of {RECORDS} changed, one batch, {cells} name cells")
+}
+
+pub fn one_by_one_name(cells: usize) -> String {
+    format!("delivery of {RECORDS} changed, one by one, {cells} name cells")
+}
+
+/// The steps of a single observe's row, cut into scans.
+fn scans(stage: &Stage) -> Vec<Vec<Record>> {
+    let record = |&Step { item, value }: &Step| Record { item, time: HOST, value };
+    let steps = stage::steps(stage.shape, STEPS);
+    steps.chunks_exact(RECORDS).map(|scan| scan.iter().map(record).collect()).collect()
+}
+
+impl Call for Delivery {
+    fn name(&self) -> &str {
+        &self.name
+    }
+
+    /// The number, and how far the last record's word is from the first one's.
+    fn run<C: Core>(&self, core: &C, stage: &mut Stage, turn: usize) -> Answer {
+        let scan = black_box(&self.scans[turn % self.scans.len()]);
+        let Stage { model, names, observations, answers, .. } = black_box(stage);
+        let mut number = 0;
+        if self.at_once {
+            (number, _) = core.observe_batch(model, names, observations, scan, HOST, answers);
+        } else {
+            for (&Record { item, time, value }, word) in scan.iter().zip(answers.iter_mut()) {
+                *word = core.observe(model, names, observations, item, time, HOST, value);
+            }
+        }
+        [number, answers[RECORDS - 1].wrapping_sub(answers[0])]
+    }
+
+    /// Every record took a number.
+    fn expects(&self, answer: Answer) -> bool {
+        answer == [0, RECORDS as u64 - 1]
     }
 }
 

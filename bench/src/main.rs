@@ -22,6 +22,9 @@ use std::env;
 
 const ROUNDS: usize = 200;
 
+/// Few names and the most: every observe tests them all, a delivery tests them once.
+const NAME_CELLS: [usize; 2] = [16, 256];
+
 fn main() {
     let mut words = env::args().skip(1);
     let rounds = words.next().map_or(ROUNDS, |word| word.parse().expect("usage: bench [ROUNDS [WORDS]]"));
@@ -29,6 +32,7 @@ fn main() {
     println!("{}\n", about(rounds));
     let rows = calls_of_a_full_box(rounds, wanted.as_deref().unwrap_or(""));
     table::print_calls(&rows);
+    table::print_deliveries(&rows, &NAME_CELLS);
     table::print_floors(&rows);
     table::print_cold(&longest_calls(wanted.as_deref().unwrap_or("")));
     if wanted.is_none() {
@@ -53,10 +57,12 @@ fn about(rounds: usize) -> String {
 /// Every call on the largest stores.
 fn calls_of_a_full_box(rounds: usize, wanted: &str) -> Vec<Row> {
     let mut rows = Rows { rounds, wanted, rows: Vec::new() };
-    for cells in [16, 256] {
+    for cells in NAME_CELLS {
         let stage = Stage::new(Shape { cells, ..Shape::LARGEST });
         rows.add(&calls::observe_changed(&stage), &stage);
         rows.add(&calls::observe_same(&stage), &stage);
+        rows.add(&calls::delivery(&stage), &stage);
+        rows.add(&calls::one_by_one(&stage), &stage);
     }
     let stage = Stage::new(Shape::LARGEST);
     rows.add(&calls::sample(&stage), &stage);
@@ -93,6 +99,10 @@ fn longest_calls(wanted: &str) -> Vec<(String, f64)> {
     }
     if calls::start().name().contains(wanted) {
         times.push((calls::start().name().into(), cold::best(&calls::start(), &stage)));
+    }
+    let delivery = calls::delivery(&stage);
+    if delivery.name().contains(wanted) {
+        times.push((delivery.name().into(), cold::best(&delivery, &stage)));
     }
     times
 }

@@ -1,7 +1,7 @@
 //! The two sides of a comparison.
 
 use differential::under_test::{self, UnderTest};
-use reference::{Clean, Core, Stores};
+use reference::{Clean, Core, Record, Stores};
 
 /// The core: the archive's functions, or the reference where there is no archive.
 #[cfg(feature = "archive")]
@@ -50,6 +50,19 @@ impl<C: Core> Core for Apart<C> {
         value: u64,
     ) -> u64 {
         self.0.observe(model, names, observations, item, time, host, value)
+    }
+
+    #[inline(never)]
+    fn observe_batch(
+        &self,
+        model: &[u32],
+        names: &[u8],
+        observations: &mut [u64],
+        records: &[Record],
+        host: u64,
+        answers: &mut [u64],
+    ) -> (u64, u64) {
+        self.0.observe_batch(model, names, observations, records, host, answers)
     }
 
     #[inline(never)]

@@ -1,5 +1,6 @@
 //! Model, names and stores that the calls are measured on.
 
+use crate::calls::RECORDS;
 use crate::sides;
 use differential::rng::Rng;
 use differential::worlds::cell;
@@ -37,6 +38,8 @@ pub struct Stage {
     pub observations: Vec<u64>,
     pub assets: Vec<u8>,
     pub reply: Vec<u64>,
+    /// Words for a delivery.
+    pub answers: Vec<u64>,
 }
 
 /// One observe's item and value.
@@ -55,6 +58,7 @@ impl Stage {
             observations: vec![0; observation_words(shape.n, shape.m)],
             assets: vec![0; asset_bytes(shape.a)],
             reply: vec![0; 4 + 3 * shape.n.max(128)],
+            answers: vec![0; RECORDS],
         };
         stage.begin();
         stage.fill_assets();

@@ -1,5 +1,6 @@
 //! Tables in Markdown.
 
+use crate::calls;
 use crate::row::Row;
 
 pub fn print_calls(rows: &[Row]) {
@@ -16,6 +17,41 @@ pub fn print_calls(rows: &[Row]) {
             thousands(row.reference_stack as u64),
         );
     }
+}
+
+/// What a delivery may take of the time of its single observes, and of the reference's delivery.
+const OF_ONE_BY_ONE: f64 = 0.5;
+const OF_REFERENCE: f64 = 1.0;
+
+/// Deliveries beside their single observes, where both have a row. A missed aim is said and fails nothing.
+pub fn print_deliveries(rows: &[Row], name_cells: &[usize]) {
+    let row = |name: String| rows.iter().find(|row| row.name == name);
+    let pair = |&cells| Some((cells, row(calls::delivery_name(cells))?, row(calls::one_by_one_name(cells))?));
+    let pairs: Vec<_> = name_cells.iter().filter_map(pair).collect();
+    if pairs.is_empty() {
+        return;
+    }
+    println!("\nThe core's batch beside the same observations one by one:\n");
+    println!("| call | batch ns | one by one ns | batch / one by one | aim | core / reference | aim |");
+    println!("|---|---:|---:|---:|---|---:|---|");
+    for (cells, batch, single) in pairs {
+        println!(
+            "| delivery of {}, {cells} name cells | {} | {} | {} | {} | {} | {} |",
+            calls::RECORDS,
+            nanoseconds(batch.core),
+            nanoseconds(single.core),
+            ratio(batch.core, single.core),
+            aim(batch.core / single.core, OF_ONE_BY_ONE),
+            ratio(batch.core, batch.reference),
+            aim(batch.core / batch.reference, OF_REFERENCE),
+        );
+    }
+}
+
+/// Judged as it is printed, to a hundredth.
+fn aim(ratio: f64, most: f64) -> String {
+    let kept = if (100.0 * ratio).round() <= 100.0 * most { "kept" } else { "MISSED" };
+    format!("{most:.2}, {kept}")
 }
 
 /// The calls that read the ring beside a pass over the same words.

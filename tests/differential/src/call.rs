@@ -1,5 +1,6 @@
 //! Calls and answers as data.
 
+use reference::Record;
 use std::fmt;
 
 /// A call after a start, with its arguments in the C interface's shapes.
@@ -10,6 +11,12 @@ pub enum Call {
         time: u64,
         host: u64,
         value: u64,
+    },
+    /// With the words that stand in the answer buffer at the call.
+    ObserveBatch {
+        records: Vec<Record>,
+        host: u64,
+        answers: Vec<u64>,
     },
     StoreAsset {
         id: Vec<u8>,
@@ -42,7 +49,7 @@ pub struct Start {
 /// An answer in the C interface's words.
 #[derive(Clone, Copy, PartialEq, Eq, Debug)]
 pub enum Answer {
-    /// Number and count of start and request.
+    /// Number and count of start, request and observe-batch.
     Pair(u64, u64),
     /// The answer word of observe and store-asset.
     Word(u64),
@@ -70,6 +77,10 @@ impl fmt::Debug for Call {
         match self {
             Call::Observe { item, time, host, value } => {
                 write!(f, "observe item {item} time {time} host {host} value {value:#x}")
+            }
+            Call::ObserveBatch { records, host, answers } => {
+                let (count, room) = (records.len(), answers.len());
+                write!(f, "observe-batch of {count} host {host} answers of {room}: {records:x?}")
             }
             Call::StoreAsset { id, body, host } => {
                 write!(f, "store-asset {} body of {} host {host}", id.escape_ascii(), body.len())

@@ -5,9 +5,9 @@ use crate::call::{Answer, Call, Start};
 use crate::pair::Pair;
 use crate::rng::Rng;
 use crate::texts::{self, Scene};
-use crate::{lists, settings, worlds, Counts, Difference};
+use crate::{batches, lists, settings, worlds, Counts, Difference};
 use reference::model::Model;
-use reference::{Clean, Core};
+use reference::{Clean, Core, Record};
 
 const HEAD: usize = 4;
 
@@ -24,7 +24,7 @@ pub fn run<C: Core>(core: &C, seed: u64, counts: &mut Counts) -> Result<(), Diff
         let call = draw.call(&mut rng, &pair, 25);
         let answer =
             step(&mut pair, &call).map_err(|what| fail(format!("{call:?} after {start:?}"), what))?;
-        counts.call(&call, answer);
+        counts.call(&call, answer, &pair.reply);
     }
     let sound = copy(&pair, &start);
     for _ in 0..rng.between(8, 24) {
@@ -41,7 +41,7 @@ pub fn run<C: Core>(core: &C, seed: u64, counts: &mut Counts) -> Result<(), Diff
                 let contents = format!("observations {observations:?}\n  assets {}", assets.escape_ascii());
                 fail(format!("{call:?} over {before:?}\n  {contents}"), what)
             })?;
-            counts.call(&call, answer);
+            counts.call(&call, answer, &pair.reply);
             if tracing {
                 println!("{call:?}: {answer:?}");
             }
@@ -60,7 +60,9 @@ fn step<C: Core>(pair: &mut Pair<C>, call: &Call) -> Result<Answer, String> {
     }
     let kept = pair.expected_observations == observations && pair.expected_assets == assets;
     let reply_kept = match call {
-        Call::Request { reply, .. } => pair.reply == *reply,
+        Call::Request { reply: words, .. } | Call::ObserveBatch { answers: words, .. } => {
+            pair.reply == *words
+        }
         _ => true,
     };
     // Store-asset's cell 0 is the one accepted answer that looks like Same.
@@ -104,7 +106,7 @@ fn damage<C: Core>(rng: &mut Rng, pair: &mut Pair<C>, ids: &[Vec<u8>]) {
     }
 }
 
-fn damage_observations(rng: &mut Rng, words: &mut Vec<u64>) {
+pub fn damage_observations(rng: &mut Rng, words: &mut Vec<u64>) {
     if words.len() < HEAD {
         return;
     }
@@ -255,11 +257,10 @@ impl Draw {
     }
 
     fn call<C: Core>(&self, rng: &mut Rng, pair: &Pair<C>, requests: u64) -> Call {
-        match rng.weighted(&[100 - requests, 12, requests, 6]) {
+        match rng.weighted(&[100 - requests, 12, requests, 6, 12]) {
             0 => {
-                let item = rng.below(self.categories.len() as u64);
-                let value = lists::value(rng, self.categories[item as usize]);
-                Call::Observe { item, time: worlds::time(rng), host: worlds::time(rng), value }
+                let Record { item, time, value } = batches::record(rng, &self.categories);
+                Call::Observe { item, time, host: worlds::time(rng), value }
             }
             1 => {
                 let length = rng.between(1, 30) as usize;
@@ -274,6 +275,7 @@ impl Draw {
                 let words = if rng.percent(65) { 4 + 3 * 130 } else { rng.between(0, 16) as usize };
                 Call::Request { text, reply: worlds::garbage(rng, words) }
             }
+            4 => batches::draw(rng, &self.categories),
             _ => {
                 let mut id = rng.pick(&self.ids).clone();
                 if rng.percent(10) {

@@ -1,7 +1,7 @@
 //! A core whose every slice ends, or begins, at a page that may not be touched: a read or write
 //! outside a slice stops the program at once. Linux only.
 
-use reference::Core;
+use reference::{Core, Record};
 use std::cell::Cell;
 use std::ffi::c_void;
 use std::slice;
@@ -116,6 +116,29 @@ impl<C: Core> Core for Fenced<C> {
         let answer = self.core.observe(words, bytes, ring, item, time, host, value);
         assert!(words == model && bytes == names, "model or names were written to");
         observations.copy_from_slice(ring);
+        answer
+    }
+
+    fn observe_batch(
+        &self,
+        model: &[u32],
+        names: &[u8],
+        observations: &mut [u64],
+        records: &[Record],
+        host: u64,
+        answers: &mut [u64],
+    ) -> (u64, u64) {
+        let (side, areas) = (self.side(), &self.areas);
+        let (words, bytes) = (areas[0].lend(model, side), areas[1].lend(names, side));
+        let ring = areas[2].lend(observations, side);
+        let (list, room) = (areas[4].lend(records, side), areas[5].lend(answers, side));
+        let answer = self.core.observe_batch(words, bytes, ring, list, host, room);
+        assert!(
+            words == model && bytes == names && list == records,
+            "model, names or records were written to"
+        );
+        observations.copy_from_slice(ring);
+        answers.copy_from_slice(room);
         answer
     }
 

@@ -5,7 +5,7 @@ use crate::session::Session;
 use crate::under_test::{self, UnderTest};
 use crate::worlds::cell;
 use reference::stores::{asset_bytes, observation_words};
-use reference::{Clean, Value};
+use reference::{Clean, Record, Value};
 
 /// A session with the core under test.
 pub type Tested<'c> = Session<'c, UnderTest, Clean>;
@@ -65,6 +65,15 @@ impl Tested<'_> {
         }
     }
 
+    /// A delivery into a buffer of so many words: number and count, and what the buffer then holds.
+    pub fn batch(&mut self, records: &[Record], host: u64, words: usize) -> ((u64, u64), Vec<u64>) {
+        let answers = vec![UNTOUCHED; words];
+        match self.must(&Call::ObserveBatch { records: records.to_vec(), host, answers }) {
+            Answer::Pair(number, count) => ((number, count), self.pair.reply.clone()),
+            other => panic!("observe-batch answers {other:?}"),
+        }
+    }
+
     /// The answer word of a store-asset.
     pub fn store(&mut self, id: &[u8], body: &[u8], host: u64) -> u64 {
         match self.must(&Call::StoreAsset { id: id.to_vec(), body: body.to_vec(), host }) {
@@ -100,6 +109,14 @@ impl Tested<'_> {
             other => panic!("body answers {other:?}"),
         }
     }
+}
+
+/// What stands in an answer buffer before a delivery.
+pub const UNTOUCHED: u64 = 0xfeed;
+
+/// A record of a value that some item takes.
+pub fn record(item: u64, time: u64, value: Value) -> Record {
+    Record { item, time, value: (value.kind() << 32) + value.low(Clean) }
 }
 
 /// The numbers of a reply's rows.

@@ -1,5 +1,7 @@
 //! Buffers with guard cells on both sides, so that a write outside a slice is noticed.
 
+use reference::Record;
+
 /// What can stand in a guarded buffer.
 pub trait Cell: Copy + PartialEq + Default {
     const GUARD: Self;
@@ -15,6 +17,10 @@ impl Cell for u32 {
 
 impl Cell for u64 {
     const GUARD: u64 = 0xa5c3_5a3c_96f0_0f69;
+}
+
+impl Cell for Record {
+    const GUARD: Record = Record { item: u64::GUARD, time: u64::GUARD, value: u64::GUARD };
 }
 
 /// Guard cells on each side. Enough words that a slip by a whole row is still seen.

@@ -2,7 +2,7 @@
 //! on copies of their own. What tells it apart are its answers, replies and bodies alone, as for
 //! a client.
 
-use reference::{Clean, Core, Faults, Stores};
+use reference::{Clean, Core, Faults, Record, Stores};
 use std::cell::RefCell;
 
 pub struct Hidden {
@@ -48,6 +48,21 @@ impl Core for Hidden {
         let own = &mut *self.stores.borrow_mut();
         Core::observe(&self.sound, model, names, observations, item, time, host, value);
         Core::observe(&self.faulty, model, names, &mut own.0, item, time, host, value)
+    }
+
+    fn observe_batch(
+        &self,
+        model: &[u32],
+        names: &[u8],
+        observations: &mut [u64],
+        records: &[Record],
+        host: u64,
+        answers: &mut [u64],
+    ) -> (u64, u64) {
+        let own = &mut *self.stores.borrow_mut();
+        let unseen = &mut answers.to_vec();
+        Core::observe_batch(&self.sound, model, names, observations, records, host, unseen);
+        Core::observe_batch(&self.faulty, model, names, &mut own.0, records, host, answers)
     }
 
     fn store_asset(

@@ -1,6 +1,7 @@
 //! Differential tests of the agent core: the same calls to the core under test, the reference's
 //! store layer and the machine that forgets nothing, compared call by call.
 
+pub mod batches;
 pub mod call;
 pub mod client;
 pub mod damaged;
@@ -46,6 +47,10 @@ pub struct Counts {
     /// Answers by refusal number, 0 for accepted ones.
     pub starts: [u64; 16],
     pub observes: [u64; 16],
+    pub batches: [u64; 17],
+    /// The same for the records of accepted deliveries, and for those behind a recorded one.
+    pub records: [u64; 16],
+    pub amid: [u64; 16],
     pub stores: [u64; 16],
     pub requests: [u64; 16],
     pub bodies: [u64; 2],
@@ -61,19 +66,34 @@ impl Counts {
         self.starts[refusal as usize] += 1;
     }
 
-    pub fn call(&mut self, call: &Call, answer: Answer) {
+    /// `reply` is the buffer that a request or a delivery left.
+    pub fn call(&mut self, call: &Call, answer: Answer, reply: &[u64]) {
         self.calls += 1;
         let refusal = answer.refusal() as usize;
         match call {
             Call::Observe { .. } => self.observes[refusal] += 1,
+            Call::ObserveBatch { .. } => self.batches[refusal] += 1,
             Call::StoreAsset { .. } => self.stores[refusal] += 1,
             Call::Request { .. } => self.requests[refusal] += 1,
             Call::Body { .. } => self.bodies[usize::from(answer.is_refused())] += 1,
         }
         match (call, answer) {
             (Call::Observe { .. }, Answer::Word(0)) => self.same += 1,
+            (Call::ObserveBatch { .. }, Answer::Pair(0, n)) => self.words(reply, n as usize),
             (_, Answer::Pair(0, k)) => self.rows += k,
             _ => {}
+        }
+    }
+
+    /// The words of an accepted delivery.
+    fn words(&mut self, words: &[u64], count: usize) {
+        let mut recorded = 0;
+        for &word in words.iter().take(count) {
+            let refusal = Answer::Word(word).refusal() as usize;
+            self.records[refusal] += 1;
+            self.amid[refusal] += recorded;
+            self.same += u64::from(word == 0);
+            recorded |= u64::from(word != 0 && refusal == 0);
         }
     }
 
@@ -85,6 +105,9 @@ impl Counts {
         let tables = [
             (&mut self.starts[..], &other.starts[..]),
             (&mut self.observes, &other.observes),
+            (&mut self.batches, &other.batches),
+            (&mut self.records, &other.records),
+            (&mut self.amid, &other.amid),
             (&mut self.stores, &other.stores),
             (&mut self.requests, &other.requests),
             (&mut self.bodies, &other.bodies),
@@ -102,6 +125,8 @@ impl fmt::Display for Counts {
         writeln!(f, "  answers by refusal number, 0 accepted:")?;
         writeln!(f, "  start       {:?}", self.starts)?;
         writeln!(f, "  observe     {:?}", self.observes)?;
+        writeln!(f, "  batch       {:?}", self.batches)?;
+        writeln!(f, "  its records {:?}", self.records)?;
         writeln!(f, "  store-asset {:?}", self.stores)?;
         writeln!(f, "  request     {:?}", self.requests)?;
         write!(f, "  body        {:?}", self.bodies)

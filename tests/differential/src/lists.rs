@@ -1,5 +1,6 @@
 //! Random lists of calls after a start, with clients that poll among them.
 
+use crate::batches;
 use crate::call::{Answer, Call};
 use crate::client::Client;
 use crate::rng::Rng;
@@ -8,7 +9,7 @@ use crate::texts::{self, Scene};
 use crate::windows::Windows;
 use crate::{settings, worlds, Counts, Difference};
 use reference::model::Model;
-use reference::{Clean, Core, FaultSet};
+use reference::{Clean, Core, FaultSet, Record};
 
 /// What the calls of one list draw from.
 struct Script {
@@ -52,7 +53,7 @@ pub fn run<C: Core, F: FaultSet>(
         let (call, client) = script.next(&session);
         let place = |call: &Call| format!("call {index} after {start:?}: {call:?}");
         let answer = session.call(&call).map_err(|what| fail(place(&call), what))?;
-        counts.call(&call, answer);
+        counts.call(&call, answer, &session.pair.reply);
         if tracing {
             println!("{index}: {call:?}: {answer:?}");
         }
@@ -119,11 +120,12 @@ impl Script {
     /// The next call, and the client whose poll it is.
     fn next<C: Core, F: FaultSet>(&mut self, session: &Session<C, F>) -> (Call, Option<usize>) {
         let polls = if self.clients.is_empty() { 0 } else { 20 };
-        match self.rng.weighted(&[45, 9, 30, 6, polls]) {
+        match self.rng.weighted(&[45, 9, 30, 6, 6, polls]) {
             0 => (self.observe(), None),
             1 => (self.store_asset(), None),
             2 => (self.request(session), None),
             3 => (self.body(), None),
+            4 => (self.observe_batch(), None),
             _ => {
                 let client = self.rng.index(self.clients.len());
                 let text = self.clients[client].text(&mut self.rng);
@@ -149,14 +151,20 @@ impl Script {
     }
 
     fn observe(&mut self) -> Call {
-        let m = self.categories.len() as u64;
-        let item = match self.rng.weighted(&[95, 5]) {
-            0 => self.rng.below(m),
-            _ => *self.rng.pick(&[m, m + 1, 64, 255, 256, 1 << 32, 1 << 40, u64::MAX]),
-        };
-        let category = self.categories.get(item as usize).copied().unwrap_or(0);
-        let value = value(&mut self.rng, category);
-        Call::Observe { item, time: self.time(), host: self.time(), value }
+        let Record { item, time, value } = self.record();
+        Call::Observe { item, time, host: self.time(), value }
+    }
+
+    fn observe_batch(&mut self) -> Call {
+        let count = batches::count(&mut self.rng);
+        let records = (0..count).map(|_| self.record()).collect();
+        let host = self.time();
+        batches::call(&mut self.rng, records, host)
+    }
+
+    fn record(&mut self) -> Record {
+        let (item, value) = offer(&mut self.rng, &self.categories);
+        Record { item, time: self.time(), value }
     }
 
     fn store_asset(&mut self) -> Call {
@@ -233,6 +241,17 @@ pub fn spoil_id(rng: &mut Rng, id: &mut Vec<u8>) {
             id[at] = *rng.pick(b"\x00\x20\x21\x7e\x7f;/?\x80");
         }
     }
+}
+
+/// An item and a value's word for it. Some items are not there.
+pub fn offer(rng: &mut Rng, categories: &[u32]) -> (u64, u64) {
+    let m = categories.len() as u64;
+    let item = match rng.weighted(&[95, 5]) {
+        0 => rng.below(m),
+        _ => *rng.pick(&[m, m + 1, 64, 255, 256, 1 << 32, 1 << 40, u64::MAX]),
+    };
+    let category = categories.get(item as usize).copied().unwrap_or(0);
+    (item, value(rng, category))
 }
 
 /// A value's word: few different ones, so that Same is met; edges; other kinds; no value at all.

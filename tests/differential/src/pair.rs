@@ -2,7 +2,7 @@
 
 use crate::call::{Answer, Call, Start};
 use crate::guard::Guarded;
-use reference::{Clean, Core, Stores};
+use reference::{Clean, Core, Record, Stores};
 
 /// Both implementations with their own copies of the stores. The core's stand between guards.
 pub struct Pair<'c, C: Core> {
@@ -17,9 +17,10 @@ pub struct Pair<'c, C: Core> {
     pub expected_names: Vec<u8>,
     pub expected_observations: Vec<u64>,
     pub expected_assets: Vec<u8>,
-    /// The reply of the last request, as both left it.
+    /// The reply of the last request, or the answers of the last delivery, as both left them.
     pub reply: Vec<u64>,
     core_reply: Guarded<u64>,
+    records: Guarded<Record>,
     first: Guarded<u8>,
     second: Guarded<u8>,
     /// Whole stores are compared at every so many calls; 1 unless they are large.
@@ -75,6 +76,7 @@ impl<'c, C: Core> Pair<'c, C> {
             expected_assets: start.assets,
             reply: Vec::new(),
             core_reply: Guarded::new(&[]),
+            records: Guarded::new(&[]),
             first: Guarded::new(&[]),
             second: Guarded::new(&[]),
             every: 1,
@@ -94,6 +96,7 @@ impl<'c, C: Core> Pair<'c, C> {
     pub fn call(&mut self, call: &Call) -> Result<Answer, String> {
         let answer = match call {
             Call::Observe { item, time, host, value } => self.observe(*item, *time, *host, *value),
+            Call::ObserveBatch { records, host, answers } => self.observe_batch(records, *host, answers),
             Call::StoreAsset { id, body, host } => self.store_asset(id, body, *host),
             Call::Request { text, reply } => self.request(text, reply),
             Call::Body { id } => self.body(id),
@@ -120,6 +123,32 @@ impl<'c, C: Core> Pair<'c, C> {
             value,
         );
         self.compare(Answer::Word(got), Answer::Word(expected))
+    }
+
+    fn observe_batch(&mut self, records: &[Record], host: u64, answers: &[u64]) -> Result<Answer, String> {
+        self.records.set(records);
+        self.lay_out(answers);
+        let got = self.core.observe_batch(
+            self.model.inner(),
+            self.names.inner(),
+            self.observations.inner_mut(),
+            self.records.inner(),
+            host,
+            self.core_reply.inner_mut(),
+        );
+        let expected = Core::observe_batch(
+            &self.reference,
+            &self.expected_model,
+            &self.expected_names,
+            &mut self.expected_observations,
+            records,
+            host,
+            &mut self.reply,
+        );
+        if !self.records.holds(records) {
+            return Err("the records were written to".into());
+        }
+        self.compare_reply(got, expected)
     }
 
     fn store_asset(&mut self, id: &[u8], body: &[u8], host: u64) -> Result<Answer, String> {
@@ -152,9 +181,7 @@ impl<'c, C: Core> Pair<'c, C> {
 
     fn request(&mut self, text: &[u8], reply: &[u64]) -> Result<Answer, String> {
         self.first.set(text);
-        self.core_reply.set(reply);
-        self.reply.clear();
-        self.reply.extend_from_slice(reply);
+        self.lay_out(reply);
         let got = self.core.request(
             self.model.inner(),
             self.names.inner(),
@@ -175,6 +202,18 @@ impl<'c, C: Core> Pair<'c, C> {
         if !self.first.holds(text) {
             return Err("the text was written to".into());
         }
+        self.compare_reply(got, expected)
+    }
+
+    /// The same words in both reply buffers.
+    fn lay_out(&mut self, reply: &[u64]) {
+        self.core_reply.set(reply);
+        self.reply.clear();
+        self.reply.extend_from_slice(reply);
+    }
+
+    /// Number, count and the whole reply buffer.
+    fn compare_reply(&self, got: (u64, u64), expected: (u64, u64)) -> Result<Answer, String> {
         let answer = self.compare(Answer::Pair(got.0, got.1), Answer::Pair(expected.0, expected.1))?;
         if !self.core_reply.intact() {
             return Err("words beside the reply were written to".into());

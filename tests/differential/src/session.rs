@@ -44,6 +44,14 @@ impl<'c, C: Core, F: FaultSet> Session<'c, C, F> {
                 let value = Value::decode(*value);
                 Answer::Word(self.machine.observe(model, names, *item, *time, *host, value).word())
             }
+            Call::ObserveBatch { records, host, answers } => {
+                self.scratch.clear();
+                self.scratch.extend_from_slice(answers);
+                let done = self.machine.observe_batch(model, names, records, *host, &mut self.scratch);
+                same("answer word", &self.pair.reply, &self.scratch)?;
+                let (number, count) = done.pair();
+                Answer::Pair(number, count)
+            }
             Call::StoreAsset { id, body, host } => {
                 Answer::Word(self.machine.store_asset(model, names, id, body, *host).word())
             }

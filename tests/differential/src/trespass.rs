@@ -1,6 +1,6 @@
 //! A core that answers rightly and then writes where it must not, to test that the harness notices.
 
-use reference::{Clean, Core, Stores};
+use reference::{Clean, Core, Record, Stores};
 use std::ptr;
 
 /// Where it writes, in every call that has such a slice.
@@ -18,10 +18,14 @@ pub enum Trespass {
     IntoId,
     BehindBody,
     IntoStoresByRequest,
+    IntoRecords,
+    BehindRecords,
+    BeforeAnswers,
+    BehindAnswers,
 }
 
 impl Trespass {
-    pub const ALL: [Trespass; 12] = [
+    pub const ALL: [Trespass; 16] = [
         Trespass::BeforeObservations,
         Trespass::BehindObservations,
         Trespass::BeforeAssets,
@@ -34,6 +38,10 @@ impl Trespass {
         Trespass::IntoId,
         Trespass::BehindBody,
         Trespass::IntoStoresByRequest,
+        Trespass::IntoRecords,
+        Trespass::BehindRecords,
+        Trespass::BeforeAnswers,
+        Trespass::BehindAnswers,
     ];
 }
 
@@ -91,6 +99,12 @@ impl Flip for u64 {
     }
 }
 
+impl Flip for Record {
+    fn flip(self) -> Record {
+        Record { time: !self.time, ..self }
+    }
+}
+
 impl Core for Trespasser {
     fn start(
         &self,
@@ -121,6 +135,25 @@ impl Core for Trespasser {
         self.behind(Trespass::BehindObservations, observations);
         self.write(Trespass::IntoModel, model, 0);
         self.behind(Trespass::BehindNames, names);
+        answer
+    }
+
+    fn observe_batch(
+        &self,
+        model: &[u32],
+        names: &[u8],
+        observations: &mut [u64],
+        records: &[Record],
+        host: u64,
+        answers: &mut [u64],
+    ) -> (u64, u64) {
+        let answer = Core::observe_batch(&self.core, model, names, observations, records, host, answers);
+        if !records.is_empty() {
+            self.write(Trespass::IntoRecords, records, 0);
+        }
+        self.behind(Trespass::BehindRecords, records);
+        self.write(Trespass::BeforeAnswers, answers, -1);
+        self.behind(Trespass::BehindAnswers, answers);
         answer
     }
 

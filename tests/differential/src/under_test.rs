@@ -13,7 +13,9 @@ pub fn core() -> UnderTest {
 #[cfg(feature = "archive")]
 mod archive {
     use mtcore::ffi;
-    use reference::Core;
+    use reference::{Core, Record};
+    use std::mem::offset_of;
+    use std::slice;
 
     /// `libmtcore.a`, through the wrapper's calls that pass the words on unread.
     #[derive(Clone, Copy, Default, Debug)]
@@ -48,6 +50,22 @@ mod archive {
             ffi::observe(model, names, observations, item, time, host, value)
         }
 
+        fn observe_batch(
+            &self,
+            model: &[u32],
+            names: &[u8],
+            observations: &mut [u64],
+            records: &[Record],
+            host: u64,
+            answers: &mut [u64],
+        ) -> (u64, u64) {
+            // SAFETY: both records are the same three words, as asserted below. Their memory is passed
+            // as it lies, since a copy would stand behind no fence.
+            let records = unsafe { slice::from_raw_parts(records.as_ptr().cast(), records.len()) };
+            let answer = ffi::observe_batch(model, names, observations, records, host, answers);
+            (answer.number, answer.count)
+        }
+
         fn store_asset(
             &self,
             model: &[u32],
@@ -79,4 +97,13 @@ mod archive {
             (part.start, part.length)
         }
     }
+
+    // The wrapper's record lies in memory as the reference's does.
+    const _: () = {
+        assert!(size_of::<mtcore::Record>() == size_of::<Record>());
+        assert!(align_of::<mtcore::Record>() == align_of::<Record>());
+        assert!(offset_of!(mtcore::Record, item) == offset_of!(Record, item));
+        assert!(offset_of!(mtcore::Record, time) == offset_of!(Record, time));
+        assert!(offset_of!(mtcore::Record, value) == offset_of!(Record, value));
+    };
 }

@@ -6,7 +6,7 @@ use differential::fixture::{names, plain_model};
 use differential::rng::Rng;
 use differential::{lists, settings};
 use mtcore::ffi::raw;
-use mtcore::{Level, Observed, Refusal, Sizes, Value};
+use mtcore::{Level, Observed, Record, Refusal, Sizes, Value};
 use std::ptr::{null, null_mut, NonNull};
 
 const END: u64 = 1 << 63;
@@ -18,13 +18,16 @@ fn pointers_of_empty_slices() {
     let bytes: [*const u8; 2] = [null(), NonNull::dangling().as_ptr()];
     let ring: [*mut u64; 2] = [null_mut(), NonNull::dangling().as_ptr()];
     let cells: [*mut u8; 2] = [null_mut(), NonNull::dangling().as_ptr()];
+    let records: [*const Record; 2] = [null(), NonNull::dangling().as_ptr()];
     for kind in 0..2 {
-        let (w, b, r, c) = (words[kind], bytes[kind], ring[kind], cells[kind]);
+        let (w, b, r, c, l) = (words[kind], bytes[kind], ring[kind], cells[kind], records[kind]);
         // SAFETY: every length is 0.
         unsafe {
             let answer = raw::mtcore_start(w, 0, b, 0, r, 0, c, 0, 1, 1, 1, 1);
             assert_eq!((answer.number, answer.count), (1, 0));
             assert_eq!(raw::mtcore_observe(w, 0, b, 0, r, 0, 0, 1, 1, 0), END + 1);
+            let answer = raw::mtcore_observe_batch(w, 0, b, 0, r, 0, l, 0, 1, r, 0);
+            assert_eq!((answer.number, answer.count), (1, 0));
             assert_eq!(raw::mtcore_store_asset(w, 0, b, 0, r, 0, c, 0, b, 0, b, 0, 1), END + 1);
             let answer = raw::mtcore_request(w, 0, b, 0, r, 0, c, 0, b, 0, r, 0);
             assert_eq!((answer.number, answer.count), (1, 0));
@@ -52,6 +55,38 @@ fn empty_stores_texts_and_replies() {
     assert_eq!(mtcore::body(&[], b"T"), None);
     let stored = mtcore::store_asset(&model, &names, &mut observations, &mut assets, b"", b"", 1);
     assert_eq!(stored, Err(Refusal::Asset));
+}
+
+/// An empty list and an empty answer buffer, over a sound store and over an empty one.
+#[test]
+fn empty_deliveries() {
+    let (model, names) = (plain_model(2, true), names(&["Device"]));
+    let mut observations = vec![0; mtcore::observation_words(2, 2)];
+    let mut assets = vec![0; mtcore::asset_bytes(1)];
+    let sizes = Sizes { places: 2, cells: 1, origin: 1 };
+    mtcore::start(&model, &names, &mut observations, &mut assets, sizes, 1).unwrap();
+    let record = Record { item: 0, time: 1, value: 1 << 32 };
+    let batch = |store: &mut [u64], records: &[Record], answers: &mut [u64]| {
+        let answer = mtcore::ffi::observe_batch(&model, &names, store, records, 1, answers);
+        (answer.number, answer.count)
+    };
+    assert_eq!(batch(&mut observations, &[], &mut []), (0, 0));
+    assert_eq!(batch(&mut observations, &[], &mut [9]), (0, 0));
+    assert_eq!(batch(&mut observations, &[record], &mut []), (15, 0));
+    assert_eq!(batch(&mut observations, &[record; 257], &mut []), (16, 0));
+    assert_eq!(batch(&mut [], &[], &mut []), (2, 0));
+    assert_eq!(batch(&mut [], &[record], &mut [9]), (2, 0));
+    // Pointers of the empty list and buffer.
+    let (m, n, s) = (model.as_ptr(), names.as_ptr(), observations.as_mut_ptr());
+    let (m_len, n_len, s_len) = (model.len(), names.len(), observations.len());
+    for list in [null(), NonNull::<Record>::dangling().as_ptr().cast_const()] {
+        for room in [null_mut(), NonNull::dangling().as_ptr()] {
+            // SAFETY: three whole slices, and two empty ones.
+            let answer =
+                unsafe { raw::mtcore_observe_batch(m, m_len, n, n_len, s, s_len, list, 0, 1, room, 0) };
+            assert_eq!((answer.number, answer.count), (0, 0));
+        }
+    }
 }
 
 /// The wrapper's results say what the words say.

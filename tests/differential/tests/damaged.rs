@@ -2,10 +2,10 @@
 //! a store and nothing else, whatever the store was made by.
 
 use differential::call::{Answer, Call, Start};
-use differential::fixture::{core, names, start};
+use differential::fixture::{core, names, record, start, UNTOUCHED};
 use differential::pair::Pair;
 use differential::under_test::UnderTest;
-use reference::{Clean, Value};
+use reference::{Clean, Record, Value};
 
 const END: u64 = 1 << 63;
 const STORE: u64 = END + 2;
@@ -95,6 +95,16 @@ impl Damaged {
         }
     }
 
+    /// A delivery with room for so many answers: number and count, the answers, and the store left.
+    fn batch(&self, records: &[Record], room: usize) -> ((u64, u64), Vec<u64>, Vec<u64>) {
+        let answers = vec![UNTOUCHED; room];
+        let call = Call::ObserveBatch { records: records.to_vec(), host: 8, answers };
+        match self.run(&call) {
+            (Answer::Pair(number, count), left, answers) => ((number, count), answers, left.observations),
+            other => panic!("{:?}", other.0),
+        }
+    }
+
     fn store(&self, id: &[u8]) -> (u64, Start) {
         match self.run(&Call::StoreAsset { id: id.to_vec(), body: b"new".to_vec(), host: 9 }) {
             (Answer::Word(word), left, _) => (word, left),
@@ -109,6 +119,13 @@ impl Damaged {
             Answer::Pair(0, _) => Ok(reply),
             other => Err(other.refusal()),
         }
+    }
+
+    /// A delivery of so many records that is refused: its number.
+    fn refused_batch(&self, records: usize, room: usize) -> u64 {
+        let ((number, count), answers, _) = self.batch(&vec![record(9, 7, Value::Event(1)); records], room);
+        assert_eq!((count, answers), (0, vec![UNTOUCHED; room]));
+        number
     }
 
     fn ask(&self, text: &str) -> Result<Vec<u64>, u64> {
@@ -228,6 +245,92 @@ fn an_unused_place_is_not_read() {
         start.observations[RING_PACKED + 3] = u64::MAX;
     });
     assert_eq!(damaged.observe(0, Value::Event(1)), 4);
+}
+
+/// Model and head come before the number of records and the room; an empty list is no way round
+/// them.
+#[test]
+fn a_delivery_over_wrong_heads() {
+    let sizes = [(0, 0), (0, 5), (3, 3), (3, 2), (256, 256), (257, 300), (257, 0)];
+    let head = Damaged::new(|start| start.observations[3] = END);
+    let longer = Damaged::new(|start| start.observations.push(0));
+    let empty = Damaged::new(|start| start.observations.clear());
+    let both = Damaged::new(|start| {
+        start.model[5] = 4 * 65_536;
+        start.observations[0] = 0;
+    });
+    for (records, room) in sizes {
+        for damaged in [&head, &longer, &empty] {
+            assert_eq!(damaged.refused_batch(records, room), 2, "{records} records, {room} words");
+        }
+        assert_eq!(both.refused_batch(records, room), 1, "{records} records, {room} words");
+    }
+    // The asset store is no part of it.
+    let assets = Damaged::new(|start| start.assets.clear());
+    assert_eq!(assets.refused_batch(257, 0), 16);
+    assert_eq!(assets.refused_batch(3, 2), 15);
+    assert_eq!(assets.batch(&[], 1).0, (0, 0));
+}
+
+/// A record that meets a bad entry is refused; the entry stays for the next one. What comes before
+/// it in the order of refusals is still answered.
+#[test]
+fn a_delivery_meets_a_bad_entry() {
+    // The first overwrites number 3 at place 2; place 3 is bad.
+    for item in [3, 64, 256, 1 << 16, (1 << 24) - 1] {
+        let damaged = Damaged::new(|start| start.observations[RING_PACKED + 3] = item << 40);
+        let records = [
+            record(0, 7, Value::Event(1)),
+            record(0, 7, Value::Event(2)),
+            record(0, 7, Value::Event(1)),
+            record(3, 7, Value::Event(1)),
+            record(0, 7, Value::Sample(1)),
+            record(1, 0, Value::Sample(9)),
+        ];
+        let (pair, answers, left) = damaged.batch(&records, 7);
+        assert_eq!(pair, (0, 6));
+        assert_eq!(answers, [7, STORE, 0, END + 4, END + 5, STORE, UNTOUCHED]);
+        assert_eq!((left[3], left[RING_PACKED + 3]), (7, item << 40));
+        // With the first one bad none is recorded, and the delivery is accepted all the same.
+        let damaged = Damaged::new(|start| start.observations[RING_PACKED + 2] = item << 40);
+        let (pair, answers, left) = damaged.batch(&records, 6);
+        assert_eq!(pair, (0, 6));
+        assert_eq!(answers, [STORE, STORE, STORE, END + 4, END + 5, STORE]);
+        assert_eq!(left, damaged.start.observations);
+    }
+}
+
+/// An entry that the delivery itself wrote is sound when its turn comes.
+#[test]
+fn a_delivery_turns_the_ring() {
+    let damaged = Damaged::new(|_| {});
+    let records: Vec<Record> = (10..20).map(|value| record(1, value, Value::Sample(value as i32))).collect();
+    let (pair, answers, left) = damaged.batch(&records, 10);
+    assert_eq!((pair, answers), ((0, 10), (7..17).collect()));
+    assert_eq!(left[CHECKPOINT + 1], 12);
+    assert_eq!(left[LATEST + 1], 16);
+}
+
+/// The last number is given out amid the delivery; a bad entry behind it is no longer met.
+#[test]
+fn a_delivery_spends_the_numbers() {
+    let damaged = Damaged::new(|start| {
+        start.observations[3] = END - 2;
+        // 2^63 - 1 goes to place 2, and the number after it would go to place 3.
+        start.observations[RING_PACKED + 3] = u64::MAX;
+    });
+    let records = [
+        record(3, 7, Value::Event(1)),
+        record(0, 7, Value::Event(1)),
+        record(0, 7, Value::Event(2)),
+        record(0, 7, Value::Event(1)),
+        record(0, 7, Value::Sample(1)),
+        record(1, 7, Value::Sample(1)),
+    ];
+    let (pair, answers, left) = damaged.batch(&records, 6);
+    assert_eq!(pair, (0, 6));
+    assert_eq!(answers, [END + 4, END - 1, SPENT, 0, END + 5, SPENT]);
+    assert_eq!(left[3], END - 1);
 }
 
 /// Without an asset-change item the ring is neither tested nor written, the head still tested.

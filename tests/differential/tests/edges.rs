@@ -5,7 +5,7 @@ use differential::fixture::{begin, core, names, plain_model, start, Tested};
 use differential::pair::Pair;
 use differential::rng::Rng;
 use differential::{lists, settings, worlds};
-use reference::Value;
+use reference::{Record, Value};
 
 const END: u64 = 1 << 63;
 
@@ -212,6 +212,11 @@ fn empty_slices() {
     let sound = start(&plain_model(3, true), &one_name(), [2, 1, 1], 1);
     let calls = [
         Call::Observe { item: 0, time: 1, host: 1, value: 1 << 32 },
+        delivery(2, 3),
+        delivery(2, 0),
+        delivery(0, 3),
+        delivery(0, 0),
+        delivery(257, 0),
         Call::StoreAsset { id: b"T".to_vec(), body: b"b".to_vec(), host: 1 },
         Call::StoreAsset { id: vec![], body: b"b".to_vec(), host: 1 },
         Call::StoreAsset { id: b"T".to_vec(), body: vec![], host: 1 },
@@ -238,6 +243,12 @@ fn empty_slices() {
             pair.call(call).unwrap_or_else(|what| panic!("{call:?} with {empty:b} empty: {what}"));
         }
     }
+}
+
+/// So many records, and room for so many answers.
+fn delivery(records: usize, room: usize) -> Call {
+    let record = Record { item: 0, time: 1, value: (1 << 32) + 7 };
+    Call::ObserveBatch { records: vec![record; records], host: 1, answers: vec![9; room] }
 }
 
 /// Empties the slices whose bits are set.
@@ -297,7 +308,8 @@ fn every_field_of_a_model_word() {
     }
 }
 
-/// Every word that the value argument can be at the edges of its fields.
+/// Every word that the value argument can be at the edges of its fields, in single observes and in
+/// deliveries.
 #[test]
 fn every_edge_of_a_value_word() {
     let core = core();
@@ -316,12 +328,18 @@ fn every_edge_of_a_value_word() {
         1 << 31,
         (1 << 32) - 1,
     ];
+    let mut records = Vec::new();
     for kind in (0..=5).chain([255, 256, 257, 258, 259, 1 << 8, 1 << 31]) {
         for low in lows {
             for item in 0..5 {
-                session.must(&Call::Observe { item, time: 3, host: 3, value: (kind << 32) + low });
+                let value = (kind << 32) + low;
+                session.must(&Call::Observe { item, time: 3, host: 3, value });
+                records.push(Record { item, time: 4, value });
             }
         }
+    }
+    for some in records.chunks(200) {
+        assert_eq!(session.batch(some, 3, 256).0, (0, some.len() as u64));
     }
 }
 

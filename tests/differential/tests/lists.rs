@@ -1,7 +1,7 @@
 //! Random lists after a start, and random calls over damaged contents.
 
 use differential::under_test::core;
-use differential::{damaged, lists, settings, Counts, Difference};
+use differential::{batches, damaged, lists, settings, Counts, Difference};
 use reference::Clean;
 
 /// Runs a list for each seed and stops at the first difference.
@@ -33,6 +33,12 @@ fn every_answer_is_met(counts: &Counts) {
     for refusal in [0, 4, 5, 6] {
         assert!(counts.observes[refusal] > 0, "observe never answers {refusal}");
     }
+    for refusal in [0, 15, 16] {
+        assert!(counts.batches[refusal] > 0, "a delivery never answers {refusal}");
+    }
+    for refusal in [0, 4, 5, 6] {
+        assert!(counts.amid[refusal] > 0, "no record is answered {refusal} behind a recorded one");
+    }
     for refusal in [0, 6, 14] {
         assert!(counts.stores[refusal] > 0, "store-asset never answers {refusal}");
     }
@@ -42,13 +48,35 @@ fn every_answer_is_met(counts: &Counts) {
     assert!(counts.same > 0 && counts.bodies.iter().all(|&met| met > 0));
     // No list after an accepted start meets a damaged store.
     assert_eq!((counts.observes[2], counts.stores[2], counts.requests[2]), (0, 0, 0));
+    assert_eq!((counts.batches[2], counts.records[2]), (0, 0));
 }
 
 #[test]
 fn damaged_contents_get_the_same_answers() {
     let counts = all(4000, |seed, counts| damaged::run(&core(), seed, counts));
-    for table in [&counts.observes, &counts.stores, &counts.requests] {
+    if settings::tracing() {
+        return;
+    }
+    for table in [&counts.observes[..], &counts.batches, &counts.stores, &counts.requests] {
         assert!(table[1] > 0 && table[2] > 0, "damage is never noticed");
+    }
+    for refusal in [2, 6] {
+        assert!(counts.amid[refusal] > 0, "no record is answered {refusal} behind a recorded one");
+    }
+}
+
+/// Against the core itself: the same words and stores by one delivery and by its single observes.
+#[test]
+fn a_delivery_is_its_single_observes() {
+    let counts = all(2000, |seed, counts| batches::run(&core(), seed, counts));
+    if settings::tracing() {
+        return;
+    }
+    for refusal in [0, 2, 15, 16] {
+        assert!(counts.batches[refusal] > 0, "a delivery never answers {refusal}");
+    }
+    for refusal in [0, 2, 4, 5, 6] {
+        assert!(counts.amid[refusal] > 0, "no record is answered {refusal} behind a recorded one");
     }
 }
 
@@ -59,6 +87,7 @@ fn nothing_outside_a_slice_is_touched() {
     let core = differential::fenced::Fenced::new(core());
     all(600, |seed, counts| {
         lists::run(&core, Clean, seed, counts)?;
-        damaged::run(&core, seed, counts)
+        damaged::run(&core, seed, counts)?;
+        batches::run(&core, seed, counts)
     });
 }

@@ -19,6 +19,7 @@ pub enum Refusal {
     AssetNotFound = 13,
     Asset = 14,
     Space = 15,
+    Batch = 16,
 }
 
 impl Refusal {
@@ -32,7 +33,7 @@ impl Refusal {
     }
 }
 
-/// What start and request answer: how many rows there are, or a refusal.
+/// What start, request and observe-batch answer: how many rows or records there are, or a refusal.
 #[derive(Clone, Copy, PartialEq, Eq, Debug)]
 pub enum Done {
     Done(u64),

@@ -1,5 +1,16 @@
-//! The five calls in the shapes of the C interface, so that one list of calls runs against
+//! The calls in the shapes of the C interface, so that one list of calls runs against
 //! everything that offers them.
+
+/// One observation of a delivery: three words, as they lie in the host's memory.
+#[derive(Clone, Copy, PartialEq, Eq, Default, Debug)]
+#[repr(C)]
+pub struct Record {
+    pub item: u64,
+    /// 0 where the host's time is meant.
+    pub time: u64,
+    /// kind * 2^32 + low.
+    pub value: u64,
+}
 
 /// Slices in, words out, as `mtcore.h` has them.
 #[allow(clippy::too_many_arguments)]
@@ -28,6 +39,17 @@ pub trait Core {
         host: u64,
         value: u64,
     ) -> u64;
+
+    /// Number and count. The front of the buffer gets a word for each record.
+    fn observe_batch(
+        &self,
+        model: &[u32],
+        names: &[u8],
+        observations: &mut [u64],
+        records: &[Record],
+        host: u64,
+        answers: &mut [u64],
+    ) -> (u64, u64);
 
     /// The answer word.
     fn store_asset(

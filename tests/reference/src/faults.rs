@@ -70,6 +70,9 @@ macro_rules! faults {
     };
 }
 
+// Each fault has a bit of its own.
+const _: () = assert!(Fault::ALL.len() <= u128::BITS as usize);
+
 faults! {
     // Values and model.
     /// A negative sample packed by its magnitude.
@@ -196,6 +199,42 @@ faults! {
     StartWithoutCheckpoint in Stores,
     /// Start leaves what stood in unused places.
     StartKeepsOldWords in Stores,
+
+    // Deliveries.
+    /// A refused record ends the delivery; the words of the rest stay.
+    BatchStopsAtRefusal in Both,
+    /// A missing time becomes the first record's rather than the host's.
+    BatchTimeOfFirst in Both,
+    /// The host's time stands for the times given too.
+    BatchHostForAll in Both,
+    /// Same gets no word, so that the later ones move up.
+    BatchSameLeftOut in Both,
+    /// Same is looked for in the latest values as they stood ahead of the delivery.
+    SameBeforeBatch in Stores,
+    /// 257 records are accepted.
+    BatchOf257 in Both,
+    /// An empty list is refused.
+    EmptyBatchRefused in Both,
+    /// An empty list is accepted without a look at model and head.
+    EmptyBatchUnchecked in Stores,
+    /// The number of records and the space are looked at before the model.
+    BatchBeforeModel in Stores,
+    /// The space is looked at before the number of records.
+    SpaceBeforeBatch in Both,
+    /// A buffer with exactly a word for each record is refused.
+    ExactAnswersRefused in Both,
+    /// A refused delivery writes its refusal into the answer words.
+    RefusedBatchWrites in Both,
+    /// A refused delivery observes the records that there are words for.
+    RefusedBatchObserves in Both,
+    /// The answer words behind the last record's are cleared.
+    AnswerTailCleared in Both,
+    /// The count is that of the records recorded.
+    BatchCountsRecorded in Both,
+    /// A record that meets a bad ring entry refuses the whole delivery.
+    BatchRefusedByEntry in Stores,
+    /// A record that meets a bad ring entry makes it good for the next one.
+    BadEntryMended in Stores,
 
     // Assets.
     /// Ids are compared up to the length given.

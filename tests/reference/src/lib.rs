@@ -1,8 +1,9 @@
-//! Document 01 a second time, in plain Rust, sharing nothing with the proved core.
+//! Document 01 and the later requests a second time, in plain Rust, sharing nothing with the proved
+//! core.
 //!
 //! Two layers answer the same calls:
 //!
-//! * [`stores`]: the five calls over the flat stores as the C interface takes them. It takes any
+//! * [`stores`]: the six calls over the flat stores as the C interface takes them. It takes any
 //!   contents, and its answers are those of document 01 for a damaged store too.
 //! * [`machine`]: the machine that forgets nothing. It holds every observation recorded and every
 //!   asset stored, and searches them.
@@ -24,7 +25,7 @@ pub mod text;
 pub mod value;
 
 pub use answer::{Done, Observed, Refusal, Stored};
-pub use calls::Core;
+pub use calls::{Core, Record};
 pub use faults::{Clean, Fault, FaultSet, Faults};
 pub use machine::Machine;
 pub use stores::Stores;
@@ -36,5 +37,7 @@ pub const LARGEST: u64 = (1 << 63) - 1;
 pub const MOST_PLACES: u64 = 131_072;
 /// The largest number of asset cells.
 pub const MOST_CELLS: u64 = 128;
+/// The largest number of records in a delivery.
+pub const MOST_RECORDS: usize = 256;
 /// Numbers considered by a sample request that gives no count.
 pub const DEFAULT_COUNT: u64 = 100;

@@ -5,7 +5,7 @@
 
 use differential::rng::list_seed;
 use differential::under_test::core;
-use differential::{damaged, lists, settings, Counts, Difference};
+use differential::{batches, damaged, lists, settings, Counts, Difference};
 use reference::Clean;
 use std::env;
 use std::io::Write;
@@ -41,7 +41,7 @@ fn soak(master: u64, length: Duration) -> (u64, u64) {
     let (mut passed, mut failed) = (0, 0);
     while begun.elapsed() < length && failed < MOST_FAILURES {
         let seed = list_seed(master, passed + failed);
-        match both(seed, &mut counts) {
+        match all(seed, &mut counts) {
             Ok(()) => passed += 1,
             Err(difference) => {
                 failed += 1;
@@ -59,7 +59,8 @@ fn soak(master: u64, length: Duration) -> (u64, u64) {
     (passed, failed)
 }
 
-fn both(seed: u64, counts: &mut Counts) -> Result<(), Difference> {
+fn all(seed: u64, counts: &mut Counts) -> Result<(), Difference> {
     lists::run(&core(), Clean, seed, counts)?;
-    damaged::run(&core(), seed, counts)
+    damaged::run(&core(), seed, counts)?;
+    batches::run(&core(), seed, counts)
 }

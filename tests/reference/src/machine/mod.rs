@@ -4,6 +4,7 @@
 //! latest values, no checkpoints and no byte cells: it searches what it has. It is fed model,
 //! names and each call's arguments, and of the stores only their lengths at start.
 
+mod batch;
 mod contents;
 mod requests;
 

@@ -1,13 +1,14 @@
-//! The five calls over their stores, as the C interface takes them: any words, any lengths.
+//! The six calls over their stores, as the C interface takes them: any words, any lengths.
 //!
 //! Every call checks all it takes and changes nothing before its last check.
 
 mod assets;
+mod batch;
 mod observations;
 mod request;
 
 use crate::answer::{Done, Observed, Refusal, Stored};
-use crate::calls::Core;
+use crate::calls::{Core, Record};
 use crate::faults::{Clean, Fault, FaultSet};
 use crate::model::Model;
 use crate::value::{Value, EVENT_KIND};
@@ -101,6 +102,20 @@ impl<F: FaultSet> Stores<F> {
         value: Value,
     ) -> Result<Option<u64>, Refusal> {
         let model = self.model(model, names)?;
+        self.offer(&model, words, None, item, time, host, value)
+    }
+
+    /// Observe behind the model's check. Same is looked for in other words only by a planted fault.
+    fn offer(
+        &self,
+        model: &Model,
+        words: &mut [u64],
+        stale: Option<&[u64]>,
+        item: u64,
+        time: u64,
+        host: u64,
+        value: Value,
+    ) -> Result<Option<u64>, Refusal> {
         let head = Head::check(words, model.items(), self.faults).ok_or(Refusal::Store)?;
         if item >= model.items() as u64 {
             return Err(Refusal::Item);
@@ -119,7 +134,7 @@ impl<F: FaultSet> Stores<F> {
         let missing = time == 0 && !self.faults.has(Fault::MissingTimeKept);
         let time = if missing { host } else { time };
         let packed = value.packed(item as u64, self.faults);
-        if head.is_latest(words, item, packed, self.faults) {
+        if head.is_latest(stale.unwrap_or(words), item, packed, self.faults) {
             if self.faults.has(Fault::SameRenewsTime) {
                 head.renew(words, item, time);
             }
@@ -252,6 +267,18 @@ impl<F: FaultSet> Core for Stores<F> {
         value: u64,
     ) -> u64 {
         Stores::observe(self, model, names, observations, item, time, host, Value::decode(value)).word()
+    }
+
+    fn observe_batch(
+        &self,
+        model: &[u32],
+        names: &[u8],
+        observations: &mut [u64],
+        records: &[Record],
+        host: u64,
+        answers: &mut [u64],
+    ) -> (u64, u64) {
+        Stores::observe_batch(self, model, names, observations, records, host, answers).pair()
     }
 
     fn store_asset(

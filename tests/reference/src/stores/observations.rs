@@ -149,6 +149,11 @@ impl Head {
         Ok(())
     }
 
+    /// Makes the entry about to be overwritten a sound one: a planted fault.
+    pub fn mend<F: FaultSet>(&self, words: &mut [u64], faults: F) {
+        words[self.ring_packed(self.place(self.last + 1, faults))] = 0;
+    }
+
     /// Records an observation under the next number. `can_record` has been asked.
     pub fn record<F: FaultSet>(
         &self,
