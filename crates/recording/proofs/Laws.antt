@@ -20,8 +20,7 @@ use Rattle.spec.specs.declared.Refusal.the-variants.{Spent, Store}
 use Rattle.spec.specs.declared.Value.the-variants.{Unavailable}
 use Rattle.spec.specs.declared.Verdict.the-variants.{Fine, Refused}
 use Rattle.spec.proofs.Heads.{room-for}
-use Rattle.spec.proofs.Kept.{Rep, next, add-rep}
-use Rattle.spec.proofs.Rows.{evict-ok}
+use Rattle.spec.proofs.Kept.{Rep, next, evict-ok, add-rep}
 use Rattle.spec.proofs.Start.{blank-rep}
 use Rattle.observations.specs.Ring.{ringTime, ringWord}
 use Rattle.recording.specs.Writing.{Overwriting, Sizes}

@@ -47,8 +47,8 @@ use Rattle.spec.proofs.Packing.{Coded, taken-coded, compare-coded}
 use Rattle.spec.proofs.Model.{checked}
 use Rattle.spec.proofs.Observations.{head-ok}
 use Rattle.spec.proofs.Recorded.{lastOr-some, newestOr-append, newestOr-item, within-slice}
-use Rattle.spec.proofs.Kept.{Rep, next, add-rep}
-use Rattle.spec.proofs.Rows.{ring-rows, held-at, ring-ok, evict-ok}
+use Rattle.spec.proofs.Kept.{Rep, next, evict-ok, add-rep}
+use Rattle.spec.proofs.Rows.{ring-rows, held-at, ring-ok}
 use Rattle.spec.proofs.Encoding.{Ok, AllOk, Stands, encode, find-is, find-all, store-cells, cell-is, length-at}
 use Rattle.spec.proofs.Encoding.{length-ok, part-is, asset-heads}
 

@@ -1,22 +1,23 @@
 -- The relation between the reference model's H and the words of an observation store, and that adding keeps it.
 use mathlib.Core.Path.{_≡_, refl, sym, ap, _∙_, subst}
-use mathlib.Core.Logic.{_≢_, _⊎_, inl, inr}
-use mathlib.Core.Bool.{Bool, true, false, cond, _&&_, not}
-use Prim.Native.Nat.{ℕ, zero, suc, _+_, _-_, _*_, _/_, _%_, _≤_, _<_}
+use mathlib.Core.Logic.{_⊎_, inl, inr}
+use mathlib.Core.Bool.{Bool, true, false, cond}
+use Prim.Native.Nat.{ℕ, suc, _+_, _-_, _*_, _%_, _≤_, _<_}
 use native.Mathlib.Nat.{mod-lt, mod-eq-sub-mod}
 use native.Mathlib.Omega.{arith}
-use mathlib.Core.List.{List, [], _∷_, _++_, map}
-use lib.Arith.{digits-div}
-use lib.Dec.{leb, ltb, eqb}
-use lib.ListN.{length, getD, set, take, drop, length-append, length-set, List·getD-append}
-use lib.Seq.{take-suc, take-append-le, getD-append-seam, getD-set-same, getD-set-other}
-use borrow.Author.Tests.{ltb-true, ltb-false, leb-true, leb-false, eqb-true, eqb-false, lt-ltb, le-ltb, le-leb, lt-leb, eq-eqb, ne-eqb}
+use mathlib.Core.List.{List, [], _∷_, _++_}
+use lib.Dec.{leb, eqb}
+use lib.ListN.{length, getD, set, take, length-append}
+use lib.Seq.{take-suc, take-append-le}
+use borrow.Author.Tests.{leb-true, leb-false, eqb-true, eqb-false, lt-ltb}
 use Rattle.spec.specs.Words.{row, put}
-use Rattle.spec.specs.Value.{valueWord, pack, itemOf}
-use Rattle.spec.specs.Reference.{Observation, nothing, newestOr, newest, triple}
+use Rattle.spec.specs.Value.{pack, itemOf}
+use Rattle.spec.specs.Reference.{Observation, nothing, newest, triple}
 use Rattle.spec.specs.declared.Value.{Value}
-use Rattle.spec.specs.Observations.{latestAt, checkpointAt, storeWords, entry, itemAt, evict, add}
-use Rattle.spec.proofs.Tables.{length-put, get-put, row-put-same, row-put-other, row-put-apart}
+use Rattle.spec.specs.Observations.{latestAt, checkpointAt, storeWords, entry, itemAt, evict, evictOk, add}
+use Rattle.spec.proofs.Words.{by-cond}
+use Rattle.spec.proofs.Tables.{length-put, row-put-same, row-put-other, row-put-apart}
+use Rattle.spec.proofs.Added.{length-evict, length-add, get-add, last-add}
 use Rattle.spec.proofs.Packing.{Coded, item-coded}
 use Rattle.spec.proofs.Recorded.{Numbered, numbered-at, numbered-append, each-append, newest-snoc, mod-apart}
 
@@ -126,8 +127,17 @@ evict-cases P N m B H st R p f = go (leb N (B + length H - B)) refl
     go false e = p
     go true e = f (itemAt N B st (B + length H)) _ _ _ (rw (evicted-item N m B H st R (omega (arith, leb-true))) (R .fits (length H - N) (omega (arith, leb-true, R .N-pos)) .0))
 
-head-put : (xs st : List ℕ) (b w i j : ℕ) → j < 4 → 4 ≤ b → i < w → getD (put st b w i xs) j 0 ≡ getD st j 0
-head-put xs st b w i j h k l = get-put xs st b w i j (inl (omega arith)) l
+-- the entry about to be overwritten has an item of the model
+pub evict-ok : (N m B : ℕ) (H : List Observation) (st : List ℕ) → Rep N m B H st
+    → evictOk N m B (B + length H) st ≡ true
+unfolding evictOk
+evict-ok N m B H st R =
+    by-cond (λ (t : Bool). t ≡ true) (leb N (B + length H - B)) _ _
+    (λ e.
+    let n : N ≤ length H = omega (arith, leb-true) in
+    rw (evicted-item N m B H st R n)
+    (lt-ltb (getD H (length H - N) nothing .item) m (R .fits (length H - N) (omega (arith, R .N-pos)) .0)))
+    (λ e. refl)
 
 -- the word `last` changes
 ring-head : (N : ℕ) (H : List Observation) (lo : ℕ) (st : List ℕ) (n : ℕ) → 0 < N → Ring N H lo st → Ring N H lo (set st 3 n)
@@ -153,11 +163,17 @@ add-rep N m B H st item time value R hi hv =
     (record {
       N-pos = p;
       B-pos = R .B-pos;
-      words = length-set S3 3 n ∙ l3;
-      cap = heads 0 (omega arith) (omega arith) ∙ R .cap;
-      items = heads 1 (omega arith) (omega arith) ∙ R .items;
-      base = heads 2 (omega arith) (omega arith) ∙ R .base;
-      last = omega (arith, len, getD-set-same S3 3 n 0 (omega (arith, l3)));
+      words = ap length (sym sum) ∙ length-add N m B n st item time (pack item value) ∙ R .words;
+      cap = heads 0 (omega arith) ∙ R .cap;
+      items = heads 1 (omega arith) ∙ R .items;
+      base = heads 2 (omega arith) ∙ R .base;
+      last =
+          omega (
+            arith,
+            len,
+            ap (λ (s : List ℕ). getD s 3 0) (sym sum),
+            last-add N m B n st item time (pack item value) (omega (arith, R .words)),
+          );
       ring =
           subst (λ (l : ℕ). Ring N H' (l - N) (set S3 3 n)) (sym len)
           (ring-head N H' (suc (length H) - N) S3 n p
@@ -202,19 +218,19 @@ add-rep N m B H st item time value R hi hv =
     S3 : List ℕ
     S3 = put S2 (latestAt N) m item (triple o)
 
+    -- the place of the new number, counted from B
+    sum : add N m B n item time (pack item value) st ≡ set S3 3 n
+    sum =
+        let z : B + length H - B ≡ length H = omega arith in
+        rw z
+
     l1 : length S1 ≡ storeWords N m
-    l1 = evict-cases (λ s. length s ≡ storeWords N m) N m B H st R (R .words) (λ j x y w h. length-put (x ∷ y ∷ w ∷ []) st (checkpointAt N m) m j ∙ R .words)
+    l1 = length-evict N m B n st ∙ R .words
 
     l2 : length S2 ≡ storeWords N m
     l2 = length-put (pair o) S1 4 N (length H % N) ∙ l1
 
-    l3 : length S3 ≡ storeWords N m
-    l3 = length-put (triple o) S2 (latestAt N) m item ∙ l2
-
-    heads : (j : ℕ) → j < 4 → j ≢ 3 → getD (set S3 3 n) j 0 ≡ getD st j 0
-    heads j h k =
-        getD-set-other S3 3 j n 0 k
-        ∙ head-put (triple o) S2 (latestAt N) m item j h (omega arith) hi
-        ∙ head-put (pair o) S1 4 N (length H % N) j h (omega arith) (mod-lt (length H) (R .N-pos))
-        ∙ evict-cases (λ s. getD s j 0 ≡ getD st j 0) N m B H st R refl
-        (λ i x y w l. head-put (x ∷ y ∷ w ∷ []) st (checkpointAt N m) m i j h (omega arith) l)
+    heads : (j : ℕ) → j < 3 → getD (set S3 3 n) j 0 ≡ getD st j 0
+    heads j h =
+        ap (λ (s : List ℕ). getD s j 0) (sym sum)
+        ∙ get-add N m B n st item time (pack item value) j h (R .N-pos) hi (evict-ok N m B H st R)

@@ -10,6 +10,7 @@ pub mod Read
 pub mod Print
 pub mod Path
 pub mod Observations
+pub mod Added
 pub mod Heads
 pub mod Admission
 pub mod Assets

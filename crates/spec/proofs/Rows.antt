@@ -6,17 +6,17 @@ use native.Mathlib.Nat.{add-zero, add-suc}
 use native.Mathlib.Omega.{arith}
 use mathlib.Core.List.{List, [], _∷_, _++_, map}
 use lib.Arith.{digits-div}
-use lib.Dec.{leb, ltb, eqb}
+use lib.Dec.{eqb}
 use lib.ListN.{length, getD, take, drop, take-append-drop}
 use lib.Seq.{slice, slice-empty, slice-cons, take-take, take-suc, drop-append-le, length-take-le}
-use borrow.Author.Tests.{lt-ltb, leb-true}
+use borrow.Author.Tests.{lt-ltb}
 use Rattle.spec.specs.Words.{every, pickRows, bit, row}
 use Rattle.spec.specs.Value.{itemOf}
 use Rattle.spec.specs.Reference.{Observation, nothing, newestOr, newest, triple, keep, within}
-use Rattle.spec.specs.Observations.{checkpointAt, entry, itemAt, checkpointRow, sampleRows, newestIn, ringOk, evictOk}
+use Rattle.spec.specs.Observations.{checkpointAt, entry, itemAt, checkpointRow, sampleRows, newestIn, ringOk}
 use Rattle.spec.proofs.Packing.{item-coded}
 use Rattle.spec.proofs.Recorded.{Numbered, numbered-at, newestOr-append, within-slice}
-use Rattle.spec.proofs.Kept.{Rep, pair, evicted-item}
+use Rattle.spec.proofs.Kept.{Rep, pair}
 
 cond-map : (f : Observation → List ℕ) (b : Bool) (o : Observation) (r : List Observation) → cond b (f o ∷ map f r) (map f r) ≡ map f (cond b (o ∷ r) r)
 cond-map f true o r = refl
@@ -87,13 +87,3 @@ module _ (N m B : ℕ) (H : List Observation) (st : List ℕ) (R : Rep N m B H s
   ring-ok (suc k) j h l =
       let q' : suc (B + j) ≡ B + suc j = omega arith in
       rw (item-at j (omega arith) l, lt-ltb (getD H j nothing .item) m (R .fits j (omega arith) .0), q', ring-ok k (suc j) (omega arith) (omega arith))
-
-  pub evict-ok : evictOk N m B (B + length H) st ≡ true
-  unfolding evictOk
-  evict-ok = go (leb N (B + length H - B)) refl
-    where
-      go : (t : Bool) → leb N (B + length H - B) ≡ t → cond t (ltb (itemAt N B st (B + length H)) m) true ≡ true
-      go false e = refl
-      go true e =
-          let n : N ≤ length H = omega (arith, leb-true) in
-          rw (evicted-item N m B H st R n) (lt-ltb (getD H (length H - N) nothing .item) m (R .fits (length H - N) (omega (arith, R .N-pos)) .0))
