@@ -22,10 +22,10 @@ const ITEM_COMPONENTS: u64 = 256;
 
 const ITEM_CATEGORY: u64 = ITEM_NAMES * ITEM_COMPONENTS;
 
-// The categories: 0 sample, 1 event, 2 condition, 3 asset change.
+// The categories: 0 sample, 1 event, 2 condition, 3 asset change, 4 discrete event.
 const ASSET_CHANGE: u64 = 3;
 
-const MAX_CATEGORY: u64 = 3;
+const MAX_CATEGORY: u64 = 4;
 
 // A component's parent, by the component's word.
 pub fn parent_of(word: u64) -> u64

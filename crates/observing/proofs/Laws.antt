@@ -1,11 +1,13 @@
--- One law to each way out of observing an item.
+-- Whether an item is asked for Same, and one law to each way out of observing it.
 use Prim.Native.Nat.{ℕ, _≤_, _<_}
 use mathlib.Core.Path.{_≡_, subst}
+use mathlib.Core.Logic.{_≢_}
 use mathlib.Core.Bool.{Bool, true, false}
 use mathlib.Core.List.{List}
+use lib.Dec.{eqb}
 use lib.ListN.{getD}
-use borrow.Author.Tests.{lt-ltb, le-ltb}
-use Rattle.spec.specs.Model.{items, category}
+use borrow.Author.Tests.{lt-ltb, le-ltb, eq-eqb, ne-eqb}
+use Rattle.spec.specs.Model.{items, category, discrete}
 use Rattle.spec.specs.Value.{takes, repeats, pack}
 use Rattle.spec.specs.Observations.{ringSize, latestRow}
 use Rattle.spec.specs.Calls.{roomFor, notObserved, observeBy, observeItem}
@@ -13,6 +15,15 @@ use Rattle.spec.specs.declared.Value.{Value}
 use Rattle.spec.specs.declared.Refusal.the-variants.{Item, Kind}
 use Rattle.spec.specs.declared.ObserveAnswer.the-variants.{Same}
 use Rattle.spec.proofs.Words.{told}
+
+module _ (k l w : ℕ) where
+  pub asked : k ≢ discrete → {x : ℕ} → x ≡ l → eqb x w ≡ repeats k l w
+  unfolding repeats
+  asked h e = rw (ne-eqb _ _ h, e)
+
+  pub not-asked : k ≡ discrete → false ≡ repeats k l w
+  unfolding repeats
+  not-asked h = rw (eq-eqb _ _ h)
 
 module _ (model st : List ℕ) (item time : ℕ) (v : Value) (m : ℕ) (em : m ≡ items model) where
   pub item-refused : m ≤ item → observeItem model st item time v ≡ notObserved Item st
@@ -27,13 +38,13 @@ module _ (model st : List ℕ) (item time : ℕ) (v : Value) (m : ℕ) (em : m �
     unfolding observeItem
     kind-refused f = rw (← em, lt-ltb _ _ h, kind-told f)
 
-    module _ (f : t ≡ true) (l w : ℕ) (el : l ≡ getD (latestRow (ringSize st) m st item) 2 0) (ew : w ≡ pack item v)
-        {s : Bool} (es : s ≡ repeats k l w) where
+    module _ (f : t ≡ true) (w : ℕ) (ew : w ≡ pack item v)
+        {s : Bool} (es : s ≡ repeats k (getD (latestRow (ringSize st) m st item) 2 0) w) where
       same-told : {b : Bool} → s ≡ b
           → repeats (category model item) (getD (latestRow (ringSize st) m st item) 2 0) (pack item v) ≡ b
       same-told {b} g =
           subst (λ (x : ℕ). repeats x (getD (latestRow (ringSize st) m st item) 2 0) (pack item v) ≡ b) ek
-          (rw (← el, ← ew) (told es g))
+          (rw (← ew) (told es g))
 
       pub same-answered : s ≡ true → observeItem model st item time v ≡ record { answer = Same; observations = st }
       unfolding observeItem

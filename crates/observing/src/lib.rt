@@ -2,8 +2,10 @@
 // latest, or are recorded.
 ghost use mathlib.Core.Path.{_≡_};
 ghost use Prim.Native.Nat.{_≤_, _<_};
+ghost use lib.ListN.{getD};
+ghost use Rattle.spec.specs.Value.{repeats};
 ghost use Rattle.spec.specs.Model.{Sizes, maxItems, items};
-ghost use Rattle.spec.specs.Observations.{Head};
+ghost use Rattle.spec.specs.Observations.{Head, ringSize, latestRow};
 ghost use Rattle.spec.specs.Calls.{timeOr, roomFor, observeBy, observeItem};
 use spec::ObserveAnswer;
 use spec::Refusal;
@@ -15,6 +17,22 @@ pub fn time_or(time: u64, host: u64) -> u64
     ensures { λ r. ⌜ r ≡ timeOr time host ⌝ }
 {
     if time == 0 { host } else { time }
+}
+
+// Whether a packed word repeats the latest of its item, which is of the category. A discrete item's latest isn't read.
+fn repeats(observations: &[u64], m: u64, category: u64, item: u64, word: u64) -> bool
+    requires { ⌜ Head m (now observations) ⌝ }
+    requires { ⌜ m ≤ maxItems ⌝ }
+    requires { ⌜ item < m ⌝ }
+    ensures { λ r. ⌜
+        (let st = now (observations .entry) in
+        r ≡ repeats category (getD (latestRow (ringSize st) m st item) 2 0) word)
+        ⌝ }
+{
+    if category == spec::DISCRETE {
+        return false;
+    }
+    observations::latest_word(observations, m, item) == word
 }
 
 // One observation more as last + 1, where a number is left and the entry that it overwrites has an item of the model.
@@ -63,8 +81,7 @@ pub fn observe_item(
         return ObserveAnswer::Refused(Refusal::Kind);
     }
     let word = value::pack(item, value);
-    let latest = observations::latest_word(observations, m, item);
-    if value::repeats(category, latest, word) {
+    if repeats(observations, m, category, item, word) {
         return ObserveAnswer::Same;
     }
     record(observations, m, item, time, word)

@@ -10,7 +10,7 @@ use lib.Dec.{leb, ltb, eqb}
 use lib.ListN.{length, getD, length-append, List·getD-eq-default}
 use borrow.Author.Tests.{ltb-true, ltb-false, leb-true, eqb-true, eqb-false, lt-ltb, le-leb, lt-leb}
 use Rattle.spec.specs.Words.{pickRows, bit, row}
-use Rattle.spec.specs.Value.{takes, pack, Fits}
+use Rattle.spec.specs.Value.{takes, repeats, pack, Fits}
 use Rattle.spec.specs.Model.{items, category, changeItem, hasChange, modelOk}
 use Rattle.spec.specs.Text.{Request, Reading, readText}
 use Rattle.spec.specs.Text.Request.{sample, current, currentAt, assets, allAssets}
@@ -26,7 +26,7 @@ use Rattle.spec.specs.Calls.{inRange, sampleBetween, sampleReply, curren
 use Rattle.spec.specs.Calls.{allCells, cellsReply, namedReply, downFrom, answerRequest, answerReading, added}
 use Rattle.spec.specs.Calls
 use Rattle.spec.specs.Reference.{State, Observation, Held, nothing, newestOr, newest, lastOf, firstOf, within}
-use Rattle.spec.specs.Reference.{keep, triple, outside, eqValue, spent, observeAnswer, observeNext, withOne}
+use Rattle.spec.specs.Reference.{keep, triple, outside, sameValue, spent, observeAnswer, observeNext, withOne}
 use Rattle.spec.specs.Reference.{place, holds, assetsAfter, storeAnswer, storeNext, sampleStart, sampleEnd}
 use Rattle.spec.specs.Reference.{sampleFor, currentFor, foundRows, atFor, selected, contentAt, heldRows, allHeld}
 use Rattle.spec.specs.Reference.{placesOf, newestFirst, replyTo, replyReading, bodyOf}
@@ -87,6 +87,11 @@ module _ {A B : Type 0} (P : A → B → Type 0) where
   other-test false true e f g = g refl
   other-test false false e f g = absurd (false≢true e)
 
+-- "unless b" as the stores' calls say it, and as the reference model does
+unless-is : (b c : Bool) → (not b && c) ≡ cond b false c
+unless-is true c = refl
+unless-is false c = refl
+
 -- what holds of each observation, and of d, holds of the newest
 newest-of : (P : Observation → Type 0) (H : List Observation) (d : Observation) (i : ℕ) → P d
     → ((k : ℕ) → k < length H → P (getD H k nothing)) → P (newestOr d i H)
@@ -137,7 +142,7 @@ module _ (model names : List ℕ) (p : State) (st : List ℕ) (G : Good model na
   pub last-is : suc (lastOf p) ≡ p .B + length (p .H)
   last-is = lastOr-some (p .H) (p .B) 0 (G .rep .numbered) (omega (arith, checked model names (G .right) .sizes .m-pos, G .all))
 
-  store-last : last st ≡ lastOf p
+  pub store-last : last st ≡ lastOf p
   store-last = omega (arith, last-is, G .rep .last)
 
   pub right-head : headOk (items model) st ≡ true
@@ -223,9 +228,16 @@ module _ (model names : List ℕ) (p : State) (st : List ℕ) (G : Good model na
   newest-coded : (i : ℕ) → Coded (newest i (p .H) .value)
   newest-coded i = newest-of (λ o. Coded (o .value)) (p .H) nothing i tt (λ k l. G .rep .fits k l .1)
 
-  same-is : (item : ℕ) (v : Value) → item < items model → Coded v
-      → eqb (getD (row st (latestAt (p .N)) (items model) item 3) 2 0) (pack item v) ≡ eqValue (newest item (p .H) .value) v
-  same-is item v h hv = rw (G .rep .latest item h, G .each item h) (compare-coded item (newest item (p .H) .value) v (newest-coded item) hv)
+  same-is : (k item : ℕ) (v : Value) → item < items model → Coded v
+      → repeats k (getD (row st (latestAt (p .N)) (items model) item 3) 2 0) (pack item v)
+      ≡ sameValue k (newest item (p .H) .value) v
+  unfolding repeats
+  same-is k item v h hv =
+      rw (
+        G .rep .latest item h,
+        G .each item h,
+        compare-coded item (newest item (p .H) .value) v (newest-coded item) hv,
+      ) (unless-is (eqb k 4) _)
 
   record-agree : (item time host : ℕ) (v : Value) → item < items model → Coded v → (t : Bool) → spent p ≡ t
       → ObserveAgree item time host v (observeBy (cond t (Against Spent) Fine) (items model) st item (timeOr time host) (pack item v))
@@ -245,8 +257,10 @@ module _ (model names : List ℕ) (p : State) (st : List ℕ) (G : Good model na
       (λ t.
       let hi : item < items model = ltb-true item (items model) h in
       let hv : Coded v = taken-coded (category model item) v t fv in
-      same-test (ObserveAgree item time host v) (eqb (getD (row st (latestAt (ringSize st)) (items model) item 3) 2 0) (pack item v))
-      (eqValue (newest item (p .H) .value) v) (rw (G .rep .cap) (same-is item v hi hv))
+      same-test (ObserveAgree item time host v)
+      (repeats (category model item) (getD (row st (latestAt (ringSize st)) (items model) item 3) 2 0) (pack item v))
+      (sameValue (category model item) (newest item (p .H) .value) v)
+      (rw (G .rep .cap) (same-is (category model item) item v hi hv))
       (λ e. (refl, G))
       (λ e. record-agree item time host v hi hv (spent p) refl))
       (λ t. (refl, G)))

@@ -4,28 +4,15 @@ use Prim.Native.Nat.{ℕ, _+_}
 use mathlib.Core.Path.{refl}
 use mathlib.Core.List.{List, [], _∷_}
 use lib.ListN.{replicate}
-use Rattle.spec.specs.History.{Call}
-use Rattle.spec.specs.History.Output.{batched}
-use Rattle.spec.specs.declared.Record.{Record}
-use Rattle.spec.specs.declared.Answer.{Answer}
 use Rattle.spec.specs.declared.Answer.the-variants.{Done, Refused}
 use Rattle.spec.specs.declared.Refusal.the-variants.{Model, Store, Space, Batch}
 use Rattle.spec.proofs.Opened.{opened}
-use Rattle.spec.proofs.Fixtures.{Step, shows, StoresGive, BothGive, PlainGives, ToolsGive, BenchGives}
+use Rattle.spec.proofs.Fixtures.{at, gives-in, shows, StoresGive, BothGive, PlainGives, ToolsGive, BenchGives}
 use Rattle.spec.proofs.Fixtures.{plainModel, plainNames, noAssets, toolState}
-use Rattle.spec.proofs.Fixtures.Step.{_gives_}
-
--- item, time and the value's word
-abbrev at : ℕ → ℕ → ℕ → Record
-at item time value = record { item = item; time = time; value = value }
 
 -- the words of samples, in thousandths
 abbrev sample : ℕ → ℕ
 sample x = 4294967296 + x
-
--- a batch at host time 77 into a buffer of sevens
-abbrev gives-in : List Record → ℕ → Answer → List ℕ → Step
-gives-in rs words x ws = Call.batch rs 77 (replicate words 7) gives batched x ws
 
 -- ---- bounds
 

@@ -17,7 +17,7 @@ use Rattle.spec.specs.Text.Request.{sample, current, currentAt, assets, 
 use Rattle.spec.specs.Text.Reading.{unread, asked}
 use Rattle.spec.specs.Path.{select}
 use Rattle.spec.specs.Answers.{refusalNumber, observeWord, storeWord}
-use Rattle.spec.specs.History.{Call, Stores, Start, Window, storesStart, storesAfter, callOutputs, windowsOf}
+use Rattle.spec.specs.History.{Call, Stores, Start, Window, storesBehind, callOutputs, windowsOf}
 use Rattle.spec.specs.History.{Meets}
 use Rattle.spec.specs.History.Output.{observed, stored, returned}
 use Rattle.spec.specs.Bench.{benchStart, benchObserves, benchStores}
@@ -30,7 +30,7 @@ use Rattle.spec.specs.declared.Refusal.the-variants.{Spent, Asset}
 use Rattle.spec.specs.declared.ObserveAnswer.the-variants.{Recorded, Same, Refused as Unrecorded}
 use Rattle.spec.specs.declared.StoreAnswer.the-variants.{Stored, Refused as Unstored}
 use Rattle.spec.proofs.Opened.{opened}
-use Rattle.spec.proofs.Fixtures.{Step, callOf, shows, ToolsGive, cellsOf, toolModel, toolNames, toolStart}
+use Rattle.spec.proofs.Fixtures.{Step, callOf, shows, ToolsGive, cellsOf, toolStart}
 use Rattle.spec.proofs.Fixtures.{benchStore}
 use Rattle.spec.proofs.Fixtures.Step.{_gives_}
 
@@ -58,13 +58,15 @@ pub answer-words :
     ≡ 3 ∷ 0 ∷ 9223372036854775814 ∷ 2 ∷ 9223372036854775822 ∷ []
 answer-words = refl
 
--- by category: sample, event, condition, asset change
+-- by category: sample, event, condition, asset change, discrete event
 pub values-taken :
-    (map (takes 0) values ∷ map (takes 1) values ∷ map (takes 2) values ∷ map (takes 3) values ∷ [])
+    (map (takes 0) values ∷ map (takes 1) values ∷ map (takes 2) values ∷ map (takes 3) values ∷ map (takes 4) values
+    ∷ [])
     ≡ (true ∷ true ∷ false ∷ false ∷ false ∷ false ∷ false ∷ [])
     ∷ (true ∷ false ∷ true ∷ false ∷ false ∷ false ∷ false ∷ [])
     ∷ (true ∷ false ∷ false ∷ true ∷ false ∷ true ∷ false ∷ [])
-    ∷ (false ∷ false ∷ false ∷ false ∷ false ∷ false ∷ false ∷ []) ∷ []
+    ∷ (false ∷ false ∷ false ∷ false ∷ false ∷ false ∷ false ∷ [])
+    ∷ (true ∷ false ∷ true ∷ false ∷ false ∷ false ∷ false ∷ []) ∷ []
 values-taken = refl
 
 -- a value's word back: the lowest and the highest of each kind
@@ -80,9 +82,9 @@ words-decoded = refl
 
 -- the words beside them are no value's, and no item takes what they give
 pub words-refused :
-    map (λ w. map (λ c. takes c (decode w)) (0 ∷ 1 ∷ 2 ∷ 3 ∷ []))
+    map (λ w. map (λ c. takes c (decode w)) (0 ∷ 1 ∷ 2 ∷ 3 ∷ 4 ∷ []))
     (1 ∷ 4294967295 ∷ 12884901889 ∷ 12935233536 ∷ 17179869183 ∷ 17179869184 ∷ 18446744073709551615 ∷ [])
-    ≡ replicate 7 (replicate 4 false)
+    ≡ replicate 7 (replicate 5 false)
 unfolding opened
 words-refused = refl
 
@@ -105,11 +107,13 @@ Checks r ws = map (λ w. modelOk w (cellsOf (bytes "A" ∷ []))) ws ≡ replicat
 abbrev Names : Bool → List (List ℕ) → Type 0
 Names r ss = map namesOk ss ≡ replicate (length ss) r
 
--- the smallest, one with an asset change item, the largest; sizes of 0 and 65, other lengths; component 0 with
--- parent 1, a component its own parent, parents of 256 and 2^24 - 1, a name that isn't there; categories 4 and 256,
--- a component and a name that aren't there, two asset change items
+-- the smallest, one with an asset change item, two discrete items beside one, the largest; sizes of 0 and 65, other
+-- lengths; component 0 with parent 1, a component its own parent, parents of 256 and 2^24 - 1, a name that isn't
+-- there; categories 5 and 256, a component and a name that aren't there, two asset change items, with a discrete item
+-- between them too
 pub models-checked :
-    Checks true ((1 ∷ 1 ∷ 0 ∷ 0 ∷ []) ∷ (1 ∷ 2 ∷ 0 ∷ 0 ∷ 196608 ∷ []) ∷ (64 ∷ 64 ∷ replicate 128 0) ∷ [])
+    Checks true ((1 ∷ 1 ∷ 0 ∷ 0 ∷ []) ∷ (1 ∷ 2 ∷ 0 ∷ 0 ∷ 196608 ∷ []) ∷ (1 ∷ 3 ∷ 0 ∷ 262144 ∷ 196608 ∷ 262144 ∷ [])
+    ∷ (64 ∷ 64 ∷ replicate 128 0) ∷ [])
     × Checks false
     ([] ∷ (1 ∷ []) ∷ (0 ∷ 1 ∷ 0 ∷ []) ∷ (1 ∷ 0 ∷ 0 ∷ []) ∷ (65 ∷ 64 ∷ replicate 129 0) ∷ (64 ∷ 65 ∷ replicate 129 0)
     ∷ (1 ∷ 1 ∷ 0 ∷ []) ∷ (1 ∷ 1 ∷ 0 ∷ 0 ∷ 0 ∷ []) ∷ [])
@@ -117,8 +121,8 @@ pub models-checked :
     ((1 ∷ 1 ∷ 256 ∷ 0 ∷ []) ∷ (2 ∷ 1 ∷ 0 ∷ 256 ∷ 0 ∷ []) ∷ (1 ∷ 1 ∷ 65536 ∷ 0 ∷ []) ∷ (2 ∷ 1 ∷ 0 ∷ 65536 ∷ 0 ∷ [])
     ∷ (2 ∷ 1 ∷ 0 ∷ 4294967040 ∷ 0 ∷ []) ∷ (1 ∷ 1 ∷ 1 ∷ 0 ∷ []) ∷ [])
     × Checks false
-    ((1 ∷ 1 ∷ 0 ∷ 262144 ∷ []) ∷ (1 ∷ 1 ∷ 0 ∷ 16777216 ∷ []) ∷ (1 ∷ 1 ∷ 0 ∷ 256 ∷ []) ∷ (1 ∷ 1 ∷ 0 ∷ 1 ∷ [])
-    ∷ (1 ∷ 2 ∷ 0 ∷ 196608 ∷ 196608 ∷ []) ∷ [])
+    ((1 ∷ 1 ∷ 0 ∷ 327680 ∷ []) ∷ (1 ∷ 1 ∷ 0 ∷ 16777216 ∷ []) ∷ (1 ∷ 1 ∷ 0 ∷ 256 ∷ []) ∷ (1 ∷ 1 ∷ 0 ∷ 1 ∷ [])
+    ∷ (1 ∷ 2 ∷ 0 ∷ 196608 ∷ 196608 ∷ []) ∷ (1 ∷ 3 ∷ 0 ∷ 196608 ∷ 262144 ∷ 196608 ∷ []) ∷ [])
 unfolding opened
 models-checked = (refl, refl, refl, refl)
 
@@ -293,10 +297,7 @@ unfolding opened
 bench-words = refl
 
 abbrev toolStores : Stores
-toolStores =
-    let r = storesStart (toolStart 1) in
-    storesAfter toolModel toolNames (record { observations = r .observations; assets = r .assets })
-    (map callOf toolSteps)
+toolStores = storesBehind (toolStart 1) (map callOf toolSteps)
 
 -- behind the calls above: A and u; the id cells, b and then a; the body cells, the length in two bytes before each
 -- body

@@ -9,10 +9,12 @@ use Rattle.spec.specs.Bytes.{bytes, pad}
 use Rattle.spec.specs.Reference.{State, Observation}
 use Rattle.spec.specs.History.{Call, Output, Stores, Start, storesRun, referenceRun, storesOutputs}
 use Rattle.spec.specs.History.{referenceOutputs}
-use Rattle.spec.specs.History.Output.{started, stored, replied}
+use Rattle.spec.specs.History.Output.{started, batched, stored, replied}
 use Rattle.spec.specs.Bench.{benchModel, benchNames}
 use Rattle.spec.specs.declared.Value.the-variants.{Unavailable, Sample}
 use Rattle.spec.specs.declared.Refusal.{Refusal}
+use Rattle.spec.specs.declared.Record.{Record}
+use Rattle.spec.specs.declared.Answer.{Answer}
 use Rattle.spec.specs.declared.Answer.the-variants.{Done, Refused}
 use Rattle.spec.specs.declared.StoreAnswer.{StoreAnswer}
 
@@ -43,6 +45,14 @@ refuses = refusesIn 64
 abbrev pub stores : List ℕ → List ℕ → StoreAnswer → Step
 stores id content r = Call.storeAsset id content 10 gives stored r
 
+-- a record: item, time and the value's word
+abbrev pub at : ℕ → ℕ → ℕ → Record
+at item time value = record { item = item; time = time; value = value }
+
+-- a batch at host time 77 into a buffer of sevens
+abbrev pub gives-in : List Record → ℕ → Answer → List ℕ → Step
+gives-in rs words x ws = Call.batch rs 77 (replicate words 7) gives batched x ws
+
 -- the stores' calls give so, each over the stores that the one before left
 abbrev pub StoresGive : List ℕ → List ℕ → Stores → List Step → Type 0
 StoresGive model names s ss = storesRun model names s (map callOf ss) ≡ map outputOf ss
@@ -51,6 +61,12 @@ StoresGive model names s ss = storesRun model names s (map callOf ss) ≡ map ou
 abbrev pub BothGive : List ℕ → List ℕ → Stores → State → List Step → Type 0
 BothGive model names s p ss =
     StoresGive model names s ss × (referenceRun model names p (map callOf ss) ≡ map outputOf ss)
+
+-- both layers give so behind a start that is accepted, the reference model's from the state p
+abbrev pub StartGives : Start → State → List Step → Type 0
+StartGives a p ss =
+    (storesOutputs a (map callOf ss) ≡ (started (Done 0) ∷ []) ∷ map outputOf ss)
+    × (referenceOutputs a p (map callOf ss) ≡ (started (Done 0) ∷ []) ∷ map outputOf ss)
 
 -- ---- names
 
@@ -116,11 +132,8 @@ toolState B =
       T = [];
     }
 
--- behind an accepted start
 abbrev pub ToolsGive : ℕ → List Step → Type 0
-ToolsGive B ss =
-    (storesOutputs (toolStart B) (map callOf ss) ≡ (started (Done 0) ∷ []) ∷ map outputOf ss)
-    × (referenceOutputs (toolStart B) (toolState B) (map callOf ss) ≡ (started (Done 0) ∷ []) ∷ map outputOf ss)
+ToolsGive B = StartGives (toolStart B) (toolState B)
 
 -- ---- the bench case behind its observes: N 3, first 2, last 4
 

@@ -36,4 +36,5 @@ pub mod Bounds
 pub mod Orders
 pub mod Damaged
 pub mod Batches
+pub mod Discrete
 pub mod Refusals

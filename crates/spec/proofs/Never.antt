@@ -24,7 +24,7 @@ use Rattle.spec.specs.Path.{select}
 use Rattle.spec.specs.Answers.{refusalNumber, refusalWord, observeWord}
 use Rattle.spec.specs.Observations.{maxNumber}
 use Rattle.spec.specs.Reply.{Replied, over, observationWords, assetWords, written, observationReply, assetReply}
-use Rattle.spec.specs.Reference.{State, Offer, newest, eqValue, spent, firstOf, lastOf, outside, sampleStart}
+use Rattle.spec.specs.Reference.{State, Offer, newest, sameValue, spent, firstOf, lastOf, outside, sampleStart}
 use Rattle.spec.specs.Reference.{allHeld, observeAnswer, observeNext, offerNext, offersAnswers, batchAnswer}
 use Rattle.spec.specs.Reference.{offerOf, batchOffers, storeAnswer, sampleFor, currentFor, atFor, selected}
 use Rattle.spec.specs.Reference.{replyTo, replyReading, beginAnswer}
@@ -204,7 +204,7 @@ module _ (model names : List ℕ) where
       by-cond Sound (not (modelOk model names)) _ _ (λ h. refl)
       (λ h. by-cond Sound (leb (items model) item) _ _ (λ h. refl)
       (λ h. by-cond Sound (not (takes (category model item) v)) _ _ (λ h. refl)
-      (λ h. by-cond Sound (eqValue (newest item (p .H) .value) v) _ _ (λ h. tt)
+      (λ h. by-cond Sound (sameValue (category model item) (newest item (p .H) .value) v) _ _ (λ h. tt)
       (λ h. by-cond Sound (spent p) _ _ (λ h. refl)
       (λ h.
       let n : lastOf p ≢ maxNumber = eqb-false (lastOf p) maxNumber h in

@@ -3,7 +3,7 @@
 use Rattle.spec.specs.Words.{every, firstWhere, anyBelow, countBelow, pickRows, setOf, row, put}
 use Rattle.spec.specs.Bytes.{textByte, nameByte, idByte, all, same, before, joinFirst, split, digit, valueFrom}
 use Rattle.spec.specs.Bytes.{isNumber}
-use Rattle.spec.specs.Value.{decode}
+use Rattle.spec.specs.Value.{repeats, decode}
 use Rattle.spec.specs.Model.{letters, zeros, cellOk, namesOk, changeItem, sizesOk, componentOk, itemOk}
 use Rattle.spec.specs.Model.{componentsOk, itemsOk, changesOk, modelOk}
 use Rattle.spec.specs.Text.{uriOk, wordOf, slotOf, takesSlot, addPart, addParts, parameters, sampleRequest}
@@ -39,7 +39,7 @@ unfolding textByte nameByte idByte all same before joinFirst split digit valueFr
 openedBytes = tt
 
 unfoldable pub openedValue : Unit {0}
-unfolding decode
+unfolding repeats decode
 openedValue = tt
 
 unfoldable pub openedModel : Unit {0}

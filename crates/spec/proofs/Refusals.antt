@@ -4,10 +4,10 @@ use mathlib.Core.Bool.{_&&_}
 use Prim.Native.Nat.{ℕ, suc, _-_, _^_}
 use mathlib.Core.List.{List, [], _∷_}
 use lib.IntN.{pos}
-use lib.Dec.{leb, ltb, eqb}
+use lib.Dec.{leb, ltb}
 use lib.ListN.{length, getD, replicate}
 use Rattle.spec.specs.Bytes.{bytes}
-use Rattle.spec.specs.Value.{takes, pack}
+use Rattle.spec.specs.Value.{takes, repeats, pack}
 use Rattle.spec.specs.Model.{items, category, hasChange, modelOk}
 use Rattle.spec.specs.Text.{readText}
 use Rattle.spec.specs.Path.{select}
@@ -117,7 +117,9 @@ observe-keeps model names st item time host v =
     (λ a. by-cond (KeepsObserve st) (headOk (items model) st) _ _
     (λ b. by-cond (KeepsObserve st) (ltb item (items model)) _ _
     (λ c. by-cond (KeepsObserve st) (takes (category model item) v) _ _
-    (λ d. by-cond (KeepsObserve st) (eqb (getD (latestRow (ringSize st) (items model) st item) 2 0) (pack item v)) _ _ (λ e r q. refl)
+    (λ d. by-cond (KeepsObserve st)
+    (repeats (category model item) (getD (latestRow (ringSize st) (items model) st item) 2 0) (pack item v)) _ _
+    (λ e r q. refl)
     (λ e. observe-by (roomFor (items model) st) (items model) st item (timeOr time host) (pack item v)))
     (λ d r q. refl))
     (λ c r q. refl))

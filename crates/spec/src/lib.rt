@@ -8,6 +8,9 @@ pub const ITEM_SLOTS: usize = MAX_ITEMS as usize;
 
 pub const MAX_COMPONENTS: u64 = 64;
 
+// The category of a discrete event.
+pub const DISCRETE: u64 = 4;
+
 // Names: bytes of a cell, and cells.
 pub const NAME_BYTES: usize = 24;
 

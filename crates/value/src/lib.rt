@@ -1,7 +1,7 @@
 // The value of an observation: which an item takes, its packed word, and back.
 ghost use mathlib.Core.Path.{_≡_};
 ghost use Prim.Native.Nat.{_<_, _^_};
-ghost use Rattle.spec.specs.Value.{lowWord, levelNumber, valueWord, pack, itemOf, nativeOk, takes, repeats};
+ghost use Rattle.spec.specs.Value.{lowWord, levelNumber, valueWord, pack, itemOf, nativeOk, takes};
 ghost use Rattle.spec.specs.Value.{sampleOf, levelOf, decodeKind, decode};
 use spec::Level;
 use spec::Value;
@@ -74,18 +74,11 @@ pub fn takes(category: u64, v: Value) -> bool
     ensures { λ r. ⌜ r ≡ takes category v ⌝ }
 {
     match v {
-        Value::Unavailable => category < 3,
+        Value::Unavailable => category < 3 || category == spec::DISCRETE,
         Value::Sample(_) => category == 0,
-        Value::Event(_) => category == 1,
+        Value::Event(_) => category == 1 || category == spec::DISCRETE,
         Value::Condition(l, c) => category == 2 && native_ok(l, c),
     }
-}
-
-// Whether `word` repeats `latest`, the latest packed word of an item of the category.
-pub fn repeats(category: u64, latest: u64, word: u64) -> bool
-    ensures { λ r. ⌜ r ≡ repeats category latest word ⌝ }
-{
-    latest == word
 }
 
 // The sample that a low word stands for.

@@ -30,39 +30,34 @@ returns-2 c =
 pack-requires : tie.Need-pack-requires
 pack-requires c κs = search needs
 
-latest-word-requires : tie.Need-latest-word-requires
-latest-word-requires c κs =
+repeats-requires : tie.Need-repeats-requires
+repeats-requires c κs =
     let i = c .before .before .before .before .before .before .items .ensures in (
       head-of (i .0) _ (c .before .before .before .before .before .before .before .before .before .pre .1),
       (i .1, c .before .before .before .before .before .if1 .left),
     )
-
-repeats-requires : tie.Need-repeats-requires
-repeats-requires c κs = search needs
 
 same-length : tie.Need-same-length
 same-length c = search needs
 
 returns-3 : tie.Need-returns-3
 returns-3 c =
-    let t = c .before .before .before .before .before .before in
+    let t = c .before .before .before .before .before in
     rw
     (same-answered _ _ _ _ _ _
-    (c .before .before .before .before .before .before .before .before .before .items .ensures .0)
-    (c .before .before .before .before .before .before .before .before .if1 .left) _
-    (c .before .before .before .before .before .before .before .category .ensures)
-    (t .takes .ensures) (not-false _ (c .before .before .before .before .before .if2 .left)) _ _
-    (c .before .before .latest-word .ensures)
-    (c .before .before .before .before .pack .ensures) (c .before .repeats .ensures) (c .if3 .taken))
+    (c .before .before .before .before .before .before .before .before .items .ensures .0)
+    (c .before .before .before .before .before .before .before .if1 .left) _
+    (c .before .before .before .before .before .before .category .ensures)
+    (t .takes .ensures) (not-false _ (c .before .before .before .before .if2 .left)) _
+    (c .before .before .before .pack .ensures) (c .before .repeats .ensures) (c .if3 .taken))
     (refl, refl)
 
 record-requires : tie.Need-record-requires
 record-requires c κs =
-    let i = c .before .before .before .before .before .before .before .before .before .before .items .ensures in (
+    let i = c .before .before .before .before .before .before .before .before .before .items .ensures in (
       head-of (i .0) _
-          (c .before .before .before .before .before .before .before .before .before .before .before .before .before
-          .pre .1),
-      (i .1, c .before .before .before .before .before .before .before .before .before .if1 .left),
+          (c .before .before .before .before .before .before .before .before .before .before .before .before .pre .1),
+      (i .1, c .before .before .before .before .before .before .before .before .if1 .left),
     )
 
 same-length-2 : tie.Need-same-length-2
@@ -70,17 +65,16 @@ same-length-2 c = search needs
 
 returns-4 : tie.Need-returns-4
 returns-4 c =
-    let p = c .before .before .before .before .before .before .before .before in
-    let e = c .before .before .before .before .before .before .before .before .before .before .before .before in
+    let p = c .before .before .before .before .before .before .before in
+    let e = c .before .before .before .before .before .before .before .before .before .before .before in
     rw
     (number-needed _ _ _ _ _ _
-    (c .before .before .before .before .before .before .before .before .before .before .before .before .before .items
+    (c .before .before .before .before .before .before .before .before .before .before .before .before .items
     .ensures .0)
     (e .if1 .left) _
-    (c .before .before .before .before .before .before .before .before .before .before .before .category .ensures)
-    (c .before .before .before .before .before .before .before .before .before .before .takes .ensures)
-    (not-false _ (p .before .if2 .left)) _ _
-    (c .before .before .before .before .before .before .latest-word .ensures)
+    (c .before .before .before .before .before .before .before .before .before .before .category .ensures)
+    (c .before .before .before .before .before .before .before .before .before .takes .ensures)
+    (not-false _ (p .before .if2 .left)) _
     (p .pack .ensures) (c .before .before .before .before .before .repeats .ensures)
     (c .before .before .before .before .if3 .left))
     (c .before .before .record .ensures)
@@ -95,7 +89,6 @@ observe-item-spec =
     takes-requires
     returns-2
     pack-requires
-    latest-word-requires
     repeats-requires
     same-length
     returns-3
