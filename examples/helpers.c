@@ -1,14 +1,14 @@
 /* Tries every helper of mtcore.h, as C and as C++: what goes in comes out again, and what isn't there gives
- * nothing. So does a delivery, whose records are a struct that the header lays out. Prints the number of trials, or
- * the first that fails. */
+ * nothing. So does a delivery, whose records are a struct that the header lays out, and a discrete item counts its
+ * equal values. Prints the number of trials, or the first that fails. */
 #include <stdio.h>
 #include <string.h>
 
 #include "mtcore.h"
 
-enum { N = 4, A = 2, ITEMS = 4 };
+enum { N = 4, A = 2, ITEMS = 5 };
 
-static const char name_texts[][MTCORE_NAME] = {"Device", "EVENT", "SAMPLE", "CONDITION", "CHANGE"};
+static const char name_texts[][MTCORE_NAME] = {"Device", "EVENT", "SAMPLE", "CONDITION", "CHANGE", "PULSE"};
 static const uint8_t *const names = (const uint8_t *)name_texts[0];
 
 static const uint32_t model[] = {
@@ -19,6 +19,7 @@ static const uint32_t model[] = {
     MTCORE_DATA_ITEM(MTCORE_CATEGORY_SAMPLE, 0, 2),
     MTCORE_DATA_ITEM(MTCORE_CATEGORY_CONDITION, 0, 3),
     MTCORE_DATA_ITEM(MTCORE_CATEGORY_ASSET_CHANGE, 0, 4),
+    MTCORE_DATA_ITEM(MTCORE_CATEGORY_DISCRETE, 0, 5),
 };
 
 static uint64_t observations[MTCORE_OBSERVATION_WORDS(N, ITEMS)];
@@ -157,6 +158,44 @@ static void try_batch(void) {
     HOLDS(words[0] == before + 3 && words[1] == MTCORE_SAME && words[MTCORE_MAX_BATCH - 1] == MTCORE_SAME);
 }
 
+/* right behind start, whose Unavailable of item 4 is number ITEMS: it and every other value counts when equal, where an
+ * event item has Same */
+static void try_discrete(void) {
+    static mtcore_record pulses[MTCORE_MAX_BATCH];
+    static uint64_t words[MTCORE_MAX_BATCH];
+    uint64_t before = ITEMS + 4;
+    size_t counted = 0;
+    HOLDS(observe(0, MTCORE_UNAVAILABLE) == MTCORE_SAME && observe(4, MTCORE_UNAVAILABLE) == ITEMS + 1);
+    HOLDS(observe(4, mtcore_event(1)) == ITEMS + 2 && observe(4, mtcore_event(1)) == ITEMS + 3);
+    HOLDS(observe(4, mtcore_event(UINT32_MAX)) == before && mtcore_code_of(packed_of(4)) == UINT32_MAX);
+    HOLDS(mtcore_refusal_of(observe(4, mtcore_sample(1))) == MTCORE_KIND);
+    HOLDS(mtcore_refusal_of(observe(4, mtcore_condition(MTCORE_NORMAL, 0))) == MTCORE_KIND);
+    for (size_t i = 0; i < COUNT(pulses); i++) {
+        pulses[i].item = 4;
+        pulses[i].value = mtcore_event(1);
+    }
+    HOLDS(deliver(pulses, COUNT(pulses), words, COUNT(words)) == 0);
+    while (counted < COUNT(words) && words[counted] == before + 1 + counted)
+        counted++;
+    HOLDS(counted == COUNT(words) && mtcore_code_of(packed_of(4)) == 1);
+    HOLDS(mtcore_reply_row(reply, 4).number == before + counted && mtcore_reply_row(reply, 4).time == 9);
+}
+
+/* how start answers a model of two items of these categories, and no stores */
+static uint64_t start_with(uint32_t one, uint32_t other) {
+    const uint32_t two[] = {1, 2, MTCORE_COMPONENT(0, 0), MTCORE_DATA_ITEM(one, 0, 1), MTCORE_DATA_ITEM(other, 0, 2)};
+    return mtcore_start(two, COUNT(two), names, sizeof name_texts, NULL, 0, NULL, 0, N, A, 1, 6).number;
+}
+
+static void try_categories(void) {
+    for (uint32_t category = 0; category <= MTCORE_CATEGORY_DISCRETE; category++) {
+        int twice = category != MTCORE_CATEGORY_ASSET_CHANGE;
+        HOLDS(start_with(category, category) == (twice ? MTCORE_SIZE : MTCORE_MODEL));
+        HOLDS(start_with(category, MTCORE_CATEGORY_DISCRETE) == MTCORE_SIZE);
+    }
+    HOLDS(start_with(MTCORE_CATEGORY_DISCRETE, MTCORE_CATEGORY_DISCRETE + 1) == MTCORE_MODEL);
+}
+
 static void try_cells(void) {
     HOLDS(none(mtcore_cell_id(ASSETS, 0)) && none(mtcore_cell_body(ASSETS, 0)));
     HOLDS(store("T1", "drill") == 0 && store("T2345678901234567890123456789012", "tap") == 1);
@@ -198,6 +237,8 @@ static void try_words(void) {
 int main(void) {
     mtcore_answer r = mtcore_start(MODEL, observations, COUNT(observations), ASSETS, N, A, 1, 6);
     HOLDS(r.number == 0 && r.count == 0);
+    try_categories();
+    try_discrete();
     try_refusals();
     try_values();
     try_packed_ok();

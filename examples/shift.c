@@ -1,7 +1,7 @@
 /* A shift of a mill, replayed in a second: 06:00 to 14:00, a ring of 1,000, a scan every ten seconds that goes to the
- * core as one delivery, a tool changed, and three clients that poll at their own pace, one of them asleep until it is
- * late. Prints the shift's page. Everything that the core delivers is compared with a log of the whole shift, which a
- * box doesn't have. */
+ * core as one delivery, a pulse for each part, a tool changed, and three clients that poll at their own pace, one of
+ * them asleep until it is late. Prints the shift's page. Everything that the core delivers is compared with a log of
+ * the whole shift, which a box doesn't have. */
 #include <inttypes.h>
 #include <stdio.h>
 #include <string.h>
@@ -53,7 +53,7 @@ static const uint32_t model[] = {
     ITEM(SAMPLE, ROTARY, LOAD),
     ITEM(EVENT, PATH, EXECUTION),
     ITEM(EVENT, PATH, PROGRAM),
-    ITEM(EVENT, PATH, PART_COUNT),
+    ITEM(DISCRETE, PATH, PART_COUNT),
     ITEM(CONDITION, CONTROLLER, SYSTEM),
     ITEM(EVENT, COOLANT, POWER_STATE),
     ITEM(ASSET_CHANGE, DEVICE, ASSET_CHANGED),
@@ -213,11 +213,18 @@ static void read_axes(uint64_t time, int moves) {
     found(time, LOAD, mtcore_sample(moves ? 40000 + 500 * (int32_t)below(3) + (int32_t)(time / HOUR) * 2500 : 0));
 }
 
+static unsigned parts_made;
+
+/* the part counter's pulse: only where a part is done, since each one counts, although all have the code 1 */
+static void read_pulse(uint64_t time, enum execution now) {
+    if (time > 0 && execution_at(time - STEP) == ACTIVE && now == READY) {
+        parts_made++;
+        found(time, PART_COUNT, mtcore_event(1));
+    }
+}
+
 static void step(uint64_t time) {
-    static uint32_t parts;
     enum execution now = execution_at(time);
-    if (time > 0 && execution_at(time - STEP) == ACTIVE && now == READY)
-        parts++;
     found(time, AVAILABILITY, mtcore_event(1));
     found(time, POWER_STATE, mtcore_event(1));
     if (time == end_of_shift)
@@ -225,7 +232,7 @@ static void step(uint64_t time) {
     found(time, PROGRAM, mtcore_event(time < second_program ? 0 : 1));
     found(time, EXECUTION, mtcore_event(now));
     found(time, SYSTEM, system_at(time));
-    found(time, PART_COUNT, mtcore_event(parts));
+    read_pulse(time, now);
     read_axes(time, now == ACTIVE);
     deliver(time);
 }
@@ -295,7 +302,7 @@ static void add_up(mtcore_row row) {
         if (mtcore_kind_of(row.packed) == MTCORE_VALUE_EVENT && code < EXECUTIONS)
             seen.now = (enum execution)code;
         break;
-    case PART_COUNT: seen.parts = code; break;
+    case PART_COUNT: seen.parts += code; break;
     case ASSET_CHANGED: see_tool(row.packed); break;
     case SYSTEM:
         seen.warnings += mtcore_level_of(row.packed) == MTCORE_WARNING;
@@ -400,6 +407,7 @@ static void print_event(uint64_t item, uint32_t code) {
     case EXECUTION: printf("%s", word(executions, COUNT(executions), code)); break;
     case PROGRAM: printf("%s", word(programs, COUNT(programs), code)); break;
     case POWER_STATE: printf("%s", word(switches, COUNT(switches), code)); break;
+    case PART_COUNT: printf("%" PRIu32 " part", code); break;
     case ASSET_CHANGED: printf("cell %" PRIu32, code); break;
     default: printf("%" PRIu32, code); break;
     }
@@ -435,7 +443,8 @@ static void print_summary(void) {
     printf("Execution   ");
     for (size_t i = 0; i < EXECUTIONS; i++)
         print_hours(i > 0 ? (printf(", "), executions[i]) : executions[i], seen.in[i]);
-    printf("\nParts       %u\n", seen.parts);
+    agreed(seen.parts == parts_made);
+    printf("\nParts       %u, a pulse each\n", seen.parts);
     printf("Alarms      %u warning, %u fault\n", seen.warnings, seen.faults);
     printf("Tools       stored or changed %u times\n", seen.tools);
 }

@@ -42,7 +42,7 @@ extern "C" {
 /* MAJOR moves where a host has to look at its own code, MINOR where something was added: CHANGELOG.md. Header and
  * archive are taken from the same version; the archive does not hold a number of its own. */
 #define MTCORE_VERSION_MAJOR 1
-#define MTCORE_VERSION_MINOR 2
+#define MTCORE_VERSION_MINOR 3
 
 /* Moves where the form of a store or of the model does. Saved stores outlive a version: save this number beside
  * them, and start anew where it differs, since refusal 2 need not see another form. */
@@ -69,8 +69,8 @@ enum mtcore_refusal {
     MTCORE_BATCH = 16            /* more records than one delivery may have */
 };
 
-/* The words of mtcore_observe, of mtcore_store_asset and of a delivery's answers: 0 is Same, bit 63 marks a
- * refusal. */
+/* The words of mtcore_observe, of mtcore_store_asset and of a delivery's answers: bit 63 marks a refusal. Of an
+ * observation 0 is Same, which a discrete item never gets. */
 #define MTCORE_SAME UINT64_C(0)
 #define MTCORE_REFUSED (UINT64_C(1) << 63)
 
@@ -217,15 +217,19 @@ static inline int mtcore_packed_ok(uint64_t m, uint64_t packed) {
 /* parent * 256 + name: component 0 is its own parent, and all others stand behind theirs */
 #define MTCORE_COMPONENT(parent, name) ((uint32_t)((parent)*UINT32_C(256) + (name)))
 
-/* category * 65536 + component * 256 + name; at most one item has category MTCORE_CATEGORY_ASSET_CHANGE */
+/* category * 65536 + component * 256 + name; at most one item has category MTCORE_CATEGORY_ASSET_CHANGE, any number
+ * each of the others */
 #define MTCORE_DATA_ITEM(category, component, name) \
     ((uint32_t)((category)*UINT32_C(65536) + (component)*UINT32_C(256) + (name)))
 
+/* What an item reports. A discrete item takes events, as one of category MTCORE_CATEGORY_EVENT does, but each counts
+ * even when equal, and takes a number and a ring entry: docs/HOST.md, "Categories", says what to model so. */
 enum mtcore_category {
-    MTCORE_CATEGORY_SAMPLE = 0,
-    MTCORE_CATEGORY_EVENT = 1,
-    MTCORE_CATEGORY_CONDITION = 2,
-    MTCORE_CATEGORY_ASSET_CHANGE = 3
+    MTCORE_CATEGORY_SAMPLE = 0,       /* a measured value */
+    MTCORE_CATEGORY_EVENT = 1,        /* a state, by its code */
+    MTCORE_CATEGORY_CONDITION = 2,    /* a condition: a level and a native code */
+    MTCORE_CATEGORY_ASSET_CHANGE = 3, /* a stored asset, by its cell: mtcore_store_asset alone writes it */
+    MTCORE_CATEGORY_DISCRETE = 4      /* something that happens: a part counter's pulse, a message, a bar end */
 };
 
 /* The type name of an item, at most MTCORE_NAME bytes and behind a shorter one zeros: print it with %.24s. An empty
@@ -390,15 +394,16 @@ mtcore_answer mtcore_start(const uint32_t *model, size_t model_len, const uint8_
                            uint64_t n, uint64_t a, uint64_t b, uint64_t host);
 
 /*
- * Records an observation of an item, unless the item's newest observation has this value already.
+ * Records an observation of an item, unless the item's newest observation has this value already. Of a discrete item
+ * each is recorded, an equal Unavailable too.
  *
  * Takes: item 0 to m - 1; time, or 0 where it is missing: then `host` is used (times need not rise); value, made by
  * MTCORE_UNAVAILABLE, mtcore_sample, mtcore_event or mtcore_condition. An item takes Unavailable or its category's
- * kind; an asset change item takes nothing here.
+ * kind, a discrete item events; an asset change item takes nothing here.
  * Gives: the observation's sequence number, or MTCORE_SAME where nothing was added, the time neither; or
  * MTCORE_REFUSED + the refusal.
- * Refuses, in this order: MTCORE_MODEL, MTCORE_STORE, MTCORE_ITEM, MTCORE_KIND, (Same,) MTCORE_SPENT, MTCORE_STORE
- * (the entry about to be overwritten is damaged).
+ * Refuses, in this order: MTCORE_MODEL, MTCORE_STORE, MTCORE_ITEM, MTCORE_KIND, (Same, unless discrete,) MTCORE_SPENT,
+ * MTCORE_STORE (the entry about to be overwritten is damaged).
  */
 uint64_t mtcore_observe(const uint32_t *model, size_t model_len, const uint8_t *names, size_t names_len,
                         uint64_t *observations, size_t observations_len,
@@ -415,8 +420,8 @@ uint64_t mtcore_observe(const uint32_t *model, size_t model_len, const uint8_t *
  * word, and mtcore_refusal_of says of each word whether it is a refusal.
  * Refuses, in this order: MTCORE_MODEL, MTCORE_STORE (the head), MTCORE_BATCH, MTCORE_SPACE (fewer answers than
  * records). No record is observed then, and no word is written.
- * In a word, in this order: MTCORE_ITEM, MTCORE_KIND, (Same,) MTCORE_SPENT, MTCORE_STORE (the entry about to be
- * overwritten is damaged).
+ * In a word, in this order: MTCORE_ITEM, MTCORE_KIND, (Same, unless discrete,) MTCORE_SPENT, MTCORE_STORE (the entry
+ * about to be overwritten is damaged).
  */
 mtcore_answer mtcore_observe_batch(const uint32_t *model, size_t model_len, const uint8_t *names, size_t names_len,
                                    uint64_t *observations, size_t observations_len,

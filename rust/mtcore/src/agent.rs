@@ -193,7 +193,8 @@ where
         calls::start(model, names, self.observations.as_mut(), self.assets.as_mut(), sizes, host)
     }
 
-    /// Records a value of an item, unless it equals the item's newest; see [`observe`](crate::observe).
+    /// Records a value of an item, an equal one only where the item is discrete; see
+    /// [`observe`](crate::observe).
     ///
     /// # Errors
     ///

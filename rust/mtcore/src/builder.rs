@@ -224,6 +224,24 @@ mod tests {
         assert_eq!(build.finish().unwrap().words(), [1, 2, 0, 196_609, 65_538]);
     }
 
+    /// Of discrete items there may be several, also beside an asset change item.
+    #[test]
+    fn discrete_items_are_not_counted() {
+        let (mut words, mut names) = ([0; model_words(1, 4)], [0; name_bytes(4)]);
+        let mut build = ModelBuilder::new(&mut words, &mut names, "Device").unwrap();
+        for (item, category, name) in [
+            (0, Category::Discrete, "PART_COUNT"),
+            (1, Category::AssetChange, "CHANGED"),
+            (2, Category::Discrete, "MESSAGE"),
+            (3, Category::Discrete, "MESSAGE"),
+        ] {
+            assert_eq!(build.item(Component(0), category, name), Ok(item));
+        }
+        let model = build.finish().unwrap();
+        assert_eq!(model.words(), [1, 4, 0, 262_145, 196_610, 262_147, 262_147]);
+        assert_eq!((model.category(3), model.asset_change()), (Some(Category::Discrete), Some(1)));
+    }
+
     #[test]
     fn short_buffers() {
         let (mut words, mut names) = ([0; 8], [0; 47]);

@@ -7,7 +7,8 @@ use crate::{ffi, Answers, Record, Refusal, Sizes, Value};
 pub enum Observed {
     /// Recorded under this number.
     Recorded(u64),
-    /// Equal to the item's newest value: nothing was recorded, the time neither.
+    /// Equal to the item's newest value: nothing was recorded, the time neither. Not given for a
+    /// [discrete](crate::Category::Discrete) item.
     Same,
 }
 
@@ -54,15 +55,17 @@ pub fn start(
     done(ffi::start(model, names, observations, assets, places, cells, origin, host)).map(|_| ())
 }
 
-/// Records a value of an item, unless it equals the item's newest.
+/// Records a value of an item, unless it equals the item's newest. Of a
+/// [discrete](crate::Category::Discrete) item every value is recorded, an equal one too.
 ///
 /// `time` is the source's, in milliseconds since 1970-01-01T00:00:00Z; 0 means that it gave none, and
 /// then the host's time is used. Times need not rise: observations are ordered by their numbers.
 ///
 /// # Errors
 ///
-/// In this order: [`Refusal::Model`], [`Refusal::Store`], [`Refusal::Item`], [`Refusal::Kind`], (Same,)
-/// [`Refusal::Spent`], [`Refusal::Store`] (the ring entry about to be overwritten is damaged).
+/// In this order: [`Refusal::Model`], [`Refusal::Store`], [`Refusal::Item`], [`Refusal::Kind`], (Same,
+/// unless discrete,) [`Refusal::Spent`], [`Refusal::Store`] (the ring entry about to be overwritten is
+/// damaged).
 ///
 /// ```
 /// # let (model, names) = ([1, 1, 0, 131_072], mtcore::names(["SYSTEM"]).unwrap());
@@ -79,6 +82,27 @@ pub fn start(
 /// assert_eq!(observe(Value::Condition(Level::Fault, 1 << 24)), Err(Refusal::Kind));
 /// assert_eq!(observe(Value::Condition(Level::Normal, 7)), Err(Refusal::Kind));
 /// assert_eq!(observe(Value::Condition(Level::Normal, 0)), Ok(Observed::Recorded(3)));
+/// ```
+///
+/// A part counter's pulse has the same code each time, and each one is a part:
+///
+/// ```
+/// use mtcore::{Category, Component, ModelBuilder, Observed, Sizes, Value};
+/// let (mut words, mut names) = ([0; mtcore::model_words(1, 1)], [0; mtcore::name_bytes(2)]);
+/// let mut build = ModelBuilder::new(&mut words, &mut names, "Device")?;
+/// let pulse = build.item(Component::DEVICE, Category::Discrete, "PART_COUNT")?;
+/// let model = build.finish()?;
+/// # let (model, names) = (model.words(), model.names());
+/// # let sizes = Sizes { places: 100, cells: 1, origin: 1 };
+/// # let mut observations = [0; mtcore::observation_words(100, 1)];
+/// # let mut assets = [0; mtcore::asset_bytes(1)];
+/// # mtcore::start(model, names, &mut observations, &mut assets, sizes, 1)?;
+/// // Start has recorded number 1.
+/// for (number, time) in [(2, 60_000), (3, 120_000), (4, 180_000)] {
+///     let part = mtcore::observe(model, names, &mut observations, pulse, time, time, Value::Event(1))?;
+///     assert_eq!(part, Observed::Recorded(number));
+/// }
+/// # Ok::<(), Box<dyn std::error::Error>>(())
 /// ```
 pub fn observe(
     model: &[u32],
@@ -105,8 +129,8 @@ pub fn observe(
 /// In this order: [`Refusal::Model`], [`Refusal::Store`] (the head), [`Refusal::Batch`] (more than
 /// [`MAX_BATCH`](crate::MAX_BATCH) records), [`Refusal::Space`]. Nothing is recorded or written then.
 ///
-/// An answer is one of [`observe`]'s: in this order [`Refusal::Item`], [`Refusal::Kind`], (Same,)
-/// [`Refusal::Spent`], [`Refusal::Store`] (the ring entry about to be overwritten is damaged).
+/// An answer is one of [`observe`]'s: in this order [`Refusal::Item`], [`Refusal::Kind`], (Same, unless
+/// discrete,) [`Refusal::Spent`], [`Refusal::Store`] (the ring entry about to be overwritten is damaged).
 ///
 /// (Where an archive of another version counts more answers than there are words: [`Refusal::Unknown`]
 /// with number 0.)

@@ -129,7 +129,8 @@
 //! * [`request`] says what each request text means, with examples.
 //! * [`Reply`], [`Observations`] and [`Assets`] take a reply apart; [`cell_id`] and [`cell_body`] lead from
 //!   an asset reply's cell to its tool.
-//! * [`Value`] says what can be recorded, [`Refusal`] why a call did not do what it was asked.
+//! * [`Value`] says what can be recorded, [`Category`] of which item and when it counts, [`Refusal`] why a
+//!   call did not do what it was asked.
 //!
 //! # What to reserve
 //!

@@ -11,18 +11,27 @@ use core::fmt;
 pub enum Category {
     /// A measured value: takes [`Value::Sample`].
     Sample = 0,
-    /// A state or a message, by its code: takes [`Value::Event`].
+    /// A state, by its code: takes [`Value::Event`].
     Event = 1,
     /// A condition: takes [`Value::Condition`]. One condition stands at a time.
     Condition = 2,
     /// The event of a stored asset, its code the cell. [`store_asset`](crate::store_asset) writes it and
     /// `observe` never; a model has at most one such item.
     AssetChange = 3,
+    /// Something that happens rather than stands: a part counter's pulse, a message, a bar end. It takes
+    /// [`Value::Event`], and each one counts: it is recorded even where it equals the one before, an
+    /// Unavailable too, and is never [`Same`](crate::Observed::Same). So each takes a number and a ring
+    /// entry, and only what has happened is observed. A state is an [`Event`](Category::Event): repeating it
+    /// costs no entry. A model has any number of such items.
+    ///
+    /// A data item that MTConnect calls `representation="DISCRETE"` is one. Part 1 of version 1.2 has no
+    /// such items yet.
+    Discrete = 4,
 }
 
 impl Category {
-    const ALL: [Category; 4] =
-        [Category::Sample, Category::Event, Category::Condition, Category::AssetChange];
+    const ALL: [Category; 5] =
+        [Category::Sample, Category::Event, Category::Condition, Category::AssetChange, Category::Discrete];
 
     /// Whether an observation of such an item can have this value: Unavailable, or the category's own kind.
     ///
@@ -31,12 +40,13 @@ impl Category {
     /// assert!(Category::Sample.holds(Value::Sample(5)));
     /// assert!(!Category::Sample.holds(Value::Event(5)));
     /// assert!(!Category::Condition.holds(Value::Condition(Level::Normal, 5)));
+    /// assert!(Category::Discrete.holds(Value::Event(5)));
     /// ```
     pub const fn holds(self, value: Value) -> bool {
         match (self, value) {
             (_, Value::Unavailable) => true,
             (Category::Sample, Value::Sample(_)) => true,
-            (Category::Event | Category::AssetChange, Value::Event(_)) => true,
+            (Category::Event | Category::AssetChange | Category::Discrete, Value::Event(_)) => true,
             (Category::Condition, Value::Condition(Level::Normal, code)) => code == 0,
             (Category::Condition, Value::Condition(_, code)) => code < 1 << 24,
             _ => false,
@@ -430,12 +440,15 @@ mod tests {
         assert_eq!(fault(&[1, 1, 256, 2]), ModelError::Parent(0));
         assert_eq!(fault(&[2, 1, 0, 257, 2]), ModelError::Parent(1));
         assert_eq!(fault(&[2, 1, 0, 3, 2]), ModelError::ComponentName(1));
-        assert_eq!(fault(&[1, 1, 0, 4 * 65_536 + 2]), ModelError::Category(0));
+        assert_eq!(fault(&[1, 1, 0, 5 * 65_536 + 2]), ModelError::Category(0));
         assert_eq!(fault(&[1, 1, 0, u32::MAX]), ModelError::Category(0));
         assert_eq!(fault(&[1, 1, 0, 256 + 2]), ModelError::ItemComponent(0));
         assert_eq!(fault(&[1, 1, 0, 3]), ModelError::ItemName(0));
         let change = 3 * 65_536;
         assert_eq!(fault(&[1, 3, 0, change, 0, change]), ModelError::SecondAssetChange(2));
+        let discrete = 4 * 65_536;
+        assert!(Model::new([1, 4, 0, discrete, change, discrete, discrete], cells).is_ok());
+        assert_eq!(fault(&[1, 3, 0, change, discrete, change]), ModelError::SecondAssetChange(2));
         assert_eq!(fault(&[1, 1, 256, 2]).to_string(), "component 0's parent does not stand before it");
     }
 
@@ -498,12 +511,14 @@ mod tests {
     #[test]
     fn rows_that_a_store_of_this_model_has() {
         let names = names(["A"]).unwrap();
-        let model = Model::new([1, 4, 0, 0, 1 << 16, 2 << 16, 3 << 16], names.as_flattened()).unwrap();
-        let good = [Value::Sample(-5), Value::Event(9), Value::Condition(Level::Fault, 3), Value::Event(1)];
-        for item in 0..5 {
+        let words = [1, 5, 0, 0, 1 << 16, 2 << 16, 3 << 16, 4 << 16];
+        let model = Model::new(words, names.as_flattened()).unwrap();
+        let fault = Value::Condition(Level::Fault, 3);
+        let good = [Value::Sample(-5), Value::Event(9), fault, Value::Event(1), Value::Event(7)];
+        for item in 0..6 {
             for (kind, value) in good.into_iter().enumerate() {
                 let row = Row { number: 1, time: 1, packed: ((item as u64) << 40) + value.word() };
-                let fits = item < 4 && good[item % 4].word() >> 32 == value.word() >> 32;
+                let fits = item < 5 && good[item % 5].word() >> 32 == value.word() >> 32;
                 assert_eq!(model.checked(row), fits.then_some((item, value)), "{item} {kind}");
             }
         }

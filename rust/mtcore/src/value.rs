@@ -24,8 +24,9 @@ pub enum Value {
     /// An event's code. Texts, as of PROGRAM or MESSAGE, need a table of the host's from codes to texts. The
     /// table outlives the ring: an item's newest value and its last one from before the ring keep a code
     /// that no row of the ring has any more, so a code is never given to another text while the stores live,
-    /// and the table is saved with them. A message that repeats is Same if it has the same code; where each
-    /// one counts, each gets a code of its own. The code of an asset change item is a cell.
+    /// and the table is saved with them. A code that repeats is Same, unless the item is
+    /// [discrete](crate::Category::Discrete): there each one counts. The code of an asset change item is a
+    /// cell.
     Event(u32),
     /// A condition's level with its native code below 2^24, which is 0 for [`Level::Normal`]. Any other
     /// code is refused as [`Refusal::Kind`](crate::Refusal::Kind). One condition stands for each item, so

@@ -11,19 +11,22 @@ use mtcore::{
 
 const PLACES: usize = 7;
 const CELLS: usize = 3;
-const ITEMS: usize = 4;
+const ITEMS: usize = 5;
+const EVENT: u64 = 0;
+const DISCRETE: u64 = 4;
 const SIZES: Sizes = Sizes { places: PLACES as u64, cells: CELLS as u64, origin: 5 };
 
 type Owned = Model<Vec<u32>, Vec<u8>>;
 
 fn model() -> Owned {
-    let (mut words, mut names) = ([0; mtcore::model_words(2, ITEMS)], [0; mtcore::name_bytes(6)]);
+    let (mut words, mut names) = ([0; mtcore::model_words(2, ITEMS)], [0; mtcore::name_bytes(7)]);
     let mut build = ModelBuilder::new(&mut words, &mut names, "Device").unwrap();
     let axes = build.component(Component::DEVICE, "Axes").unwrap();
     build.item(Component::DEVICE, Category::Event, "AVAILABILITY").unwrap();
     build.item(axes, Category::Sample, "POSITION").unwrap();
     build.item(axes, Category::Condition, "OVERTRAVEL").unwrap();
     build.item(Component::DEVICE, Category::AssetChange, "ASSET_CHANGED").unwrap();
+    build.item(Component::DEVICE, Category::Discrete, "MESSAGE").unwrap();
     let model = build.finish().unwrap();
     Model::new(model.words().to_vec(), model.names().to_vec()).unwrap()
 }
@@ -74,7 +77,7 @@ fn agent_and_plain_functions_agree() {
     for step in 10..4000 {
         match rng.below(3) {
             0 => {
-                let (item, time, value) = (rng.below(5), rng.below(2) * step, value(&mut rng));
+                let (item, time, value) = (rng.below(6), rng.below(2) * step, value(&mut rng));
                 let plain = mtcore::observe(&words, &names, &mut observations, item, time, step, value);
                 assert_eq!(agent.observe(item, time, step, value), plain);
             }
@@ -115,7 +118,7 @@ fn deliveries_are_their_single_observes() {
         let record = |rng: &mut Rng| {
             let time = rng.below(2) * rng.below(1000);
             let word = if rng.below(20) == 0 { rng.next() } else { value(rng).word() };
-            Record { item: rng.below(5), time, value: word }
+            Record { item: rng.below(6), time, value: word }
         };
         let records: Vec<_> = (0..length).map(|_| record(&mut rng)).collect();
         let room = (length + rng.below(4) as usize).saturating_sub(1);
@@ -183,22 +186,24 @@ fn deliveries_are_refused_in_order() {
     assert_eq!(deliver(right, &observations, &none, 0), (Ok(0), observations.clone(), vec![]));
     assert_eq!(deliver(right, &observations, &none, 2), (Ok(0), observations.clone(), vec![3, 3]));
     let (given, store, answers) = deliver(right, &observations, &most, MAX_BATCH);
-    assert_eq!((given, store[3], answers[0]), (Ok(MAX_BATCH), 9, 9));
+    assert_eq!((given, store[3], answers[0]), (Ok(MAX_BATCH), 10, 10));
     assert!(answers[1..].iter().all(|&word| word == 0));
 }
 
-/// Numbers run out inside a delivery: what is the same as before is still Same, the rest is spent.
+/// Numbers run out inside a delivery: what is the same as before is still Same, the rest is spent, an
+/// Unavailable of a discrete item too.
 #[test]
 fn numbers_run_out_inside_a_delivery() {
     let last = (1 << 63) - 1;
     let (o, a) = stores();
     let sizes = Sizes { origin: last - ITEMS as u64, ..SIZES };
     let mut agent = Agent::start(model(), o, a, sizes, 9).unwrap();
-    let records = [4, 4, 5, 4].map(|thousandths| Record::new(1, 0, Value::Sample(thousandths)));
-    let mut words = [0; 4];
+    let mut records = [4, 4, 5, 4].map(|thousandths| Record::new(1, 0, Value::Sample(thousandths))).to_vec();
+    records.extend([EVENT, DISCRETE].map(|item| Record::new(item, 0, Value::Unavailable)));
+    let mut words = [0; 6];
     let answers = agent.observe_batch(&records, 10, &mut words).unwrap();
-    let expected =
-        [Ok(Observed::Recorded(last)), Ok(Observed::Same), Err(Refusal::Spent), Ok(Observed::Same)];
+    let (same, spent) = (Ok(Observed::Same), Err(Refusal::Spent));
+    let expected = [Ok(Observed::Recorded(last)), same, spent, same, same, spent];
     assert_eq!(answers.iter().collect::<Vec<_>>(), expected);
 }
 
@@ -222,6 +227,61 @@ fn categories_hold_what_is_taken() {
     assert!(Category::AssetChange.holds(Value::Event(2)) && !Category::AssetChange.holds(Value::Sample(2)));
 }
 
+/// Each observation of a discrete item takes a number, whatever it equals; an event item's is Same.
+#[test]
+fn discrete_events_count_when_equal() {
+    let (o, a) = stores();
+    let mut agent = Agent::start(model(), o, a, SIZES, 9).unwrap();
+    let none = Value::Unavailable;
+    let values = [none, none, Value::Event(7), Value::Event(7), Value::Event(7), Value::Event(0), none, none];
+    // Of the event item only a change is recorded; start's own Unavailable is the first value.
+    let mut next = SIZES.origin + ITEMS as u64;
+    let mut number = || {
+        next += 1;
+        Ok(Observed::Recorded(next - 1))
+    };
+    let mut newest = none;
+    for value in values {
+        assert_eq!(agent.observe(DISCRETE, 0, 10, value), number(), "{value:?}");
+        let expected = if value == newest { Ok(Observed::Same) } else { number() };
+        assert_eq!(agent.observe(EVENT, 0, 10, value), expected, "{value:?}");
+        newest = value;
+    }
+    for other in [Value::Sample(7), Value::Condition(Level::Normal, 0)] {
+        assert_eq!(agent.observe(DISCRETE, 0, 10, other), Err(Refusal::Kind));
+    }
+}
+
+/// The same in deliveries: as many equal records as there may be take as many numbers and leave no other
+/// in the ring, and the last of them is the item's newest.
+#[test]
+fn deliveries_of_equal_discrete_events() {
+    let (o, a) = stores();
+    let mut agent = Agent::start(model(), o, a, SIZES, 9).unwrap();
+    let mut words = [0; MAX_BATCH];
+    let mut last = agent.observations()[3];
+    for value in [Value::Unavailable, Value::Event(1), Value::Event(1), Value::Unavailable] {
+        let answers =
+            agent.observe_batch(&[Record::new(DISCRETE, 20, value); MAX_BATCH], 30, &mut words).unwrap();
+        assert!(answers.iter().eq((last + 1..).take(MAX_BATCH).map(|number| Ok(Observed::Recorded(number)))));
+        last += MAX_BATCH as u64;
+        let mut reply = [0; 40];
+        let Ok(Reply::Observations(sample)) = agent.request(b"/sample", &mut reply) else {
+            panic!("sample is answered");
+        };
+        assert_eq!((sample.len(), sample.last), (PLACES, last));
+        assert!(sample.rows().all(|row| agent.model().checked(row) == Some((DISCRETE as usize, value))));
+        let Ok(Reply::Observations(current)) = agent.request(b"/current", &mut reply) else {
+            panic!("current is answered");
+        };
+        assert_eq!(current.row(DISCRETE as usize).map(|row| row.number), Some(last));
+    }
+    let event = [Record::new(EVENT, 20, Value::Event(1)); MAX_BATCH];
+    let answers = agent.observe_batch(&event, 30, &mut words).unwrap();
+    assert_eq!(answers.get(0), Some(Ok(Observed::Recorded(last + 1))));
+    assert!(answers.iter().skip(1).all(|answer| answer == Ok(Observed::Same)));
+}
+
 /// Refusal 2 does not see these words of a store; the check of a row does.
 #[test]
 fn rows_that_only_their_check_sees() {
@@ -235,7 +295,7 @@ fn rows_that_only_their_check_sees() {
         ("/sample", ring, 1 << 32), // a sample of an event item
         ("/sample", ring, 9 << 32), // no kind
         ("/sample", ring, (2 << 40) + (3 << 32) + (7 << 24)), // no level
-        ("/current", latest, 4 << 40), // no item
+        ("/current", latest, 5 << 40), // no item
         ("/current", latest, u64::MAX),
     ] {
         let mut damaged = good.clone();
@@ -308,7 +368,7 @@ fn lent_and_owned_buffers() {
         panic!("current is answered");
     };
     let row = read.row(0).unwrap();
-    assert_eq!((row.number, row.time), (9, 10));
+    assert_eq!((row.number, row.time), (10, 10));
     assert_eq!(second.model().checked(row), Some((1, Value::Sample(7))));
 
     second.restart(SIZES, 20).unwrap();

@@ -38,10 +38,14 @@ fn refusals() {
 
 #[test]
 fn categories_and_levels() {
-    for category in [Category::Sample, Category::Event, Category::Condition, Category::AssetChange] {
+    let categories =
+        [Category::Sample, Category::Event, Category::Condition, Category::AssetChange, Category::Discrete];
+    for category in categories {
         let name = c_name(&format!("{category:?}")).replacen("MTCORE", "MTCORE_CATEGORY", 1);
         assert_eq!(number(&name), category as u64);
     }
+    let body = HEADER.split_once("enum mtcore_category {").unwrap().1.split_once("};").unwrap().0;
+    assert_eq!(body.matches(" = ").count(), categories.len(), "a category of the header has no name here");
     for level in [Level::Normal, Level::Warning, Level::Fault] {
         assert_eq!(number(&c_name(&format!("{level:?}"))), level as u64);
     }

@@ -1,4 +1,4 @@
-//! docs/HOST.md and the crate say the same: its table of requests, and its table of refusals.
+//! docs/HOST.md and the crate say the same: its tables of categories, of requests and of refusals.
 
 use mtcore::{
     Agent, AssetRow, Category, Component, Level, Model, ModelBuilder, Refusal, Reply, Row, Sizes, Value,
@@ -100,6 +100,50 @@ fn requests_are_answered_as_the_page_says() {
         }
         let text = row[0].trim_matches('`');
         assert_eq!(asked(&mill, text), row[1..], "{text}");
+    }
+}
+
+/// A device with one item of this category.
+fn one_item(category: Category) -> Mill {
+    let names = mtcore::names(["Device"]).unwrap().as_flattened().to_vec();
+    let words = vec![1, 1, 0, mtcore::item_word(category, Component::DEVICE, 0)];
+    let (observations, assets) =
+        (vec![0; mtcore::observation_words(PLACES, 1)], vec![0; mtcore::asset_bytes(CELLS)]);
+    let sizes = Sizes { places: PLACES as u64, cells: CELLS as u64, origin: 1 };
+    Agent::start(Model::new(words, names).unwrap(), observations, assets, sizes, 1000).unwrap()
+}
+
+const KINDS: [(&str, Value); 3] = [
+    ("samples", Value::Sample(5)),
+    ("events", Value::Event(5)),
+    ("conditions", Value::Condition(Level::Fault, 5)),
+];
+
+/// Gives the item its value once more, and tells the newest number.
+fn repeat(mill: &mut Mill) -> u64 {
+    for (_, value) in KINDS {
+        assert!(matches!(mill.observe(0, 0, 1001, value), Ok(_) | Err(Refusal::Kind)));
+    }
+    mill.store_asset(b"T17", b"drill, 8 mm", 1002).unwrap();
+    mill.observations()[3]
+}
+
+#[test]
+fn categories_are_as_the_page_says() {
+    let categories =
+        [Category::Sample, Category::Event, Category::Condition, Category::AssetChange, Category::Discrete];
+    let rows = table("| category |");
+    assert_eq!(rows.len(), categories.len());
+    for (row, category) in rows.into_iter().zip(categories) {
+        assert_eq!(row[0], (category as u8).to_string());
+        assert!(row[1].ends_with(&format!("{category:?}`")), "{row:?}");
+        let mut mill = one_item(category);
+        for (kind, value) in KINDS {
+            assert_eq!(mill.observe(0, 0, 1001, value).is_ok(), row[3] == kind, "{row:?}");
+        }
+        let before = repeat(&mut mill);
+        let equal = if repeat(&mut mill) > before { "recorded" } else { "Same" };
+        assert_eq!(row[4], equal, "{row:?}");
     }
 }
 

@@ -28,7 +28,7 @@ fn sound(rng: &mut Rng, most: u64) -> (Vec<u32>, Vec<u8>) {
     words.extend((0..c).map(|place| (rng.below(place.max(1)) * 256 + rng.below(cells as u64)) as u32));
     let change = rng.below(2 * m);
     words.extend((0..m).map(|item| {
-        let category = if item == change { 3 } else { rng.below(3) };
+        let category = if item == change { 3 } else { rng.pick(&[0, 1, 2, 4]) };
         (category * 65_536 + rng.below(c) * 256 + rng.below(cells as u64)) as u32
     }));
     let mut names = vec![0; 24 * cells];
@@ -121,6 +121,25 @@ fn sizes_at_their_bounds() {
     assert!(!compare(&[u32::MAX, u32::MAX], &one) && !compare(&[u32::MAX, 1, 0, 0], &one));
 }
 
+/// Categories go to 4, and of 3 alone there is at most one item.
+#[test]
+fn categories_at_their_bounds() {
+    let one = [b'A'; 24];
+    for category in 0..65_536 {
+        assert_eq!(compare(&[1, 1, 0, category * 65_536], &one), category <= 4, "{category}");
+    }
+    for left in 0..6 {
+        for right in 0..6 {
+            let pair = [1, 3, 0, left * 65_536, right * 65_536, left * 65_536];
+            let taken = left <= 4 && right <= 4 && left != 3;
+            assert_eq!(compare(&pair, &one), taken, "{left} {right}");
+        }
+    }
+    let change_among_discrete: Vec<_> = (0..64).map(|item| if item == 40 { 3 } else { 4 } << 16).collect();
+    let words: Vec<_> = [1, 64, 0].into_iter().chain(change_among_discrete).collect();
+    assert!(compare(&words, &one));
+}
+
 /// What a builder was asked for and accepted.
 #[derive(Default)]
 struct Accepted {
@@ -130,8 +149,8 @@ struct Accepted {
 
 const TEXTS: [&str; 9] =
     ["Axes", "POSITION", "LOAD", "", "A-B", "abcdefghijklmnopqrstuvwxyz", "Ö", "X_1", "Device"];
-const CATEGORIES: [Category; 4] =
-    [Category::Sample, Category::Event, Category::Condition, Category::AssetChange];
+const CATEGORIES: [Category; 5] =
+    [Category::Sample, Category::Event, Category::Condition, Category::AssetChange, Category::Discrete];
 
 impl Accepted {
     /// Asks for one part more, which may break a rule.
