@@ -199,7 +199,7 @@ fn damage_table(rng: &mut Rng, words: &mut [u64], base: usize, m: u64) {
         1 => words[times] = worlds::time(rng),
         2 => words[values] = packed(rng, m),
         _ => {
-            let category = rng.below(3) as u32;
+            let category = *rng.pick(&[0, 1, 2, 4]);
             words[values] = (item << 40) | (lists::value(rng, category) & ((1 << 40) - 1));
         }
     }

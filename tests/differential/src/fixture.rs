@@ -40,6 +40,12 @@ pub fn plain_model(items: u32, asset_item: bool) -> Vec<u32> {
     model
 }
 
+/// The same with discrete events in the place of the events.
+pub fn discrete_model(items: u32, asset_item: bool) -> Vec<u32> {
+    let discrete = |word| if word == 65_536 { 4 * 65_536 } else { word };
+    plain_model(items, asset_item).into_iter().map(discrete).collect()
+}
+
 pub fn core() -> UnderTest {
     under_test::core()
 }

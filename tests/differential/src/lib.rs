@@ -55,6 +55,8 @@ pub struct Counts {
     pub requests: [u64; 16],
     pub bodies: [u64; 2],
     pub same: u64,
+    /// Values of discrete items that were recorded though equal.
+    pub repeats: u64,
     pub rows: u64,
     /// Windows of clients, joined from their polls and checked.
     pub windows: u64,
@@ -100,6 +102,7 @@ impl Counts {
     pub fn add(&mut self, other: &Counts) {
         self.calls += other.calls;
         self.same += other.same;
+        self.repeats += other.repeats;
         self.rows += other.rows;
         self.windows += other.windows;
         let tables = [
@@ -120,8 +123,8 @@ impl Counts {
 
 impl fmt::Display for Counts {
     fn fmt(&self, f: &mut fmt::Formatter<'_>) -> fmt::Result {
-        let Counts { calls, same, rows, windows, .. } = self;
-        writeln!(f, "{calls} calls, {same} Same, {rows} rows, {windows} joined windows")?;
+        let Counts { calls, same, repeats, rows, windows, .. } = self;
+        writeln!(f, "{calls} calls, {same} Same, {repeats} repeats, {rows} rows, {windows} joined windows")?;
         writeln!(f, "  answers by refusal number, 0 accepted:")?;
         writeln!(f, "  start       {:?}", self.starts)?;
         writeln!(f, "  observe     {:?}", self.observes)?;

@@ -8,6 +8,7 @@ use crate::session::Session;
 use crate::texts::{self, Scene};
 use crate::windows::Windows;
 use crate::{settings, worlds, Counts, Difference};
+use reference::machine::Observation;
 use reference::model::Model;
 use reference::{Clean, Core, FaultSet, Record};
 
@@ -19,6 +20,8 @@ struct Script {
     component_types: Vec<Vec<u8>>,
     item_types: Vec<Vec<u8>>,
     ids: Vec<Vec<u8>>,
+    /// The item and value offered last.
+    offered: (u64, u64),
     clients: Vec<Client>,
 }
 
@@ -70,14 +73,7 @@ pub fn run<C: Core, F: FaultSet>(
             session.compare_contents().map_err(|what| fail(place(&call), what))?;
         }
     }
-    session.compare_contents().map_err(|what| fail("at the end".into(), what))?;
-    let joined = windows.check(&mut script.rng, &session.pair, &session.machine);
-    counts.windows += joined.map_err(|what| fail("at the end".into(), what))?;
-    for client in &mut script.clients {
-        client.finish(&session.machine).map_err(|what| fail("at the end".into(), what))?;
-        counts.windows += client.windows;
-    }
-    Ok(())
+    script.finish(&session, &windows, counts).map_err(|what| fail("at the end".into(), what))
 }
 
 impl Script {
@@ -86,9 +82,11 @@ impl Script {
         let model = Model::check(words, names, Clean).expect("the start was accepted");
         let items = 0..model.items();
         let ids = ids(&mut rng, session.machine.cells());
+        let categories: Vec<u32> = items.clone().map(|item| model.category(item)).collect();
         let mut script = Script {
             clock: rng.between(1000, 2000),
-            categories: items.clone().map(|item| model.category(item)).collect(),
+            offered: offer(&mut rng, &categories),
+            categories,
             component_types: (0..model.components()).map(|c| model.component_type(c).to_vec()).collect(),
             item_types: items.map(|item| model.item_type(item).to_vec()).collect(),
             ids,
@@ -135,6 +133,23 @@ impl Script {
         }
     }
 
+    /// What is checked and counted when the list is over.
+    fn finish<C: Core, F: FaultSet>(
+        &mut self,
+        session: &Session<C, F>,
+        windows: &Windows,
+        counts: &mut Counts,
+    ) -> Result<(), String> {
+        session.compare_contents()?;
+        counts.windows += windows.check(&mut self.rng, &session.pair, &session.machine)?;
+        for client in &mut self.clients {
+            client.finish(&session.machine)?;
+            counts.windows += client.windows;
+        }
+        counts.repeats += repeats(session.machine.history(), &self.categories);
+        Ok(())
+    }
+
     /// Times rise, stand, fall, are missing, or are the largest.
     fn time(&mut self) -> u64 {
         match self.rng.weighted(&[50, 15, 15, 12, 4, 4]) {
@@ -162,8 +177,12 @@ impl Script {
         batches::call(&mut self.rng, records, host)
     }
 
+    /// Now and then what was offered last, so that it is equal.
     fn record(&mut self) -> Record {
-        let (item, value) = offer(&mut self.rng, &self.categories);
+        if self.rng.percent(85) {
+            self.offered = offer(&mut self.rng, &self.categories);
+        }
+        let (item, value) = self.offered;
         Record { item, time: self.time(), value }
     }
 
@@ -216,6 +235,17 @@ impl Script {
     }
 }
 
+/// Observations of discrete items that equal the item's one before.
+fn repeats(history: &[Observation], categories: &[u32]) -> u64 {
+    let mut newest = vec![None; categories.len()];
+    let mut repeated = 0;
+    for row in history {
+        let equal = newest[row.item].replace(row.value) == Some(row.value);
+        repeated += u64::from(equal && categories[row.item] == 4);
+    }
+    repeated
+}
+
 /// Ids that are prefixes of each other, of every length, with the lowest and highest bytes.
 pub fn ids(rng: &mut Rng, cells: usize) -> Vec<Vec<u8>> {
     let mut ids: Vec<Vec<u8>> =
@@ -254,10 +284,17 @@ pub fn offer(rng: &mut Rng, categories: &[u32]) -> (u64, u64) {
     (item, value(rng, category))
 }
 
+/// A pulse: an event that a discrete item repeats.
+const PULSE: u64 = (2 << 32) + 1;
+
 /// A value's word: few different ones, so that Same is met; edges; other kinds; no value at all.
 pub fn value(rng: &mut Rng, category: u32) -> u64 {
+    if category == 4 && rng.percent(60) {
+        return *rng.pick(&[0, PULSE, PULSE, PULSE]);
+    }
     let kind = match rng.weighted(&[80, 12, 6, 2]) {
         0 if category == 3 => rng.below(3),
+        0 if category == 4 => 2,
         0 => u64::from(category) + 1,
         1 => 0,
         2 => rng.below(4),

@@ -106,7 +106,7 @@ fn model(rng: &mut Rng, cells: usize) -> Vec<u32> {
     }
     let asset_item = rng.percent(60).then(|| rng.below(m));
     for item in 0..m {
-        let category = if asset_item == Some(item) { 3 } else { rng.below(3) };
+        let category = if asset_item == Some(item) { 3 } else { *rng.pick(&[0, 1, 2, 4]) };
         words.push((category * 65_536 + rng.below(c) * 256 + rng.below(cells)) as u32);
     }
     words
@@ -157,7 +157,7 @@ pub fn spoil_model(rng: &mut Rng, words: &mut Vec<u32>) {
     let c = words[0].clamp(1, 64) as usize;
     let component = 2 + rng.index(c).min(words.len() - 3);
     let item = (2 + c + rng.index(words.len())).min(words.len() - 1);
-    match rng.below(13) {
+    match rng.below(14) {
         0 => words[0] = *rng.pick(&[0, 65, 66, u32::MAX, words[0].wrapping_add(1), words[0].wrapping_sub(1)]),
         1 => {
             words[1] = *rng.pick(&[0, 65, 255, u32::MAX, words[1].wrapping_add(1), words[1].wrapping_sub(1)])
@@ -170,7 +170,7 @@ pub fn spoil_model(rng: &mut Rng, words: &mut Vec<u32>) {
         6 => words[component] = rng.word() as u32,
         7 => words[component] |= 255,
         8 => words[item] |= 255,
-        9 => words[item] = words[item] % 65_536 + 65_536 * *rng.pick(&[3, 3, 4, 5, 256, 65_535]),
+        9 | 13 => words[item] = words[item] % 65_536 + 65_536 * *rng.pick(&[3, 3, 4, 5, 5, 5, 256, 65_535]),
         10 => words[item] = words[item] / 65_536 * 65_536 + 256 * c as u32 + words[item] % 256,
         11 => words[item] = rng.word() as u32,
         // A parent beyond the low byte.

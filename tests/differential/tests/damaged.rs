@@ -16,6 +16,9 @@ const MODEL: [u32; 6] = [1, 3, 0, 65_536 + 1, 2, 3 * 65_536 + 3];
 /// The same without asset changes.
 const NO_ASSET_ITEM: [u32; 6] = [1, 3, 0, 65_536 + 1, 2, 3];
 
+/// Item 0 a discrete event, item 1 a sample, item 2 an event.
+const DISCRETE: [u32; 6] = [1, 3, 0, 4 * 65_536 + 1, 2, 65_536 + 3];
+
 /// Places of the store's words, with N = 4 and m = 3.
 const N: usize = 4;
 const M: usize = 3;
@@ -199,7 +202,7 @@ fn lengths_of_the_stores() {
 #[test]
 fn the_model_comes_before_the_heads() {
     let damaged = Damaged::new(|start| {
-        start.model[5] = 4 * 65_536;
+        start.model[5] = 5 * 65_536;
         start.observations[0] = 0;
     });
     assert_eq!(damaged.observe(9, Value::Event(1)), END + 1);
@@ -256,7 +259,7 @@ fn a_delivery_over_wrong_heads() {
     let longer = Damaged::new(|start| start.observations.push(0));
     let empty = Damaged::new(|start| start.observations.clear());
     let both = Damaged::new(|start| {
-        start.model[5] = 4 * 65_536;
+        start.model[5] = 5 * 65_536;
         start.observations[0] = 0;
     });
     for (records, room) in sizes {
@@ -298,6 +301,15 @@ fn a_delivery_meets_a_bad_entry() {
         assert_eq!(answers, [STORE, STORE, STORE, END + 4, END + 5, STORE]);
         assert_eq!(left, damaged.start.observations);
     }
+}
+
+/// Where an equal event is Same, a discrete one meets the bad entry.
+#[test]
+fn equal_records_and_a_bad_entry() {
+    let damaged = Damaged::of(&DISCRETE, |start| start.observations[RING_PACKED + 3] = 3 << 40);
+    let [pulse, event] = [0, 2].map(|item| record(item, 7, Value::Event(1)));
+    assert_eq!(damaged.batch(&[pulse, pulse, pulse, event], 4).1, [7, STORE, STORE, STORE]);
+    assert_eq!(damaged.batch(&[event, event, pulse], 3).1, [7, 0, STORE]);
 }
 
 /// An entry that the delivery itself wrote is sound when its turn comes.
@@ -399,6 +411,68 @@ fn latest_words_stand() {
     // The right value under another item's number is not the same word.
     let damaged = Damaged::new(|start| start.observations[LATEST + 2 * M] = event.packed(1, Clean));
     assert_eq!(damaged.observe(0, event), 7);
+}
+
+/// A discrete item's latest entry is not read: whatever stands there, each value is recorded. An
+/// event's is compared.
+#[test]
+fn a_discrete_items_latest_entry_is_not_read() {
+    let event = Value::Event(9);
+    let same = |item| event.packed(item, Clean);
+    for word in [same(0), same(2), 0, 2 << 40, 1 << 40, 3 << 40, 0xdead_beef, u64::MAX] {
+        for number in [0, 1, 7, u64::MAX] {
+            let damaged = Damaged::of(&DISCRETE, |start| {
+                for item in [0, 2] {
+                    let entry = [number, number, word];
+                    (0..3).for_each(|part| start.observations[LATEST + part * M + item] = entry[part]);
+                }
+            });
+            assert_eq!(damaged.observe(0, event), 7, "{word:#x}");
+            assert_eq!(damaged.observe(0, Value::Unavailable), 7, "{word:#x}");
+            let [same_event, same_none] = [same(2), 2 << 40].map(|latest| word == latest);
+            assert_eq!(damaged.observe(2, event), if same_event { 0 } else { 7 }, "{word:#x}");
+            assert_eq!(damaged.observe(2, Value::Unavailable), if same_none { 0 } else { 7 }, "{word:#x}");
+            let (_, answers, left) = damaged.batch(&[record(0, 7, event), record(0, 8, event)], 2);
+            assert_eq!(answers, [7, 8], "{word:#x}");
+            let entry = [LATEST, LATEST + M, LATEST + 2 * M].map(|at| left[at]);
+            assert_eq!(entry, [8, 8, same(0)]);
+        }
+    }
+}
+
+/// Model, head, item, kind, spent and the entry about to be overwritten, in this order: each is
+/// answered although all behind it are there too. An equal event is Same where the number comes in.
+#[test]
+fn refusals_of_a_discrete_item_in_their_order() {
+    let damaged = |spent: bool, head: bool, model: bool| {
+        Damaged::of(&DISCRETE, |start| {
+            start.observations[RING_PACKED..RING_PACKED + N].fill(u64::MAX);
+            start.observations[3] = if spent { END - 1 } else { 6 };
+            start.observations[1] += u64::from(head);
+            start.model[5] = if model { 5 * 65_536 } else { DISCRETE[5] };
+        })
+    };
+    let offers = [
+        (3, Value::Sample(1)),
+        (0, Value::Sample(1)),
+        (0, Value::Unavailable),
+        (0, Value::Event(1)),
+        (2, Value::Unavailable),
+        (2, Value::Event(1)),
+    ];
+    for (damaged, expected) in [
+        (damaged(true, true, true), [END + 1; 6]),
+        (damaged(true, true, false), [STORE; 6]),
+        (damaged(true, false, false), [END + 4, END + 5, SPENT, SPENT, 0, SPENT]),
+        (damaged(false, false, false), [END + 4, END + 5, STORE, STORE, 0, STORE]),
+    ] {
+        assert_eq!(offers.map(|(item, value)| damaged.observe(item, value)), expected);
+        let (pair, answers, left) = damaged.batch(&offers.map(|(item, value)| record(item, 7, value)), 6);
+        let refused = [END + 1, STORE].into_iter().find(|&all| expected == [all; 6]);
+        assert_eq!(pair, refused.map_or((0, 6), |word| (word - END, 0)));
+        assert_eq!(answers, if refused.is_some() { [UNTOUCHED; 6] } else { expected });
+        assert_eq!(left, damaged.start.observations);
+    }
 }
 
 /// A checkpoint whose number isn't 0 stands as it is, also above `at`; one whose number is 0 is none.

@@ -1,9 +1,10 @@
 //! Edges of sizes, numbers, times, buffers and slices, each tried through.
 
 use differential::call::{Answer, Call, Start};
-use differential::fixture::{begin, core, names, plain_model, start, Tested};
+use differential::fixture::{begin, core, discrete_model, names, plain_model, start, Tested};
 use differential::pair::Pair;
 use differential::rng::Rng;
+use differential::under_test::UnderTest;
 use differential::{lists, settings, worlds};
 use reference::{Record, Value};
 
@@ -34,27 +35,28 @@ fn small_rings_through_several_turns() {
     for m in 1..=5u64 {
         for n in 1..=6 {
             for b in [1, 2, 3, n, n + 1, 1000, END - m - 14] {
-                let model = plain_model(m as u32, m > 2);
-                let mut session = begin(&core, &start(&model, &one_name(), [n, 1, b], 1000));
-                ask_all(&mut session);
-                for step in 0..3 * n.max(4) {
-                    let item = rng.below(m);
-                    let value = lists::value(&mut rng, (model[3 + item as usize] / 65_536).min(2));
-                    session.must(&Call::Observe {
-                        item,
-                        time: worlds::time(&mut rng),
-                        host: 1000 + step,
-                        value,
-                    });
-                    if step % 4 == 0 {
-                        session.store(b"T", b"body", step);
-                    }
-                    ask_all(&mut session);
+                for model in [plain_model(m as u32, m > 2), discrete_model(m as u32, m > 2)] {
+                    turn(&core, &mut rng, &model, n, b);
                 }
-                session.compare_contents().unwrap();
             }
         }
     }
+}
+
+/// Turns a small ring over, with every request behind each step.
+fn turn(core: &UnderTest, rng: &mut Rng, model: &[u32], n: u64, b: u64) {
+    let mut session = begin(core, &start(model, &one_name(), [n, 1, b], 1000));
+    ask_all(&mut session);
+    for step in 0..3 * n.max(4) {
+        let item = rng.below(u64::from(model[1]));
+        let value = lists::value(rng, model[3 + item as usize] / 65_536);
+        session.must(&Call::Observe { item, time: worlds::time(rng), host: 1000 + step, value });
+        if step % 4 == 0 {
+            session.store(b"T", b"body", step);
+        }
+        ask_all(&mut session);
+    }
+    session.compare_contents().unwrap();
 }
 
 /// The last number: Same is still answered, nothing else is added, and next cannot be asked for.
@@ -296,7 +298,7 @@ fn every_field_of_a_model_word() {
     let names = names(&["Device", "Axes", "POSITION"]);
     let words = (0..=300u32).chain([1 << 16, 2 << 16, 3 << 16, 4 << 16, 5 << 16, 1 << 24, 1 << 31, u32::MAX]);
     for word in words {
-        for low in [0, 1, 2, 3, 255, 256, 512, 65_536, 3 * 65_536] {
+        for low in [0, 1, 2, 3, 255, 256, 512, 65_536, 3 * 65_536, 4 * 65_536] {
             for place in 0..7 {
                 let mut model = vec![3, 2, 0, 1, 258, 65_536 + 2, 512 + 2];
                 model[place] = word.wrapping_add(low);
@@ -308,12 +310,33 @@ fn every_field_of_a_model_word() {
     }
 }
 
+/// Categories 0 to 4 are there. Of asset changes there is at most one item, of the others any number,
+/// together or alone.
+#[test]
+fn categories_at_their_bounds() {
+    let core = core();
+    let answer = |categories: &[u32]| {
+        let items = categories.iter().map(|category| category * 65_536);
+        let model: Vec<u32> = [1, categories.len() as u32, 0].into_iter().chain(items).collect();
+        let begun = Tested::start(&core, &start(&model, &one_name(), [2, 1, 1], 0), reference::Clean);
+        begun.unwrap_or_else(|what| panic!("{categories:?}: {what}")).err().unwrap_or(0)
+    };
+    for category in (0..=9).chain([127, 128, 255, 256, 257, 260, 32_768, 65_535]) {
+        let once = u64::from(category > 4);
+        assert_eq!(answer(&[category]), once, "{category}");
+        assert_eq!(answer(&[4, category]), once, "{category}");
+        assert_eq!(answer(&[category, 4, 4, 1]), once, "{category}");
+        let again = u64::from(category > 4 || category == 3);
+        assert_eq!(answer(&[category, category]), again, "{category}");
+        assert_eq!(answer(&[4, 3, category, 4]), again, "{category}");
+        assert_eq!(answer(&[category; 64]), again, "{category}");
+    }
+}
+
 /// Every word that the value argument can be at the edges of its fields, in single observes and in
 /// deliveries.
 #[test]
 fn every_edge_of_a_value_word() {
-    let core = core();
-    let mut session = begin(&core, &start(&plain_model(4, true), &one_name(), [4, 1, 1], 1));
     let lows = [
         0,
         1,
@@ -331,15 +354,18 @@ fn every_edge_of_a_value_word() {
     let mut records = Vec::new();
     for kind in (0..=5).chain([255, 256, 257, 258, 259, 1 << 8, 1 << 31]) {
         for low in lows {
-            for item in 0..5 {
-                let value = (kind << 32) + low;
-                session.must(&Call::Observe { item, time: 3, host: 3, value });
-                records.push(Record { item, time: 4, value });
-            }
+            records.extend((0..5).map(|item| Record { item, time: 4, value: (kind << 32) + low }));
         }
     }
-    for some in records.chunks(200) {
-        assert_eq!(session.batch(some, 3, 256).0, (0, some.len() as u64));
+    let core = core();
+    for model in [plain_model(4, true), discrete_model(4, true)] {
+        let mut session = begin(&core, &start(&model, &one_name(), [4, 1, 1], 1));
+        for &Record { item, time, value } in &records {
+            session.must(&Call::Observe { item, time, host: 3, value });
+        }
+        for some in records.chunks(200) {
+            assert_eq!(session.batch(some, 3, 256).0, (0, some.len() as u64));
+        }
     }
 }
 

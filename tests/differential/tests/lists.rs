@@ -46,6 +46,7 @@ fn every_answer_is_met(counts: &Counts) {
         assert!(counts.requests[refusal] > 0, "request never answers {refusal}");
     }
     assert!(counts.same > 0 && counts.bodies.iter().all(|&met| met > 0));
+    assert!(counts.repeats > 0, "no discrete item repeats its value");
     // No list after an accepted start meets a damaged store.
     assert_eq!((counts.observes[2], counts.stores[2], counts.requests[2]), (0, 0, 0));
     assert_eq!((counts.batches[2], counts.records[2]), (0, 0));

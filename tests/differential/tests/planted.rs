@@ -44,7 +44,7 @@ fn faults_in_the_core_are_told_apart() {
 
 /// Faults of the stores that clients come to see. The others show in the stores alone, or where
 /// they are damaged.
-const SEEN_BY_CLIENTS: [Fault; 10] = [
+const SEEN_BY_CLIENTS: [Fault; 11] = [
     Fault::SameRenewsTime,
     Fault::CheckpointNotUpdated,
     Fault::CheckpointWrittenOnce,
@@ -55,6 +55,7 @@ const SEEN_BY_CLIENTS: [Fault; 10] = [
     Fault::StoredThoughSpent,
     Fault::BodyByPaddedId,
     Fault::SameBeforeBatch,
+    Fault::RepeatLeavesLatest,
 ];
 
 #[test]

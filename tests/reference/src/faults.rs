@@ -81,8 +81,18 @@ faults! {
     AssetItemTakesUnavailable in Both,
     /// Normal may carry a native code.
     NormalWithCode in Both,
+    /// A discrete item takes samples.
+    DiscreteTakesSamples in Both,
+    /// A discrete item cannot be made unavailable.
+    DiscreteWithoutUnavailable in Both,
     /// More than one asset-change item is accepted.
     ManyAssetItems in Stores,
+    /// Category 4 is refused, as it was before there were discrete items.
+    DiscreteRefused in Both,
+    /// Category 5 is accepted.
+    CategoryFive in Both,
+    /// More than one discrete item is refused.
+    OneDiscreteItem in Both,
     /// An all-zero name cell is accepted.
     SpareNameCells in Stores,
     /// Bytes behind the first zero of a name cell are not looked at.
@@ -199,6 +209,26 @@ faults! {
     StartWithoutCheckpoint in Stores,
     /// Start leaves what stood in unused places.
     StartKeepsOldWords in Stores,
+
+    // Discrete events.
+    /// An equal value of a discrete item is Same.
+    DiscreteSame in Both,
+    /// An equal Unavailable of a discrete item is Same.
+    DiscreteUnavailableSame in Both,
+    /// An equal value of a discrete item is Same where no number is left.
+    DiscreteSameSpent in Both,
+    /// An equal value of a discrete item is Same in a delivery.
+    DiscreteSameInBatch in Both,
+    /// Every event counts when equal, and nothing else: told by the value rather than the item.
+    DiscreteByKind in Both,
+    /// Items of category 1 are discrete too.
+    EventsDiscrete in Both,
+    /// An equal value leaves the latest entry of a discrete item as it is.
+    RepeatLeavesLatest in Stores,
+    /// Store-asset's event goes to a discrete item that comes first.
+    AssetEventForDiscrete in Both,
+    /// A discrete item's latest word is tested before a value is recorded.
+    DiscreteLatestTested in Stores,
 
     // Deliveries.
     /// A refused record ends the delivery; the words of the rest stay.

@@ -7,6 +7,11 @@ pub const NAME: usize = 24;
 const MOST_NAMES: usize = 256;
 const MOST_PARTS: u32 = 64;
 
+/// Category of the item that store-asset writes its events for.
+pub const ASSET_CHANGE: u32 = 3;
+/// Category of events that count even when equal.
+pub const DISCRETE: u32 = 4;
+
 /// A checked model.
 #[derive(Clone, Copy)]
 pub struct Model<'a> {
@@ -42,10 +47,13 @@ impl<'a> Model<'a> {
     fn items_valid<F: FaultSet>(&self, faults: F) -> bool {
         let cells = (self.names.len() / NAME) as u32;
         let c = self.components.len() as u32;
-        let each =
-            self.items.iter().all(|&word| category(word) <= 3 && word / 256 % 256 < c && word % 256 < cells);
-        let asset_items = self.items.iter().filter(|&&word| category(word) == 3).count();
-        each && (asset_items <= 1 || faults.has(Fault::ManyAssetItems))
+        let each = self.items.iter().all(|&word| {
+            category_valid(category(word), faults) && word / 256 % 256 < c && word % 256 < cells
+        });
+        let several = |of: u32| self.items.iter().filter(|&&word| category(word) == of).count() > 1;
+        let too_many = (several(ASSET_CHANGE) && !faults.has(Fault::ManyAssetItems))
+            || (faults.has(Fault::OneDiscreteItem) && several(DISCRETE));
+        each && !too_many
     }
 
     /// How many items there are.
@@ -81,8 +89,11 @@ impl<'a> Model<'a> {
     }
 
     /// The item that store-asset writes its events for.
-    pub fn asset_item(&self) -> Option<usize> {
-        self.items.iter().position(|&word| category(word) == 3)
+    pub fn asset_item<F: FaultSet>(&self, faults: F) -> Option<usize> {
+        self.items.iter().position(|&word| match category(word) {
+            DISCRETE => faults.has(Fault::AssetEventForDiscrete),
+            of => of == ASSET_CHANGE,
+        })
     }
 
     fn name(&self, index: u32) -> &'a [u8] {
@@ -95,6 +106,15 @@ impl<'a> Model<'a> {
 
 fn category(word: u32) -> u32 {
     word / 65_536
+}
+
+fn category_valid<F: FaultSet>(category: u32, faults: F) -> bool {
+    match category {
+        0..=3 => true,
+        DISCRETE => !faults.has(Fault::DiscreteRefused),
+        5 => faults.has(Fault::CategoryFive),
+        _ => false,
+    }
 }
 
 fn names_valid<F: FaultSet>(names: &[u8], faults: F) -> bool {

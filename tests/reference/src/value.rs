@@ -1,6 +1,7 @@
 //! Values of observations and their packed words.
 
 use crate::faults::{Fault, FaultSet};
+use crate::model::{ASSET_CHANGE, DISCRETE};
 
 /// The level of a condition.
 #[derive(Clone, Copy, PartialEq, Eq, Debug)]
@@ -59,15 +60,31 @@ impl Value {
     pub fn allowed<F: FaultSet>(self, category: u32, faults: F) -> bool {
         match (category, self) {
             // Asset changes are written by store-asset only.
-            (3, Value::Unavailable) => faults.has(Fault::AssetItemTakesUnavailable),
-            (3, _) => false,
+            (ASSET_CHANGE, Value::Unavailable) => faults.has(Fault::AssetItemTakesUnavailable),
+            (ASSET_CHANGE, _) => false,
+            (DISCRETE, Value::Unavailable) => !faults.has(Fault::DiscreteWithoutUnavailable),
             (_, Value::Unavailable) => true,
             (0, Value::Sample(_)) => true,
-            (1, Value::Event(_)) => true,
+            (DISCRETE, Value::Sample(_)) => faults.has(Fault::DiscreteTakesSamples),
+            (1 | DISCRETE, Value::Event(_)) => true,
             (2, Value::Condition(Level::Normal, code)) => {
                 code == 0 || (faults.has(Fault::NormalWithCode) && code < CODES)
             }
             (2, Value::Condition(_, code)) => code < CODES,
+            _ => false,
+        }
+    }
+
+    /// Whether this value counts even when equal, for an item of the category: it is discrete. Only
+    /// planted faults look at the value.
+    pub fn counts_when_equal<F: FaultSet>(self, category: u32, faults: F) -> bool {
+        if faults.has(Fault::DiscreteByKind) {
+            return self.kind() == EVENT_KIND;
+        }
+        match (category, self) {
+            (1, _) => faults.has(Fault::EventsDiscrete),
+            (DISCRETE, Value::Unavailable) if faults.has(Fault::DiscreteUnavailableSame) => false,
+            (DISCRETE, _) => !faults.has(Fault::DiscreteSame),
             _ => false,
         }
     }

@@ -138,21 +138,29 @@ impl<F: FaultSet> Machine<F> {
             return Err(Refusal::Item);
         }
         let item = item as usize;
-        if self.faults.has(Fault::SameBeforeKind) && self.is_newest(item, value) {
+        let category = model.category(item);
+        if self.faults.has(Fault::SameBeforeKind) && self.is_same(category, item, value) {
             return Ok(None);
         }
-        if !value.allowed(model.category(item), self.faults) {
+        if !value.allowed(category, self.faults) {
             return Err(Refusal::Kind);
         }
         if self.faults.has(Fault::SpentBeforeSame) {
             self.not_spent()?;
         }
-        if self.is_newest(item, value) {
+        if self.is_same(category, item, value) {
             return Ok(None);
         }
         self.not_spent()?;
         let time = if time == 0 && !self.faults.has(Fault::MissingTimeKept) { host } else { time };
         Ok(Some(self.record(item, time, value)))
+    }
+
+    /// The value is the item's newest: Same, unless discrete.
+    fn is_same(&self, category: u32, item: usize, value: Value) -> bool {
+        let overlooked = self.faults.has(Fault::DiscreteSameSpent) && self.not_spent().is_err();
+        let discrete = value.counts_when_equal(category, self.faults) && !overlooked;
+        self.is_newest(item, value) && !discrete
     }
 
     /// Whether the value is the item's newest.
@@ -206,7 +214,7 @@ impl<F: FaultSet> Machine<F> {
         body: &[u8],
         host: u64,
     ) -> Result<u64, Refusal> {
-        let event_for = self.model(model, names)?.asset_item();
+        let event_for = self.model(model, names)?.asset_item(self.faults);
         let longest = if self.faults.has(Fault::LongestBodyRefused) { 509 } else { 510 };
         if !id_valid(id) || body.is_empty() || body.len() > longest {
             return Err(Refusal::Asset);

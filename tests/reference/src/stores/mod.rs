@@ -11,10 +11,10 @@ use crate::answer::{Done, Observed, Refusal, Stored};
 use crate::calls::{Core, Record};
 use crate::faults::{Clean, Fault, FaultSet};
 use crate::model::Model;
-use crate::value::{Value, EVENT_KIND};
+use crate::value::{item_of, Value, EVENT_KIND};
 use crate::{LARGEST, MOST_CELLS, MOST_PLACES};
 use assets::Cells;
-use observations::Head;
+use observations::{Head, Row};
 use request::View;
 
 /// The calls over stores, with their planted faults.
@@ -121,7 +121,9 @@ impl<F: FaultSet> Stores<F> {
             return Err(Refusal::Item);
         }
         let item = item as usize;
-        let same_first = self.faults.has(Fault::SameBeforeKind) && value != Value::NONE;
+        // A discrete item is asked for no Same, and its latest word is not read.
+        let discrete = self.is_discrete(model, &head, item, value);
+        let same_first = !discrete && self.faults.has(Fault::SameBeforeKind) && value != Value::NONE;
         if same_first && head.is_latest(words, item, value.packed(item as u64, self.faults), self.faults) {
             return Ok(None);
         }
@@ -134,14 +136,42 @@ impl<F: FaultSet> Stores<F> {
         let missing = time == 0 && !self.faults.has(Fault::MissingTimeKept);
         let time = if missing { host } else { time };
         let packed = value.packed(item as u64, self.faults);
-        if head.is_latest(stale.unwrap_or(words), item, packed, self.faults) {
+        if !discrete && head.is_latest(stale.unwrap_or(words), item, packed, self.faults) {
             if self.faults.has(Fault::SameRenewsTime) {
-                head.renew(words, item, time);
+                head.set_latest(words, item, Row { time, ..head.latest(words, item) });
             }
             return Ok(None);
         }
+        self.add(&head, words, item, time, packed, discrete).map(Some)
+    }
+
+    /// Whether the value counts even when equal.
+    fn is_discrete(&self, model: &Model, head: &Head, item: usize, value: Value) -> bool {
+        let overlooked = self.faults.has(Fault::DiscreteSameSpent) && head.not_spent(self.faults).is_err();
+        value.counts_when_equal(model.category(item), self.faults) && !overlooked
+    }
+
+    /// Records if it can. Only planted faults look at what the item stands at.
+    fn add(
+        &self,
+        head: &Head,
+        words: &mut [u64],
+        item: usize,
+        time: u64,
+        packed: u64,
+        discrete: bool,
+    ) -> Result<u64, Refusal> {
+        let latest = head.latest(words, item);
+        let odd = discrete && item_of(latest.packed) != item as u64;
+        if odd && self.faults.has(Fault::DiscreteLatestTested) {
+            return Err(Refusal::Store);
+        }
         head.can_record(words, self.faults)?;
-        Ok(Some(head.record(words, item, time, packed, self.faults)))
+        let number = head.record(words, item, time, packed, self.faults);
+        if latest.packed == packed && self.faults.has(Fault::RepeatLeavesLatest) {
+            head.set_latest(words, item, latest);
+        }
+        Ok(number)
     }
 
     pub fn store_asset(
@@ -174,7 +204,7 @@ impl<F: FaultSet> Stores<F> {
         if !assets::id_valid(id) || !(1..=longest).contains(&body.len()) {
             return Err(Refusal::Asset);
         }
-        let event_for = model.asset_item();
+        let event_for = model.asset_item(self.faults);
         if event_for.is_some() {
             let free = head.can_record(words, self.faults);
             if free.is_err() && self.faults.has(Fault::StoredThoughSpent) {

@@ -119,8 +119,8 @@ impl Head {
         latest == packed
     }
 
-    pub fn renew(&self, words: &mut [u64], item: usize, time: u64) {
-        words[self.latest_at(item)[1]] = time;
+    pub fn set_latest(&self, words: &mut [u64], item: usize, row: Row) {
+        write(words, self.latest_at(item), row);
     }
 
     pub fn not_spent<F: FaultSet>(&self, faults: F) -> Result<(), Refusal> {
@@ -178,7 +178,7 @@ impl Head {
         }
         words[self.ring_time(place)] = time;
         words[self.ring_packed(place)] = packed;
-        write(words, self.latest_at(item), Row { number, time, packed });
+        self.set_latest(words, item, Row { number, time, packed });
         words[3] = number;
         number
     }
