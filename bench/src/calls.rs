@@ -28,7 +28,8 @@ pub trait Call {
 pub struct Observe {
     name: String,
     steps: Vec<Step>,
-    changed: bool,
+    /// Or the answer is Same.
+    recorded: bool,
 }
 
 /// Many steps, so that an item's newest value is never the one that comes round again.
@@ -36,13 +37,20 @@ const STEPS: usize = 4096;
 
 pub fn observe_changed(stage: &Stage) -> Observe {
     let name = format!("observe, changed, {} name cells", stage.shape.cells);
-    Observe { name, steps: stage::steps(stage.shape, STEPS), changed: true }
+    Observe { name, steps: stage::steps(stage.shape, STEPS), recorded: true }
 }
 
 pub fn observe_same(stage: &Stage) -> Observe {
     let name = format!("observe, Same, {} name cells", stage.shape.cells);
     let step = |item| Step { item: item as u64, value: stage.latest(item) };
-    Observe { name, steps: (0..stage.shape.m - 1).map(step).collect(), changed: false }
+    Observe { name, steps: (0..stage.shape.m - 1).map(step).collect(), recorded: false }
+}
+
+/// On a stage with discrete items: each one's newest value once more, which is recorded.
+pub fn observe_equal_discrete(stage: &Stage) -> Observe {
+    let name = format!("observe, discrete and equal, {} name cells", stage.shape.cells);
+    let step = |item| Step { item: item as u64, value: stage.latest(item) };
+    Observe { name, steps: stage.discrete_items().map(step).collect(), recorded: true }
 }
 
 impl Call for Observe {
@@ -57,7 +65,7 @@ impl Call for Observe {
     }
 
     fn expects(&self, answer: Answer) -> bool {
-        if self.changed {
+        if self.recorded {
             (1..1 << 63).contains(&answer[0])
         } else {
             answer[0] == 0

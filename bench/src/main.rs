@@ -61,6 +61,8 @@ fn calls_of_a_full_box(rounds: usize, wanted: &str) -> Vec<Row> {
         let stage = Stage::new(Shape { cells, ..Shape::LARGEST });
         rows.add(&calls::observe_changed(&stage), &stage);
         rows.add(&calls::observe_same(&stage), &stage);
+        let discrete = stage.with_discrete_items();
+        rows.add(&calls::observe_equal_discrete(&discrete), &discrete);
         rows.add(&calls::delivery(&stage), &stage);
         rows.add(&calls::one_by_one(&stage), &stage);
     }

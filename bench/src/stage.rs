@@ -66,6 +66,21 @@ impl Stage {
         stage
     }
 
+    /// The same, but the model's events are discrete items. The stores are such a model's too: of the steps
+    /// that filled them none was Same.
+    pub fn with_discrete_items(&self) -> Stage {
+        let mut stage = self.clone();
+        for word in stage.model[ITEMS..].iter_mut().filter(|word| **word / CATEGORY == EVENT) {
+            *word += (DISCRETE - EVENT) * CATEGORY;
+        }
+        stage
+    }
+
+    pub fn discrete_items(&self) -> impl Iterator<Item = usize> + '_ {
+        let items = self.model[ITEMS..].iter().enumerate();
+        items.filter(|(_, &word)| word / CATEGORY == DISCRETE).map(|(item, _)| item)
+    }
+
     fn begin(&mut self) {
         let Shape { n, a, .. } = self.shape;
         let Stage { model, names, observations, assets, .. } = self;
@@ -161,6 +176,14 @@ pub fn id(number: usize) -> Vec<u8> {
     format!("CUTTER-{number:05}").into_bytes()
 }
 
+/// An item word is its category times this and the rest.
+const CATEGORY: u32 = 65_536;
+const EVENT: u32 = 1;
+const DISCRETE: u32 = 4;
+
+/// Where the items' words begin in a model.
+const ITEMS: usize = 2 + COMPONENTS.len();
+
 /// A machine's components: device, axes with four below them, controller, path.
 const COMPONENTS: [u32; 8] = [0, 1, 256 + 2, 256 + 2, 256 + 2, 256 + 3, 4, 6 * 256 + 5];
 
@@ -191,7 +214,7 @@ fn model(shape: Shape) -> Vec<u32> {
     let names = NAMES.len() as u32;
     for item in 0..shape.m as u32 {
         let category = if item + 1 == shape.m as u32 { 3 } else { item % 3 };
-        words.push(category * 65_536 + item % 8 * 256 + 6 + item % (names - 6));
+        words.push(category * CATEGORY + item % 8 * 256 + 6 + item % (names - 6));
     }
     words
 }
