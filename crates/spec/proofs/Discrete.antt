@@ -15,8 +15,7 @@ use Rattle.spec.specs.Model.{discrete, items, category, modelOk}
 use Rattle.spec.specs.Observations.{maxNumber, last}
 use Rattle.spec.specs.Calls
 use Rattle.spec.specs.Calls.{observeItem, observeBy, notObserved, roomFor}
-use Rattle.spec.specs.Reference.{State, Observation, Offer, observeAnswer, offerNext, offersAnswers}
-use Rattle.spec.specs.Reference.{lastOf}
+use Rattle.spec.specs.Reference.{State, Offer, observeAnswer, offerNext, offersAnswers, lastOf}
 use Rattle.spec.specs.Reference.Begun.{begun}
 use Rattle.spec.specs.History.{Call, AllTyped, Start, begins, storesBehind, referenceAfter}
 use Rattle.spec.specs.History.Output.{observed}
@@ -32,7 +31,7 @@ use Rattle.spec.proofs.Agree.{observe-agree, store-last}
 use Rattle.spec.proofs.History.{behind-good}
 use Rattle.spec.proofs.Opened.{opened}
 use Rattle.spec.proofs.Fixtures.{Step, shows, stores, at, gives-in, StoresGive, StartGives, cellsOf}
-use Rattle.spec.proofs.Fixtures.{noAssets}
+use Rattle.spec.proofs.Fixtures.{blankAt, noAssets}
 use Rattle.spec.proofs.Fixtures.Step.{_gives_}
 
 -- ---- every value, every store
@@ -44,7 +43,7 @@ discrete-takes (Sample x) = refl
 discrete-takes (Event c) = refl
 discrete-takes (Condition l c) = refl
 
--- 4, 5, 6, 2: nothing that stands of the item in the store is asked for
+-- 4, 5, 6, 2: the item's latest row has no part in it
 pub discrete-order : (model st : List ℕ) (item time : ℕ) (v : Value) → category model item ≡ discrete
     → observeItem model st item time v
     ≡ cond (ltb item (items model))
@@ -129,9 +128,6 @@ pulseStart B =
       B = B;
       host = 1000;
     }
-
-abbrev blankAt : ℕ → ℕ → Observation
-blankAt number item = record { number = number; item = item; time = 1000; value = Unavailable }
 
 abbrev PulsesGive : ℕ → List Step → Type 0
 PulsesGive B =

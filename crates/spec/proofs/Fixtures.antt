@@ -62,6 +62,10 @@ abbrev pub BothGive : List ℕ → List ℕ → Stores → State → List Step �
 BothGive model names s p ss =
     StoresGive model names s ss × (referenceRun model names p (map callOf ss) ≡ map outputOf ss)
 
+-- an item Unavailable since a start at time 1000
+abbrev pub blankAt : ℕ → ℕ → Observation
+blankAt number item = record { number = number; item = item; time = 1000; value = Unavailable }
+
 -- both layers give so behind a start that is accepted, the reference model's from the state p
 abbrev pub StartGives : Start → State → List Step → Type 0
 StartGives a p ss =
@@ -126,9 +130,7 @@ toolState B =
       N = 4;
       A = 2;
       B = B;
-      H = record { number = B; item = 0; time = 1000; value = Unavailable }
-          ∷ record { number = suc B; item = 1; time = 1000; value = Unavailable }
-          ∷ [];
+      H = blankAt B 0 ∷ blankAt (suc B) 1 ∷ [];
       T = [];
     }
 
@@ -156,8 +158,8 @@ BenchGives =
       N = 3;
       A = 1;
       B = 1;
-      H = record { number = 1; item = 0; time = 1000; value = Unavailable }
-          ∷ record { number = 2; item = 1; time = 1000; value = Unavailable }
+      H = blankAt 1 0
+          ∷ blankAt 2 1
           ∷ record { number = 3; item = 1; time = 1010; value = Sample (pos 5000) }
           ∷ record { number = 4; item = 1; time = 1030; value = Sample (negsuc 0) }
           ∷ [];
