@@ -41,7 +41,7 @@ no-name : false ≡ nameByte 0
 unfolding nameByte
 no-name = refl
 
-name-in-cell : (x : ℕ) → nameByte x ≡ true → cellByte x ≡ true
+pub name-in-cell : (x : ℕ) → nameByte x ≡ true → cellByte x ≡ true
 unfolding cellByte
 name-in-cell x e = rw e
 
@@ -54,7 +54,7 @@ rest-zero : (x : ℕ) → cellByte x ≡ true → nameByte x ≡ false → eqb x
 unfolding cellByte
 rest-zero x e z = rw z at e
 
-rest-name : (x : ℕ) → cellByte x ≡ true → eqb x 0 ≡ false → nameByte x ≡ true
+pub rest-name : (x : ℕ) → cellByte x ≡ true → eqb x 0 ≡ false → nameByte x ≡ true
 rest-name x e z = go (nameByte x) refl
   where
     go : (t : Bool) → nameByte x ≡ t → nameByte x ≡ true
@@ -196,15 +196,15 @@ pub cells-fit : (l k : ℕ) → k < l / nameBytes → nameBytes * k + nameBytes 
 cells-fit l k h = omega (arith, div-add-mod l nameBytes)
 
 module _ (names : List ℕ) (k : ℕ) (within : k < nameCount names) where
-  cell-length : length (nameCell names k) ≡ nameBytes
+  pub cell-length : length (nameCell names k) ≡ nameBytes
   cell-length =
       let l = length-drop (nameBytes * k) names in
       length-take-le nameBytes (drop (nameBytes * k) names) (omega (arith, cells-fit (length names) k within, l))
 
-  cell-byte-at : (i : ℕ) → i < nameBytes → getD (nameCell names k) i 0 ≡ getD names (nameBytes * k + i) 0
+  pub cell-byte-at : (i : ℕ) → i < nameBytes → getD (nameCell names k) i 0 ≡ getD names (nameBytes * k + i) 0
   cell-byte-at i h = getD-take nameBytes (drop (nameBytes * k) names) i 0 h ∙ getD-drop (nameBytes * k) names i 0
 
-  bytes-in-cell : cellBytes names ≡ true → cellBytes (nameCell names k) ≡ true
+  pub bytes-in-cell : cellBytes names ≡ true → cellBytes (nameCell names k) ≡ true
   unfolding cellBytes
   bytes-in-cell e =
       every-of (λ i. cellByte (getD (nameCell names k) i 0)) (length (nameCell names k)) 0

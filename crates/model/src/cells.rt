@@ -10,14 +10,14 @@ ghost use Rattle.model.specs.Cells.{cellByte, cellBytes, follows, zerosL
 const MAX_BYTES: usize = spec::NAME_BYTES * spec::MAX_NAMES;
 
 // Whether x may stand in a cell: a byte of a name, or 0.
-fn cell_byte(x: u8) -> bool
+pub fn cell_byte(x: u8) -> bool
     ensures { λ r. ⌜ r ≡ cellByte x ⌝ }
 {
     scan::name_byte(x) | (x == 0)
 }
 
 // Whether every byte may stand in a cell.
-fn cell_bytes(s: &[u8]) -> bool
+pub fn cell_bytes(s: &[u8]) -> bool
     ensures { λ r. ⌜ r ≡ cellBytes (now (s .entry)) ⌝ }
 {
     let mut fine = true;

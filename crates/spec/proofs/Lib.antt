@@ -6,6 +6,7 @@ pub mod Bytes
 pub mod Packing
 pub mod Model
 pub mod Text
+pub mod Classes
 pub mod Read
 pub mod Print
 pub mod Path
