@@ -89,6 +89,60 @@ long_lines() {
     ' {} +
 }
 
+# ---- what ships: the crates that mtcore reaches
+
+crates_shipped() {
+    LC_ALL=C awk '
+        /^[a-z0-9_]+:/ { crate = $1; sub(/:$/, "", crate); needs[crate] = $0; sub(/^[^:]*:/, "", needs[crate]) }
+        END {
+            ships["mtcore"]
+            do {
+                more = 0
+                for (crate in ships) {
+                    count = split(needs[crate], need, " ")
+                    for (i = 1; i <= count; i++) if (!(need[i] in ships)) { ships[need[i]]; more = 1 }
+                }
+            } while (more)
+            for (crate in ships) print crate
+        }
+    ' crates.txt | sort
+}
+
+sources_shipped() { for crate in $(crates_shipped); do find "crates/$crate/src" -name '*.rt' 2>/dev/null; done; }
+
+# Tables in the code that ships: a constant or static array, or an array written out. A byte is told by comparisons.
+tables_written() {
+    sources_shipped | while read -r file; do
+        LC_ALL=C awk -v file="$file" '
+            { line = $0; sub(/\/\/.*/, "", line) }
+            line ~ /(const|static)( mut)? [A-Za-z0-9_]+ *: *&?\[/ || line ~ /\[ *(-?[0-9]|true|false|b\047)[^];]*,/ {
+                print file ":" FNR
+            }
+        ' "$file"
+    done
+}
+
+# byte strings in the code that ships which .ci/words doesn't have: a class may not be told by a search in one
+words_unlisted() {
+    sources_shipped | while read -r file; do
+        LC_ALL=C grep -o 'b"[^"\]*\(\\.[^"\]*\)*"' "$file" | grep -v -x -F -f .ci/words | sed "s|^|$file: |"
+    done
+}
+
+# Of an archive, a line each: 'code BYTES', 'constants BYTES', 'data BYTES', and 'section KIND NAME BYTES' for each
+# section that is loaded. What isn't loaded, as notes, symbols and debugging, doesn't count.
+archive_bytes() { # ARCHIVE
+    [ -f "$1" ] && LC_ALL=C size -A -d "$1" 2>/dev/null | LC_ALL=C awk '
+        $1 !~ /^\./ || $2 !~ /^[0-9]+$/ { next }
+        $1 ~ /^\.(comment|note|llvm_addrsig|debug|symtab|strtab|shstrtab)/ { next }
+        { kind = "constants"; known = 1 }
+        $1 ~ /^\.text/ { kind = "code" }
+        $1 ~ /^\.(data|bss|tdata|tbss)/ && $1 !~ /^\.data\.rel\.ro/ { kind = "data" }
+        { bytes[kind] += $2; if ($2 > 0) print "section", kind, $1, $2 }
+        END { if (known) for (k = split("code constants data", kinds, " "); k > 0; k--) print kinds[k], bytes[kinds[k]] + 0 }
+    '
+}
+
 # ---- what the checker says
 
 # from the output of rt: crates proved, and programs that ran
