@@ -1,17 +1,19 @@
 -- Laws of what a path selects, as the code goes: names, the components under a type, the items, the forms.
-use Prim.Native.Nat.{ℕ, _+_, _-_, _*_, _<_, _≤_}
+use Prim.Native.Nat.{ℕ, suc, _+_, _-_, _*_, _^_, _<_, _≤_}
 use mathlib.Core.Path.{_≡_, refl, sym, ap, _∙_}
-use mathlib.Core.Bool.{Bool, true, false, not, _&&_, _||_, and-true, and-false}
+use mathlib.Core.Bool.{Bool, true, false, cond, not, _&&_, _||_, and-true, and-false}
 use mathlib.Core.List.{List, [], _∷_}
 use mathlib.Core.Option.{some}
+use native.Mathlib.Nat.{mul-le-mul-right, two-pow-succ}
 use native.Mathlib.Omega.{arith}
 use borrow.Author.Tests.{eqb-true, eqb-false, eq-eqb, ne-eqb, not-true, not-false}
 use lib.Dec.{eqb}
 use lib.ListN.{length, take, drop, length-take}
+use lib.Pow.{pow-mono}
 use lib.Seq.{take-take, length-take-le}
 use Rattle.spec.specs.Words.{anyBelow, bit, setOf}
 use Rattle.spec.specs.Bytes.{nameByte, same}
-use Rattle.spec.specs.Model.{Checked, nameBytes, letters, nameCell, maxComponents, components, items}
+use Rattle.spec.specs.Model.{Checked, nameBytes, letters, nameCell, maxComponents, maxItems, components, items}
 use Rattle.spec.specs.Model.{componentWord, itemWord, parentOf, componentName, componentOf, itemName}
 use Rattle.spec.specs.Path.{Form, subtree, typed, otherForm, formOf, isNamed, hasType, under, inSubtree, inTyped}
 use Rattle.spec.specs.Path.{selectSubtree, selectTyped, selectForm, select}
@@ -124,6 +126,35 @@ pub chosen-is : (model names : List ℕ) (set : ℕ) (u : Bool) (y : List ℕ) (
     → b ≡ taken names set u y w → b ≡ chosen model names set u y j
 unfolding chosen
 chosen-is model names set u y j w b ew eb = rw (eb, ew)
+
+-- ---- the items, from the last one down
+
+-- number n of a set goes over to those above it, r
+set-top : (p : ℕ → Bool) (n r : ℕ) → 2 ^ suc n * r + setOf p (suc n) ≡ 2 ^ n * (2 * r + cond (p n) 1 0) + setOf p n
+unfolding setOf
+set-top p n r = rw (two-pow-succ n) (go (p n))
+  where
+    go : (t : Bool)
+        → (2 ^ n + 2 ^ n) * r + cond t (2 ^ n + setOf p n) (setOf p n) ≡ 2 ^ n * (2 * r + cond t 1 0) + setOf p n
+    go true = omega arith
+    go false = omega arith
+
+-- a turn of the loop: r has the numbers from n on, moved down by n
+module _ (p : ℕ → Bool) (m n r : ℕ) (rest : setOf p m ≡ 2 ^ n * r + setOf p n) where
+  pub set-room : m ≤ maxItems → 0 < n → 2 * r + 1 < 2 ^ maxItems
+  set-room h more =
+      let d : 2 * r ≤ 2 ^ n * r = mul-le-mul-right r (pow-mono {i = 1} {j = n} more) in
+      omega (arith, set-lt p m, pow-mono {i = m} {j = maxItems} h)
+
+  pub set-down : 0 < n → (q : ℕ) (t : Bool) → t ≡ p (n - 1) → q ≡ 2 * r + cond t 1 0
+      → setOf p m ≡ 2 ^ (n - 1) * q + setOf p (n - 1)
+  set-down more q t e g =
+      let s : n ≡ suc (n - 1) = omega arith in
+      rest ∙ ap (λ (x : ℕ). 2 ^ x * r + setOf p x) s ∙ set-top p (n - 1) r ∙ rw (g, e)
+
+  pub set-whole : n ≤ 0 → r ≡ setOf p m
+  unfolding setOf
+  set-whole none = let z : n ≡ 0 = omega arith in omega (arith, rw z at rest)
 
 -- ---- the selections
 module _ (model names t y : List ℕ) (set : ℕ) (e : set ≡ under model names t (components model)) where

@@ -83,19 +83,19 @@ fn takes(names: &[u8], word: u64, set: u64, typed: bool, y: &[u8]) -> bool
 }
 
 // The items of the components in the set; where `typed` asks for it, only those of item type y.
+// From the last item down, each step only moves the selection up by one.
 fn items_of(model: &[u32], names: &[u8], set: u64, typed: bool, y: &[u8]) -> u64
     requires { ⌜ Checked (now model) (now names) ⌝ }
     ensures { λ r. ⌜ r
         ≡ setOf (chosen (now (model .entry)) (now (names .entry)) set typed (now (y .entry)))
         (items (now (model .entry))) ⌝ }
 {
-    let m = model::items(model);
     let mut selection: u64 = 0;
-    let mut j: u64 = 0;
-    while j < m {
+    let mut j = model::items(model);
+    while 0 < j {
+        j -= 1;
         let word = model::item_word(model, j);
-        selection = selection::with_if(takes(names, word, set, typed, y), selection, j);
-        j += 1;
+        selection = selection::moved_up(takes(names, word, set, typed, y), selection);
     }
     selection
 }

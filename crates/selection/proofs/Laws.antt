@@ -1,12 +1,13 @@
 -- Laws of a bit as a number, and of the set of all items.
-use Prim.Native.Nat.{ℕ, zero, suc, _-_, _+_, _/_, _%_, _^_, _<_, _≤_}
+use Prim.Native.Nat.{ℕ, zero, suc, _-_, _+_, _*_, _/_, _%_, _^_, _<_, _≤_}
 use mathlib.Core.Path.{_≡_, refl, sym, ap, _∙_}
 use mathlib.Core.Bool.{Bool, true, false, cond}
 use native.Mathlib.Nat.{mod-lt}
 use native.Mathlib.Omega.{arith}
 use borrow.Author.Tests.{ne-eqb}
-use lib.Dec.{eqb}
-use lib.Pow.{ones-split, ones-lt, high}
+use lib.Bits.{bitOr, or-shifted}
+use lib.Dec.{eqb, lit<}
+use lib.Pow.{ones-split, ones-lt, high, shl-exact}
 use Rattle.spec.specs.Words.{bit, setOf}
 use Rattle.spec.specs.Model.{maxItems}
 use Rattle.spec.specs.Path.{anyItem}
@@ -34,6 +35,20 @@ module _ {t : Bool} {x : ℕ} (b : (x ≡ cond t 1 0) × (x ≤ 1)) where
 
   pub bit-no : (x ≡ 1 → ⊥) → t ≡ false
   bit-no e = sym (number-test t x (b .0)) ∙ ne-eqb x 1 e
+
+-- ---- each item moved up by one
+
+module _ (set : ℕ) (room : 2 * set + 1 < 2 ^ maxItems) where
+  kept : set * 2 ^ 1 % 2 ^ 64 ≡ set * 2 ^ 1
+  kept = shl-exact {a = set} 63 1 64 (omega arith) (omega arith)
+
+  -- none is lost above
+  pub up-one : set * 2 ^ 1 % 2 ^ 64 ≡ 2 * set
+  up-one = kept ∙ omega arith
+
+  -- and place 0 is free
+  pub up-with : bitOr (set * 2 ^ 1 % 2 ^ 64) 1 ≡ 2 * set + 1
+  up-with = ap (λ (x : ℕ). bitOr x 1) kept ∙ or-shifted set 1 1 (lit< tt) ∙ omega arith
 
 -- ---- all items
 

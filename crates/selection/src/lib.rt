@@ -1,7 +1,7 @@
-// Selections: sets of items, one bit each. Their form is known here alone: others test, add, count, or take all.
+// Selections: sets of items, one bit each. Their form is known here alone: others test, add, move, count, or take all.
 ghost use mathlib.Core.Path.{_≡_};
 ghost use mathlib.Core.Bool.{cond};
-ghost use Prim.Native.Nat.{_+_, _^_, _<_, _≤_};
+ghost use Prim.Native.Nat.{_+_, _*_, _^_, _<_, _≤_};
 ghost use lib.Count.{ones};
 ghost use Rattle.spec.specs.Words.{bit, setOf};
 ghost use Rattle.spec.specs.Model.{maxItems};
@@ -35,6 +35,17 @@ pub fn with_if(taken: bool, set: u64, i: u64) -> u64
         return set | (1 << i);
     }
     set
+}
+
+// The set with each item moved up by one, and item 0 where `taken` says so.
+pub fn moved_up(taken: bool, set: u64) -> u64
+    requires { ⌜ 2 * set + 1 < 2 ^ maxItems ⌝ }
+    ensures { λ r. ⌜ r ≡ 2 * set + cond taken 1 0 ⌝ }
+{
+    if taken {
+        return (set << 1) | 1;
+    }
+    set << 1
 }
 
 // How many items the selection has.
