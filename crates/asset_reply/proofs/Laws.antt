@@ -6,21 +6,22 @@ use mathlib.Core.List.{List, [], _∷_, _++_, append-nil}
 use native.Mathlib.Numerals.{add-one}
 use native.Mathlib.Omega.{arith}
 use lib.Dec.{ltb, eqb}
-use lib.ListN.{length, getD, set, take, drop, length-set, length-append, length-take, length-drop, drop-of-length-le}
-use lib.Seq.{sets, drop-cons, getD-take, length-take-le, take-suc-set, append-snoc, getD-set-same, getD-set-other}
-use borrow.Author.Tests.{lt-ltb, le-ltb, leb-true, ltb-true, ltb-false, eqb-true, eqb-false}
+use lib.ListN.{length, getD, set, take, drop, length-set, length-append, length-drop, drop-of-length-le}
+use lib.Seq.{sets, drop-cons, length-take-le, take-suc-set, append-snoc, getD-set-same, getD-set-other, length-sets}
+use borrow.Author.Tests.{lt-ltb, le-ltb, lt-leb, le-leb, leb-true, leb-false, ltb-true, ltb-false, eqb-true, eqb-false}
 use Rattle.spec.specs.Bytes.{before, split}
 use Rattle.spec.specs.Text.{idText, idTexts, longestText}
 use Rattle.spec.specs.Assets.{maxAssets, capacity, used, lengthAt, lengthOk, find}
-use Rattle.spec.specs.Reply.{refuse, numbers, lengths, assetWords, assetReply}
+use Rattle.spec.specs.Reply.{Replied, refuse, numbers, lengths, assetWords, assetReply}
 use Rattle.spec.specs.Calls.{cellRows, allCells, cellsReply, findAll, namedReply, downFrom}
 use Rattle.spec.specs.declared.Refusal.the-variants.{Store, Space, AssetNotFound}
-use Rattle.spec.specs.declared.Answer.the-variants.{Done}
+use Rattle.spec.specs.declared.Answer.the-variants.{Done, Refused}
 use Rattle.spec.proofs.Words.{and-left, and-right}
 use Rattle.asset_reply.specs.declared.Found.{Found}
 use Rattle.asset_reply.specs.Cells.{Cells, FoundAll}
+use Rattle.asset_reply.specs.Fitted.{Fitted}
 use Rattle.spec.proofs.Reply.{length-numbers, length-lengths}
-use Rattle.reply.proofs.Laws.{sets-set, lent-over, written-short, written-whole}
+use Rattle.reply.proofs.Laws.{sets-set, lent-room, lent-over, written-short, written-whole}
 use Rattle.parts.proofs.Laws.{split-at-more, split-at-last}
 use Rattle.asset_reply.specs.declared.Found.the-variants as found
 
@@ -31,32 +32,28 @@ unfolding cellRows
 length-rows bs [] = refl
 length-rows bs (c ∷ cells) = ap suc (length-rows bs cells)
 
--- ---- the first k cells, one by one
+-- ---- k cells, one by one: c is the next
 
-module _ (bs cells : List ℕ) (k : ℕ) (is : Cells bs cells k) where
-  length-first : length (take k cells) ≡ k
-  length-first = length-take-le k cells (is .there)
+module _ (cells : List ℕ) {k : ℕ} (many : length cells ≡ k) where
+  pub next-cell : (i : ℕ) {c : ℕ} → i < k → getD cells i 0 ≡ c → drop i cells ≡ c ∷ drop (i + 1) cells
+  next-cell i h e = rw (add-one i, drop-cons cells i 0 (omega arith), e)
 
-  first-step : (i : ℕ) → i < k → drop i (take k cells) ≡ getD cells i 0 ∷ drop (i + 1) (take k cells)
-  first-step i h =
-      rw (add-one i, drop-cons (take k cells) i 0 (omega (arith, length-first)), getD-take k cells i 0 h)
+  pub no-cell : (i : ℕ) → k ≤ i → drop i cells ≡ []
+  no-cell i h = drop-of-length-le cells {i = i} (omega arith)
 
-  first-end : (i : ℕ) → k ≤ i → drop i (take k cells) ≡ []
-  first-end i h = drop-of-length-le (take k cells) {i = i} (omega (arith, length-first))
+-- a turn of a loop that tests cells: whole is what it is to answer, rest are those that it has not tested
+module _ (p : ℕ → Bool) (whole : Bool) {rest : List ℕ} (is : whole ≡ allCells p rest) where
+  pub test-no : {c : ℕ} {more : List ℕ} → rest ≡ c ∷ more → p c ≡ false → false ≡ whole
+  unfolding allCells
+  test-no s e = sym (is ∙ rw (s, e))
 
-  -- a turn of a loop that tests them: whole is what it is to answer
-  module _ (p : ℕ → Bool) (whole : Bool) (i : ℕ) (rest : whole ≡ allCells p (drop i (take k cells))) where
-    pub test-no : i < k → p (getD cells i 0) ≡ false → false ≡ whole
-    unfolding allCells
-    test-no h e = sym (rest ∙ rw (first-step i h, e))
+  pub test-yes : {c : ℕ} {more : List ℕ} → rest ≡ c ∷ more → p c ≡ true → whole ≡ allCells p more
+  unfolding allCells
+  test-yes s e = is ∙ rw (s, e)
 
-    pub test-yes : i < k → p (getD cells i 0) ≡ true → whole ≡ allCells p (drop (i + 1) (take k cells))
-    unfolding allCells
-    test-yes h e = rest ∙ rw (first-step i h, e)
-
-    pub test-end : k ≤ i → true ≡ whole
-    unfolding allCells
-    test-end h = sym (rest ∙ rw (first-end i h))
+  pub test-end : rest ≡ [] → true ≡ whole
+  unfolding allCells
+  test-end s = sym (is ∙ rw s)
 
 -- two runs of words: what the first word of each leaves to store
 two-more : (l : List ℕ) (i q c x : ℕ) (C L : List ℕ) → suc i + length C ≤ q
@@ -64,141 +61,150 @@ two-more : (l : List ℕ) (i q c x : ℕ) (C L : List ℕ) → suc i + length C 
 two-more l i q c x C L h =
     rw (add-one i, add-one q) (ap (λ (y : List ℕ). sets y (suc q) L) (sym (sets-set C (set l i c) (suc i) q x h)))
 
--- a turn of a loop that writes the cells from word 0 and their lengths from word k: l is what it has of o
+-- a turn of a loop that writes k cells from word 0 and their lengths from word k: l is what it has of o
 pub record Writing (bs cells : List ℕ) (k : ℕ) (o l : List ℕ) (i : ℕ) : Type 0 where
   pub below : i ≤ k
   pub size : length l ≡ length o
-  pub all : sets (sets o 0 (numbers (cellRows bs (take k cells)))) k (lengths (cellRows bs (take k cells)))
-      ≡ sets (sets l i (numbers (cellRows bs (drop i (take k cells))))) (k + i)
-      (lengths (cellRows bs (drop i (take k cells))))
+  pub all : sets (sets o 0 (numbers (cellRows bs cells))) k (lengths (cellRows bs cells))
+      ≡ sets (sets l i (numbers (cellRows bs (drop i cells)))) (k + i) (lengths (cellRows bs (drop i cells)))
 
 pub writing-none : (bs cells : List ℕ) (k : ℕ) (o : List ℕ) → Writing bs cells k o o 0
 writing-none bs cells k o = let z : k + 0 ≡ k = omega arith in record { below = omega arith; size = refl; all = rw z }
 
-module _ {bs cells o l : List ℕ} {k i : ℕ} (w : Writing bs cells k o l i) (is : Cells bs cells k) where
-  pub writing-more : i < k → (n : ℕ) → n ≡ lengthAt bs (getD cells i 0)
-      → Writing bs cells k o (set (set l i (getD cells i 0)) (k + i) n) (i + 1)
+module _ {bs cells o l : List ℕ} {k i : ℕ} (w : Writing bs cells k o l i) (many : length cells ≡ k) where
+  pub writing-more : i < k → (c n : ℕ) → getD cells i 0 ≡ c → n ≡ lengthAt bs c
+      → Writing bs cells k o (set (set l i c) (k + i) n) (i + 1)
   unfolding numbers lengths cellRows
-  writing-more h n e =
-      let more = drop (i + 1) (take k cells) in
+  writing-more h c n is e =
+      let more = cellRows bs (drop (i + 1) cells) in
       let z : k + (i + 1) ≡ k + i + 1 = omega arith in
       record {
         below = omega arith;
         size = simp length-set (w .size);
         all =
             w .all
-            ∙ rw (first-step bs cells k is i h, ← e, z)
-            (two-more l i (k + i) (getD cells i 0) n (numbers (cellRows bs more)) (lengths (cellRows bs more))
+            ∙ rw (next-cell cells many i h is, ← e, z)
+            (two-more l i (k + i) c n (numbers more) (lengths more)
             (omega (
               arith,
-              length-numbers (cellRows bs more),
-              length-rows bs more,
-              length-drop (i + 1) (take k cells),
-              length-first bs cells k is,
+              length-numbers more,
+              length-rows bs (drop (i + 1) cells),
+              length-drop (i + 1) cells,
             )));
       }
 
-  pub writing-end : k ≤ i
-      → l ≡ sets (sets o 0 (numbers (cellRows bs (take k cells)))) k (lengths (cellRows bs (take k cells)))
+  pub writing-end : k ≤ i → l ≡ sets (sets o 0 (numbers (cellRows bs cells))) k (lengths (cellRows bs cells))
   unfolding numbers lengths cellRows
-  writing-end h = sym (w .all ∙ rw (first-end bs cells k is i h))
+  writing-end h = sym (w .all ∙ rw (no-cell cells many i h))
 
--- ---- the reply of the first k cells: t says whether their lengths are right
+-- ---- k rows that fit or don't
 
-module _ (bs cells reply : List ℕ) (k : ℕ) (is : Cells bs cells k) where
-  asset-size : length (assetWords (used bs) (capacity bs) (cellRows bs (take k cells))) ≡ 4 + 2 * k
-  unfolding assetWords
-  asset-size =
-      let rows = cellRows bs (take k cells) in
-      let n : length rows ≡ k = length-rows bs (take k cells) ∙ length-first bs cells k is in
-      omega (arith, length-append (numbers rows) (lengths rows), length-numbers rows, length-lengths rows)
+module _ (bs reply : List ℕ) (k : ℕ) where
+  pub fitted-not : length reply < 4 + 2 * k → Fitted bs reply k false reply
+  fitted-not h = record { told = sym (lt-leb _ _ h); sized = refl }
 
-  module _ (t : Bool) (e : t ≡ allCells (λ i. lengthOk (lengthAt bs i)) (take k cells)) where
-    pub cells-wrong : t ≡ false → cellsReply bs (take k cells) reply ≡ refuse Store reply
-    unfolding cellsReply
-    cells-wrong f = rw (← e, f)
+  pub fitted : {x : List ℕ} {u a : ℕ} → 4 + 2 * k ≤ length reply → u ≡ used bs → a ≡ capacity bs
+      → x ≡ sets reply 0 (k ∷ u ∷ a ∷ 0 ∷ []) → Fitted bs reply k true x
+  fitted h iu ia e = record { told = sym (le-leb _ _ h); sized = e ∙ rw (iu, ia) }
 
-    pub cells-short : t ≡ true → length reply < 4 + 2 * k → cellsReply bs (take k cells) reply ≡ refuse Space reply
+module _ {bs reply x : List ℕ} {k : ℕ} {t : Bool} (w : Fitted bs reply k t x) where
+  module _ (fits : t ≡ true) where
+    room : 4 + 2 * k ≤ length reply
+    room = leb-true _ _ (sym (w .told) ∙ fits)
+
+    front : x ≡ sets reply 0 (k ∷ used bs ∷ capacity bs ∷ 0 ∷ [])
+    front = rw fits at (w .sized)
+
+    -- the part behind the sizes begins inside the reply and has room for the rows
+    pub behind : 4 ≤ length x
+    behind = omega (arith, room, ap length front, length-sets reply 0 (k ∷ used bs ∷ capacity bs ∷ 0 ∷ []))
+
+    pub lends : 2 * k ≤ length (take (length x - 4) (drop 4 x))
+    lends = lent-room reply x k (used bs) (capacity bs) 0 front (2 * k) room
+
+  -- ---- the reply of k cells: r says whether their lengths are right
+
+  module _ (cells : List ℕ) {r : Bool} (many : length cells ≡ k)
+      (e : r ≡ allCells (λ i. lengthOk (lengthAt bs i)) cells) where
+    asset-size : length (assetWords (used bs) (capacity bs) (cellRows bs cells)) ≡ 4 + 2 * k
+    unfolding assetWords
+    asset-size =
+        let rows = cellRows bs cells in
+        omega (
+          arith,
+          length-append (numbers rows) (lengths rows),
+          length-numbers rows,
+          length-lengths rows,
+          length-rows bs cells,
+        )
+
+    pub cells-short : r ≡ true → t ≡ false → cellsReply bs cells reply ≡ record { answer = Refused Space; reply = x }
     unfolding cellsReply assetReply
-    cells-short f h = rw (← e, f) (written-short _ _ _ (omega (arith, asset-size)))
+    cells-short right f =
+        let kept : x ≡ reply = rw f at (w .sized) in
+        let h : length reply < 4 + 2 * k = leb-false _ _ (sym (w .told) ∙ f) in
+        rw (← e, right, kept) (written-short _ _ _ (omega (arith, asset-size)))
 
-    -- x with its sizes, y the part behind them
-    pub cells-whole : (x y : List ℕ) (u a : ℕ) → t ≡ true → 4 + 2 * k ≤ length reply → u ≡ used bs → a ≡ capacity bs
-        → x ≡ sets reply 0 (k ∷ u ∷ a ∷ 0 ∷ [])
-        → (let rows = cellRows bs (take k cells) in
+    -- y is the part behind the sizes as it comes back
+    pub cells-whole : (y : List ℕ) → r ≡ true → t ≡ true
+        → (let rows = cellRows bs cells in
         y ≡ sets (sets (take (length x - 4) (drop 4 x)) 0 (numbers rows)) k (lengths rows))
-        → cellsReply bs (take k cells) reply
+        → cellsReply bs cells reply
         ≡ record { answer = Done k; reply = take 4 x ++ (y ++ drop (length x - 4) (drop 4 x)) }
     unfolding cellsReply assetReply assetWords
-    cells-whole x y u a f h eu ea ex ey =
-        let rows = cellRows bs (take k cells) in
-        let n : length rows ≡ k = length-rows bs (take k cells) ∙ length-first bs cells k is in
+    cells-whole y right fits ey =
+        let rows = cellRows bs cells in
+        let n : length rows ≡ k = length-rows bs cells ∙ many in
         let c = length-numbers rows in
         let l = length-lengths rows in
-        let o = lent-over reply x k u a 0 ex y (numbers rows) (lengths rows) k (omega arith) (omega arith) ey in
-        rw (← e, f, n)
+        let h = room fits in
+        rw (← e, right, n)
         (written-whole k (k ∷ used bs ∷ capacity bs ∷ 0 ∷ (numbers rows ++ lengths rows)) reply _
         (omega (arith, length-append (numbers rows) (lengths rows)))
-        (rw (eu, ea) at o))
+        (lent-over reply x k (used bs) (capacity bs) 0 (front fits) y (numbers rows) (lengths rows) k (omega arith)
+        (omega arith) ey))
 
--- one more cell is kept behind the first i
-kept-more : (cells : List ℕ) (i x : ℕ) → i < length cells → take (i + 1) (set cells i x) ≡ take i cells ++ (x ∷ [])
-kept-more cells i x h = rw (add-one i) (take-suc-set cells i x h)
+pub cells-wrong : (bs cells reply : List ℕ) (r : Bool) → r ≡ allCells (λ i. lengthOk (lengthAt bs i)) cells → r ≡ false
+    → cellsReply bs cells reply ≡ refuse Store reply
+unfolding cellsReply
+cells-wrong bs cells reply r e f = rw (← e, f)
+
+-- ---- the first k cells of an array
+
+pub length-first : {bs cells : List ℕ} {k : ℕ} → Cells bs cells k → length (take k cells) ≡ k
+length-first {bs} {cells} {k} is = length-take-le k cells (is .there)
 
 -- ---- u - 1, .. 0
 
-pub record Falling (u : ℕ) (cells : List ℕ) (i : ℕ) : Type 0 where
-  pub below : i ≤ u
-  pub size : length cells ≡ maxAssets
-  pub all : take i cells ++ downFrom (u - i) ≡ downFrom u
-
-pub falling-none : (u : ℕ) (cells : List ℕ) → length cells ≡ maxAssets → Falling u cells 0
-falling-none u cells h = let z : u - 0 ≡ u = omega arith in record { below = omega arith; size = h; all = rw z }
-
-pub falling-more : {u : ℕ} {cells : List ℕ} {i : ℕ} → Falling u cells i → i < u → u ≤ maxAssets
-    → Falling u (set cells i (u - 1 - i)) (i + 1)
-unfolding downFrom
-falling-more {u} {cells} {i} w h few =
-    let x = u - 1 - i in
-    let s = w .size in
-    let z : u - i ≡ suc (u - (i + 1)) = omega arith in
-    let v : u - (i + 1) ≡ x = omega arith in
-    let d : downFrom (u - i) ≡ x ∷ downFrom (u - (i + 1)) = rw z (ap (λ (y : ℕ). y ∷ downFrom (u - (i + 1))) v) in
-    record {
-      below = omega arith;
-      size = simp length-set s;
-      all =
-          rw (kept-more cells i x (omega arith))
-          (append-snoc (take i cells) x (downFrom (u - (i + 1))) ∙ rw d at (w .all));
-    }
-
-pub falling-end : {u : ℕ} {cells : List ℕ} {i : ℕ} → Falling u cells i → u ≤ i → take u cells ≡ downFrom u
-unfolding downFrom
-falling-end {u} {cells} {i} w h =
-    let e : i ≡ u = omega (arith, w .below) in
-    let z : u - u ≡ 0 = omega arith in
-    sym (append-nil (take u cells)) ∙ rw (e, z) at (w .all)
-
-length-down : (n : ℕ) → length (downFrom n) ≡ n
+pub length-down : (n : ℕ) → length (downFrom n) ≡ n
 unfolding downFrom
 length-down zero = refl
 length-down (suc n) = ap suc (length-down n)
 
-down-below : (n i : ℕ) → i < n → getD (downFrom n) i 0 < n
+pub down-at : (n i : ℕ) → i < n → getD (downFrom n) i 0 ≡ n - 1 - i
 unfolding downFrom
-down-below zero i h = absurd (omega arith)
-down-below (suc n) zero h = omega arith
-down-below (suc n) (suc i) h = omega (arith, down-below n i (omega arith))
+down-at zero i h = absurd (omega arith)
+down-at (suc n) zero h = omega arith
+down-at (suc n) (suc i) h = omega (arith, down-at n i (omega arith))
 
-pub down-cells : (bs cells : List ℕ) (u : ℕ) → u ≡ used bs → u ≤ maxAssets → take u cells ≡ downFrom u
-    → Cells bs cells u
-down-cells bs cells u eu few e =
-    let n : length (take u cells) ≡ u = ap length e ∙ length-down u in
-    record {
-      few = few;
-      there = omega (arith, length-take u cells);
-      below = λ i h. rw (← eu, ← getD-take u cells i 0 h, e) (down-below u i h);
-    }
+pub next-down : (n : ℕ) → 0 < n → downFrom n ≡ (n - 1) ∷ downFrom (n - 1)
+unfolding downFrom
+next-down zero h = absurd (omega arith)
+next-down (suc n) h = let z : suc n - 1 ≡ n = omega arith in rw z
+
+pub no-down : (n : ℕ) → n ≤ 0 → downFrom n ≡ []
+unfolding downFrom
+no-down zero h = refl
+no-down (suc n) h = absurd (omega arith)
+
+-- all cells, where u is how many are used
+pub of-used : (bs reply : List ℕ) {u : ℕ} {o : Replied} → u ≡ used bs → cellsReply bs (downFrom u) reply ≡ o
+    → cellsReply bs (downFrom (used bs)) reply ≡ o
+of-used bs reply e h = sym (ap (λ (n : ℕ). cellsReply bs (downFrom n) reply) e) ∙ h
+
+-- one more cell is kept behind the first i
+kept-more : (cells : List ℕ) (i x : ℕ) → i < length cells → take (i + 1) (set cells i x) ≡ take i cells ++ (x ∷ [])
+kept-more cells i x h = rw (add-one i) (take-suc-set cells i x h)
 
 -- ---- the cells of the ids from `start` on, found up to `at`
 

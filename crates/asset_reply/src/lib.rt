@@ -10,6 +10,7 @@ ghost use Rattle.spec.specs.Assets.{AssetHead, maxAssets, used, lengthAt, lengt
 ghost use Rattle.spec.specs.Reply.{numbers, lengths};
 ghost use Rattle.spec.specs.Calls.{cellRows, allCells, cellsReply, namedReply, downFrom};
 ghost use Rattle.asset_reply.specs.Cells.{Cells, FoundAll};
+ghost use Rattle.asset_reply.specs.Fitted.{Fitted};
 use spec::ASSET_SLOTS;
 use spec::Answer;
 use spec::Refusal;
@@ -38,6 +39,37 @@ fn lengths_ok(assets: &[u8], cells: &[u64; ASSET_SLOTS], k: u64) -> bool
     true
 }
 
+// Whether the lengths of the cells u - 1, .. 0 are ones that a body may have.
+fn all_lengths_ok(assets: &[u8], u: u64) -> bool
+    requires { ⌜ AssetHead (now assets) ⌝ }
+    requires { ⌜ u ≤ used (now assets) ⌝ }
+    ensures { λ r. ⌜ r ≡ allCells (λ i. lengthOk (lengthAt (now (assets .entry)) i)) (downFrom u) ⌝ }
+{
+    let mut left = u;
+    while 0 < left {
+        left -= 1;
+        if !assets::length_ok(assets::length_at(assets, left)) {
+            return false;
+        }
+    }
+    true
+}
+
+// Whether k rows fit the reply; if so, the four sizes are written.
+fn fit_sizes(assets: &[u8], k: u64, reply: &mut [u64]) -> bool
+    requires { ⌜ AssetHead (now assets) ⌝ }
+    requires { ⌜ k ≤ maxAssets ⌝ }
+    ensures { λ r. ⌜ Fitted (now (assets .entry)) (now (reply .entry)) k r (now (reply .exit)) ⌝ }
+{
+    if (reply.len() as u64) < 4 + 2 * k {
+        return false;
+    }
+    let used = assets::used(assets);
+    let capacity = assets::capacity(assets);
+    reply::write_sizes(reply, k, used, capacity, 0);
+    true
+}
+
 // The first k cells, then their lengths.
 fn write_cells(assets: &[u8], cells: &[u64; ASSET_SLOTS], k: u64, out: &mut [u64])
     requires { ⌜ AssetHead (now assets) ⌝ }
@@ -57,6 +89,25 @@ fn write_cells(assets: &[u8], cells: &[u64; ASSET_SLOTS], k: u64, out: &mut [u64
     }
 }
 
+// The cells u - 1, .. 0, then their lengths. Each turn writes the newest that is left.
+fn write_all(assets: &[u8], u: u64, out: &mut [u64])
+    requires { ⌜ AssetHead (now assets) ⌝ }
+    requires { ⌜ u ≤ used (now assets) ⌝ }
+    requires { ⌜ 2 * u ≤ length (now out) ⌝ }
+    ensures { λ r. ⌜
+        (let rows = cellRows (now (assets .entry)) (downFrom u) in
+        now (out .exit) ≡ sets (sets (now (out .entry)) 0 (numbers rows)) u (lengths rows))
+        ⌝ }
+{
+    let mut i: u64 = 0;
+    while i < u {
+        let newest = u - 1 - i;
+        out[i as usize] = newest;
+        out[(u + i) as usize] = assets::length_at(assets, newest);
+        i += 1;
+    }
+}
+
 // The reply of the first k cells: a wrong length is refused (2) before a buffer that is too short (15).
 fn reply_cells(assets: &[u8], cells: &[u64; ASSET_SLOTS], k: u64, reply: &mut [u64]) -> Answer
     requires { ⌜ AssetHead (now assets) ⌝ }
@@ -69,29 +120,14 @@ fn reply_cells(assets: &[u8], cells: &[u64; ASSET_SLOTS], k: u64, reply: &mut [u
     if !lengths_ok(assets, cells, k) {
         return Answer::Refused(Refusal::Store);
     }
-    if (reply.len() as u64) < 4 + 2 * k {
+    if !fit_sizes(assets, k, reply) {
         return Answer::Refused(Refusal::Space);
     }
-    let used = assets::used(assets);
-    let capacity = assets::capacity(assets);
-    reply::write_sizes(reply, k, used, capacity, 0);
     write_cells(assets, cells, k, &mut reply[4..]);
     Answer::Done(k)
 }
 
-// u - 1, .. 0 at the front of the cells.
-fn fill_down(u: u64, cells: &mut [u64; ASSET_SLOTS])
-    requires { ⌜ (u ≤ maxAssets) × (length (now cells) ≡ maxAssets) ⌝ }
-    ensures { λ r. ⌜ take u (now (cells .exit)) ≡ downFrom u ⌝ }
-{
-    let mut i: u64 = 0;
-    while i < u {
-        cells[i as usize] = u - 1 - i;
-        i += 1;
-    }
-}
-
-// The reply of all assets, newest first.
+// The reply of all assets, newest first, refused in the same order. An array of their cells would only cost time.
 pub fn reply_all(assets: &[u8], reply: &mut [u64]) -> Answer
     requires { ⌜ AssetHead (now assets) ⌝ }
     ensures { λ r. ⌜
@@ -100,9 +136,14 @@ pub fn reply_all(assets: &[u8], reply: &mut [u64]) -> Answer
         ⌝ }
 {
     let u = assets::used(assets);
-    let mut cells = [0u64; ASSET_SLOTS];
-    fill_down(u, &mut cells);
-    reply_cells(assets, &cells, u, reply)
+    if !all_lengths_ok(assets, u) {
+        return Answer::Refused(Refusal::Store);
+    }
+    if !fit_sizes(assets, u, reply) {
+        return Answer::Refused(Refusal::Space);
+    }
+    write_all(assets, u, &mut reply[4..]);
+    Answer::Done(u)
 }
 
 // The cells of the ids joined by ';' from `start` on, in their order. No id is empty, so a text has at most 128.

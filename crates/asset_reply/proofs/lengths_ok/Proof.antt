@@ -3,11 +3,12 @@ use Prim.Native.Nat.{_-_, _≤_}
 use mathlib.Core.Path.{_≡_, sym, ap, _∙_}
 use native.Mathlib.Omega.{arith}
 use lib.ListN.{take, drop}
+use lib.Seq.{getD-take}
 use borrow.Author.Tests.{not-true, not-false}
 use borrow.Author.Needs.{needs}
 use Rattle.spec.specs.Assets.{lengthAt, lengthOk}
 use Rattle.spec.specs.Calls.{allCells}
-use Rattle.asset_reply.proofs.Laws.{test-no, test-yes, test-end}
+use Rattle.asset_reply.proofs.Laws.{next-cell, no-cell, test-no, test-yes, test-end, length-first}
 use Rattle.asset_reply.proofs.lengths_ok.Statement.{statement}
 use Rattle.asset_reply.proofs.lengths_ok.Tie as tie
 
@@ -45,7 +46,8 @@ returns c =
     let lt = la .before .before in
     let loop = lt .before in
     let s = loop .before .before in
-    test-no _ _ _ (s .pre .1) _ _ _ (loop .loop .inv .1) (lt .loop-test .taken)
+    test-no _ _ (loop .loop .inv .1)
+    (next-cell _ (length-first (s .pre .1)) _ (lt .loop-test .taken) (getD-take _ _ _ _ (lt .loop-test .taken)))
     (sym (c .before .length-ok .ensures ∙ ap lengthOk (la .length-at .ensures .0)) ∙ not-true _ (c .if1 .taken))
 
 add-i : tie.Need-add-i Inv-loop μ-loop
@@ -61,14 +63,15 @@ loop-again c =
     let loop = lt .before in
     let s = loop .before .before in (
       omega arith,
-      test-yes _ _ _ (s .pre .1) _ _ _ (loop .loop .inv .1) (lt .loop-test .taken)
+      test-yes _ _ (loop .loop .inv .1)
+          (next-cell _ (length-first (s .pre .1)) _ (lt .loop-test .taken) (getD-take _ _ _ _ (lt .loop-test .taken)))
           (sym (c .before .length-ok .ensures ∙ ap lengthOk (la .length-at .ensures .0)) ∙ not-false _ (c .if1 .left)),
     )
 
 returns-2 : tie.Need-returns-2 Inv-loop μ-loop
 returns-2 c =
     let s = c .before .before .before in
-    test-end _ _ _ (s .pre .1) _ _ _ (c .before .loop .inv .1) (c .loop-test .left)
+    test-end _ _ (c .before .loop .inv .1) (no-cell _ (length-first (s .pre .1)) _ (c .loop-test .left))
 
 pub lengths-ok-spec : {M : Type 1} → statement M
 lengths-ok-spec =

@@ -1,14 +1,15 @@
 -- The invariant: what is left to write from i on makes the whole. The measure is how many cells are left.
 use Prim.Native.Nat.{_-_}
 use native.Mathlib.Omega.{arith}
-use lib.ListN.{length-set}
+use lib.ListN.{take, length-set}
+use lib.Seq.{getD-take}
 use borrow.Author.Needs.{needs}
-use Rattle.asset_reply.proofs.Laws.{Writing, writing-none, writing-more, writing-end}
+use Rattle.asset_reply.proofs.Laws.{Writing, writing-none, writing-more, writing-end, length-first}
 use Rattle.asset_reply.proofs.write_cells.Statement.{statement}
 use Rattle.asset_reply.proofs.write_cells.Tie as tie
 
 abbrev Inv-loop : tie.InvT-loop
-Inv-loop assets cells k out₀ i₀ out i = Writing assets cells k out₀ out i
+Inv-loop assets cells k out₀ i₀ out i = Writing assets (take k cells) k out₀ out i
 
 abbrev μ-loop : tie.MeasureT-loop
 μ-loop assets cells k out₀ i₀ out i = k - i
@@ -55,7 +56,8 @@ loop-again c =
     let lt = c .before .before in
     let loop = lt .before in
     let s = loop .before .before .before in
-    writing-more (loop .loop .inv) (s .pre .1 .0) (lt .loop-test .taken) _ (c .length-at .ensures .0)
+    let t = lt .loop-test .taken in
+    writing-more (loop .loop .inv) (length-first (s .pre .1 .0)) t _ _ (getD-take _ _ _ _ t) (c .length-at .ensures .0)
 
 same-length : tie.Need-same-length Inv-loop μ-loop
 same-length c = c .before .loop .inv .size
@@ -63,7 +65,7 @@ same-length c = c .before .loop .inv .size
 returns : tie.Need-returns Inv-loop μ-loop
 returns c =
     let s = c .before .before .before .before in
-    writing-end (c .before .loop .inv) (s .pre .1 .0) (c .loop-test .left)
+    writing-end (c .before .loop .inv) (length-first (s .pre .1 .0)) (c .loop-test .left)
 
 pub write-cells-spec : {M : Type 1} → statement M
 write-cells-spec =
