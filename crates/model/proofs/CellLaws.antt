@@ -1,25 +1,33 @@
 -- A cell is a name, then zeros, exactly where its bytes are of a name or 0 and the zeros stand last.
 use Prim.Native.Nat.{ℕ, zero, suc, _+_, _-_, _*_, _/_, _%_, _≤_, _<_}
 use mathlib.Core.Path.{_≡_, refl, sym, ap, _∙_}
-use mathlib.Core.Bool.{Bool, true, false, _&&_, not, or-true, false≢true}
+use mathlib.Core.Bool.{Bool, true, false, _&&_, not, or-true, false≢true, and-assoc}
 use mathlib.Core.List.{List, [], _∷_}
 use native.Mathlib.Nat.{div-add-mod, mod-lt}
 use native.Mathlib.Numerals.{add-one}
 use native.Mathlib.Omega.{arith}
-use lib.Dec.{leb, eqb, eqb·suc-zero}
+use lib.Dec.{leb, ltb, eqb, eqb·suc-zero}
 use lib.ListN.{length, getD, take, drop, length-drop}
 use lib.Seq.{getD-take, getD-drop, length-take-le}
-use borrow.Author.Tests.{leb-true, le-leb, not-true}
+use borrow.Author.Tests.{leb-true, ltb-true, ltb-false, le-leb, not-true}
 use Rattle.spec.specs.Words.{every}
 use Rattle.spec.specs.Bytes.{nameByte}
 use Rattle.spec.specs.Model.{nameBytes, letters, zeros, cellOk, nameCell, nameCount}
 use Rattle.spec.proofs.Words.{and-left, and-right, and-both, same-truth, every-at, every-of}
 use Rattle.spec.proofs.Model.{Names}
-use Rattle.model.specs.Cells.{cellByte, cellBytes, follows, zerosLast}
+use Rattle.model.specs.Cells.{block, cellByte, bytesAt, cellBytes, follows, zerosLast}
 
 -- ---- loops
 
-pub bytes-start : (s : List ℕ) → cellBytes s ≡ true && every (λ k. cellByte (getD s k 0)) (length s - 0) 0
+pub blocks-start : (s : List ℕ) (at n : ℕ)
+    → bytesAt s at n ≡ true && every (λ k. cellByte (getD s k 0)) (at + n - (at + 0)) (at + 0)
+unfolding bytesAt
+blocks-start s at n =
+    let p : at + n - (at + 0) ≡ n = omega arith in
+    let q : at + 0 ≡ at = omega arith in
+    rw (p, q)
+
+pub bytes-start : (s : List ℕ) → cellBytes s ≡ every (λ k. cellByte (getD s k 0)) (length s - 0) 0
 unfolding cellBytes
 bytes-start s = let q : length s - 0 ≡ length s = omega arith in rw q
 
@@ -28,6 +36,48 @@ pub last-start : (s : List ℕ)
     ≡ not (eqb (getD s 0 0) 0) && every (λ k. follows (getD s k 0) (getD s (k + 1) 0)) (length s - 1 - 0) 0
 unfolding zerosLast
 last-start s = let q : length s - 1 - 0 ≡ length s - 1 = omega arith in rw q
+
+-- ---- rounds of whole blocks
+
+-- two runs that leave no byte out between them are one run; they may overlap
+module _ (p : ℕ → Bool) (at n from m : ℕ) (first : at ≤ from) (no-gap : from ≤ at + n) (ends : at + n ≤ from + m) where
+  two-runs : every p (from + m - at) at ≡ every p n at && every p m from
+  two-runs =
+      same-truth _ _
+      (λ e.
+      and-both (every p n at) _
+      (every-of p n at (λ i h g. every-at p (from + m - at) at i e h (omega arith)))
+      (every-of p m from (λ i h g. every-at p (from + m - at) at i e (omega arith) (omega arith))))
+      (λ e. every-of p (from + m - at) at (λ i h g. in-one e i h (omega arith) (ltb i (at + n)) refl))
+    where
+      in-one : every p n at && every p m from ≡ true
+          → (i : ℕ) → at ≤ i → i < from + m → (t : Bool) → ltb i (at + n) ≡ t → p i ≡ true
+      in-one e i h g true q = every-at p n at i (and-left _ _ e) h (ltb-true i (at + n) q)
+      in-one e i h g false q =
+          let k = ltb-false i (at + n) q in
+          every-at p m from i (and-right (every p n at) _ e) (omega arith) g
+
+pub rounds-start : (s : List ℕ) → cellBytes s ≡ true && bytesAt s 0 (length s - 0)
+unfolding cellBytes bytesAt
+rounds-start s = let q : length s - 0 ≡ length s = omega arith in rw q
+
+-- a round: t is what the n blocks from at on gave
+module _ (s : List ℕ) (at n : ℕ) (kept t : Bool) (rest : cellBytes s ≡ kept && bytesAt s at (length s - at))
+    (seen : t ≡ bytesAt s at (block * n)) where
+  pub last-round : at + block * n ≡ length s → cellBytes s ≡ kept && t
+  last-round e = let q : length s - at ≡ block * n = omega arith in rest ∙ rw (q, seen)
+
+  -- bytes are left, at most a block: the last block has them
+  pub next-round : 1 ≤ n → at + block * n < length s → length s ≤ at + block * n + block
+      → cellBytes s ≡ (kept && t) && bytesAt s (length s - block) (length s - (length s - block))
+  unfolding bytesAt
+  next-round h g k =
+      let p : ℕ → Bool = λ i. cellByte (getD s i 0) in
+      let from = length s - block in
+      let q : from + block - at ≡ length s - at = omega arith in
+      let w : length s - from ≡ block = omega arith in
+      let r = two-runs p at (block * n) from block (omega arith) (omega arith) (omega arith) in
+      rest ∙ rw (← q, r, ← seen, w) (sym (and-assoc kept t _))
 
 -- ---- bytes
 

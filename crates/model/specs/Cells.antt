@@ -12,6 +12,14 @@ use Rattle.spec.specs.Bytes.{nameByte}
 unfoldable pub cellByte : ℕ → Bool
 cellByte x = nameByte x || eqb x 0
 
+-- the bytes that are looked at together
+abbrev pub block : ℕ
+block = 32
+
+-- the n bytes from at on
+unfoldable pub bytesAt : List ℕ → ℕ → ℕ → Bool
+bytesAt s at n = every (λ i. cellByte (getD s i 0)) n at
+
 unfoldable pub cellBytes : List ℕ → Bool
 cellBytes s = every (λ i. cellByte (getD s i 0)) (length s) 0
 

@@ -1,13 +1,16 @@
 // The names: cells with a name and then zeros in each. The passes over bytes take no branch by a byte, so that
-// they go over many at once.
+// they go over many at once; only a single name, which has no whole block, goes byte by byte.
 ghost use mathlib.Core.Path.{_≡_};
-ghost use Prim.Native.Nat.{_≤_};
+ghost use Prim.Native.Nat.{_+_, _*_, _≤_};
 ghost use lib.ListN.{length};
 ghost use Rattle.spec.specs.Model.{namesOk};
-ghost use Rattle.model.specs.Cells.{cellByte, cellBytes, follows, zerosLast};
+ghost use Rattle.model.specs.Cells.{block, cellByte, bytesAt, cellBytes, follows, zerosLast};
 
 // The bytes of the most names.
 const MAX_BYTES: usize = spec::NAME_BYTES * spec::MAX_NAMES;
+
+// The bytes that are looked at together.
+const BLOCK: usize = 32;
 
 // Whether x may stand in a cell: a byte of a name, or 0.
 pub fn cell_byte(x: u8) -> bool
@@ -16,15 +19,55 @@ pub fn cell_byte(x: u8) -> bool
     scan::name_byte(x) | (x == 0)
 }
 
-// Whether every byte may stand in a cell.
-pub fn cell_bytes(s: &[u8]) -> bool
-    ensures { λ r. ⌜ r ≡ cellBytes (now (s .entry)) ⌝ }
+// Whether each byte of the n blocks from `at` on may stand in a cell.
+fn blocks_ok(s: &[u8], at: usize, n: usize) -> bool
+    requires { ⌜ at + block * n ≤ length (now s) ⌝ }
+    ensures { λ r. ⌜ r ≡ bytesAt (now (s .entry)) at (block * n) ⌝ }
 {
+    let end = BLOCK * n;
     let mut fine = true;
     let mut i = 0;
-    while i < s.len() {
-        fine = fine & cell_byte(s[i]);
+    while i < end {
+        fine = fine & cell_byte(s[at + i]);
         i += 1;
+    }
+    fine
+}
+
+// cell_bytes, byte by byte: for less than a block.
+fn few_ok(s: &[u8]) -> bool
+    ensures { λ r. ⌜ r ≡ cellBytes (now (s .entry)) ⌝ }
+{
+    let mut i = 0;
+    while i < s.len() {
+        if !cell_byte(s[i]) {
+            return false;
+        }
+        i += 1;
+    }
+    true
+}
+
+// Whether every byte may stand in a cell. It goes by whole blocks, so that no bytes want a loop of their own: where
+// some are left, the slice's last block is looked at too.
+fn cell_bytes(s: &[u8]) -> bool
+    ensures { λ r. ⌜ r ≡ cellBytes (now (s .entry)) ⌝ }
+{
+    let l = s.len();
+    if l < BLOCK {
+        return few_ok(s);
+    }
+    let mut n = l / BLOCK;
+    let mut at = 0;
+    let mut fine = true;
+    while 0 < n {
+        fine = fine & blocks_ok(s, at, n);
+        if at + BLOCK * n < l {
+            at = l - BLOCK;
+            n = 1;
+        } else {
+            n = 0;
+        }
     }
     fine
 }

@@ -1,48 +1,84 @@
--- The invariant: the answer so far and the bytes from i on decide the whole. The measure is how many bytes are left.
-use Rattle.model.proofs.CellLaws.{bytes-start}
-use Rattle.spec.proofs.Words.{every-keep, every-kept}
-use Rattle.model.specs.Cells.{cellByte, cellBytes}
-use Rattle.spec.specs.Words.{every}
+-- The invariant: where blocks are to come, the answer so far and the bytes from `at` on decide the whole, and at most
+-- a block stands behind them; where none are, the answer decides it. The measure is the bytes and the blocks to come.
+use Rattle.model.proofs.CellLaws.{rounds-start, next-round, last-round}
+use Rattle.model.specs.Cells.{block, bytesAt, cellBytes}
 use mathlib.Core.Bool.{_&&_}
 use borrow.Author.Needs.{needs}
+use native.Mathlib.Nat.{div-add-mod, mod-lt}
 use native.Mathlib.Omega.{arith}
-use lib.ListN.{length, getD}
-use Prim.Native.Nat.{_-_, _≤_}
-use mathlib.Core.Path.{_≡_}
+use lib.ListN.{length}
+use Prim.Native.Nat.{_+_, _-_, _*_, _%_, _≤_, _<_}
+use mathlib.Core.Path.{_≡_, sym}
 use Rattle.model.proofs.cells.cell_bytes.Statement.{statement}
 use Rattle.model.proofs.cells.cell_bytes.Tie as tie
 
 abbrev Inv-loop : tie.InvT-loop
-Inv-loop s fine₀ i₀ fine i =
-    (i ≤ length s) × (cellBytes s ≡ (fine && every (λ k. cellByte (getD s k 0)) (length s - i) i))
+Inv-loop s l n₀ at₀ fine₀ n at fine =
+    (at + block * n ≤ l)
+    × ((1 ≤ n → (l ≤ at + block * n + block) × (cellBytes s ≡ (fine && bytesAt s at (l - at))))
+    × (n ≡ 0 → cellBytes s ≡ fine))
 
 abbrev μ-loop : tie.MeasureT-loop
-μ-loop s fine₀ i₀ fine i = length s - i
+μ-loop s l n₀ at₀ fine₀ n at fine = l - at + n
+
+few-ok-requires : tie.Need-few-ok-requires Inv-loop μ-loop
+few-ok-requires c κs = search needs
+
+returns : tie.Need-returns Inv-loop μ-loop
+returns c = c .few-ok .ensures
 
 loop-holds : tie.Need-loop-holds Inv-loop μ-loop
-loop-holds c = (omega arith, bytes-start (c .before .args .s .now))
+loop-holds c =
+    let s = c .before .before .args .s .now in
+    let d = div-add-mod (length s) block in
+    let r : length s % block < block = mod-lt (length s) (omega arith) in
+    (omega arith, ((λ h. (omega arith, rounds-start s)), (λ h. absurd (omega arith))))
 
-shared-slice-read-cell-byte : tie.Need-shared-slice-read-cell-byte Inv-loop μ-loop
-shared-slice-read-cell-byte c = search needs
+blocks-ok-requires : tie.Need-blocks-ok-requires Inv-loop μ-loop
+blocks-ok-requires c κs = search needs
 
-cell-byte-requires : tie.Need-cell-byte-requires Inv-loop μ-loop
-cell-byte-requires c κs = search needs
+mul-if2 : tie.Need-mul-if2 Inv-loop μ-loop
+mul-if2 c = search needs
 
-add-i : tie.Need-add-i Inv-loop μ-loop
-add-i c = search needs
+add-if2 : tie.Need-add-if2 Inv-loop μ-loop
+add-if2 c = search needs
 
 loop-less : tie.Need-loop-less Inv-loop μ-loop
 loop-less c = search needs
 
 loop-again : tie.Need-loop-again Inv-loop μ-loop
 loop-again c =
-    let s = c .before .before .before .before .before .args .s .now in
+    let s = c .before .before .before .before .before .before .args .s .now in
     let l = c .before .before .before .loop in
     let w = c .before .before .loop-test .taken in
-    (omega arith, every-keep (λ k. cellByte (getD s k 0)) _ (l .fine) _ _ (l .inv .1) _ w (c .cell-byte .ensures))
+    let i = l .inv .1 .0 w in (
+      omega arith,
+      (
+        (λ h. (
+          omega arith,
+          next-round s _ (l .n) (l .fine) _ (i .1) (c .before .blocks-ok .ensures) w (c .if2 .taken) (i .0),
+        )),
+        (λ h. absurd (omega arith)),
+      ),
+    )
 
-returns : tie.Need-returns Inv-loop μ-loop
-returns c = every-kept _ _ _ _ _ (c .before .loop .inv .1) (c .loop-test .left)
+loop-less-2 : tie.Need-loop-less-2 Inv-loop μ-loop
+loop-less-2 c = search needs
+
+loop-again-2 : tie.Need-loop-again-2 Inv-loop μ-loop
+loop-again-2 c =
+    let s = c .before .before .before .before .before .before .args .s .now in
+    let l = c .before .before .before .loop in
+    let i = l .inv .1 .0 (c .before .before .loop-test .taken) in (
+      omega arith,
+      (
+        (λ h. absurd (omega arith)),
+        (λ h. last-round s _ (l .n) (l .fine) _ (i .1) (c .before .blocks-ok .ensures) (omega arith)),
+      ),
+    )
+
+returns-2 : tie.Need-returns-2 Inv-loop μ-loop
+returns-2 c = sym (c .before .loop .inv .1 .1 (omega arith))
 
 pub cell-bytes-spec : {M : Type 1} → statement M
 cell-bytes-spec =
@@ -50,10 +86,14 @@ cell-bytes-spec =
     (tie.spec
     Inv-loop
     μ-loop
+    few-ok-requires
+    returns
     loop-holds
-    shared-slice-read-cell-byte
-    cell-byte-requires
-    add-i
+    blocks-ok-requires
+    mul-if2
+    add-if2
     loop-less
     loop-again
-    returns)
+    loop-less-2
+    loop-again-2
+    returns-2)
