@@ -1,7 +1,7 @@
 //! Random lists of calls after a start, with clients that poll among them.
 
 use crate::batches;
-use crate::call::{Answer, Call};
+use crate::call::{Answer, Call, Start};
 use crate::client::Client;
 use crate::rng::Rng;
 use crate::session::Session;
@@ -34,9 +34,7 @@ pub fn run<C: Core, F: FaultSet>(
 ) -> Result<(), Difference> {
     let mut rng = Rng::new(seed);
     let fail = |place: String, what: String| Difference { seed, place, what };
-    for _ in 0..rng.weighted(&[80, 10, 10]) {
-        let mut start = worlds::start(&mut rng);
-        worlds::spoil(&mut rng, &mut start);
+    for start in attempts(&mut rng) {
         let begun = Session::start(core, &start, faults).map_err(|what| fail(format!("{start:?}"), what))?;
         counts.start(begun.err().unwrap_or(0));
     }
@@ -74,6 +72,17 @@ pub fn run<C: Core, F: FaultSet>(
         }
     }
     script.finish(&session, &windows, counts).map_err(|what| fail("at the end".into(), what))
+}
+
+/// Starts ahead of the one that counts: spoilt ones, and one with other bytes in its names.
+fn attempts(rng: &mut Rng) -> Vec<Start> {
+    let spoilt = rng.weighted(&[80, 10, 10]);
+    let swapped = usize::from(rng.percent(30));
+    let mut starts: Vec<Start> = (0..spoilt + swapped).map(|_| worlds::start(rng)).collect();
+    let (to_spoil, to_swap) = starts.split_at_mut(spoilt);
+    to_spoil.iter_mut().for_each(|start| worlds::spoil(rng, start));
+    to_swap.iter_mut().for_each(|start| worlds::swap_name_bytes(rng, &mut start.names));
+    starts
 }
 
 impl Script {
@@ -261,14 +270,14 @@ pub fn ids(rng: &mut Rng, cells: usize) -> Vec<Vec<u8>> {
 }
 
 pub fn spoil_id(rng: &mut Rng, id: &mut Vec<u8>) {
-    match rng.below(5) {
+    match rng.weighted(&[15, 25, 15, 15, 30]) {
         0 => id.clear(),
-        1 => id.push(*rng.pick(b"\x00\x20\x7f;/?\x80\xff")),
+        1 => id.push(*rng.pick(b"\x00\x20\x7f;/?:.@\x80\xff")),
         2 => id.resize(*rng.pick(&[32, 33, 34, 64]), b'L'),
         3 => id.push(0),
         _ => {
             let at = rng.index(id.len());
-            id[at] = *rng.pick(b"\x00\x20\x21\x7e\x7f;/?\x80");
+            id[at] = *rng.pick(b"\x00\x20\x21\x7e\x7f;/?:<>\x80");
         }
     }
 }

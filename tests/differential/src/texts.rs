@@ -162,7 +162,7 @@ fn sequence(rng: &mut Rng, scene: &Scene) -> u64 {
 /// A number's digits, sometimes behind zeros, up to and over the most digits allowed.
 fn digits(rng: &mut Rng, number: u64) -> Vec<u8> {
     let plain = number.to_string().into_bytes();
-    let width = match rng.weighted(&[88, 2, 4, 4, 1, 1]) {
+    let width = match rng.weighted(&[87, 2, 4, 4, 2, 1]) {
         0 => plain.len(),
         1 => plain.len() + 1,
         2 => 19,
@@ -185,6 +185,8 @@ const BAD_NUMBERS: &[&[u8]] = &[
     b"1=2",
     b"/1",
     b"1:",
+    b":",
+    b"1/",
     b"9223372036854775807",
     b"9223372036854775808",
     b"18446744073709551616",

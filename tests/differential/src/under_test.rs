@@ -7,7 +7,7 @@ pub use archive::Archive as UnderTest;
 pub type UnderTest = reference::Stores;
 
 pub fn core() -> UnderTest {
-    UnderTest::default()
+    Default::default()
 }
 
 #[cfg(feature = "archive")]

@@ -8,8 +8,8 @@ pub const NAME: usize = 24;
 const END: u64 = 1 << 63;
 
 /// Type names of the field, and some that test comparisons: prefixes of each other, one byte,
-/// the longest, the word of a path's second form.
-const NAMES: [&str; 20] = [
+/// the longest, the word of a path's second form, both ends of each range of bytes.
+const NAMES: [&str; 21] = [
     "Device",
     "Axes",
     "Linear",
@@ -30,11 +30,12 @@ const NAMES: [&str; 20] = [
     "0",
     "PATH_FEEDRATE_OVERRIDE_1",
     "LINE",
+    "AZ_az_09",
 ];
 
 /// A start that is accepted.
 pub fn start(rng: &mut Rng) -> Start {
-    let cells = *rng.pick(&[2, 3, 4, 5, 6, 8, 12, 20, 64, 256]);
+    let cells = *rng.pick(&[1, 2, 3, 4, 5, 6, 8, 12, 20, 64, 256]);
     let cells = if cells > 20 && rng.percent(70) { 6 } else { cells };
     let names = names(rng, cells);
     let model = model(rng, cells);
@@ -178,6 +179,23 @@ pub fn spoil_model(rng: &mut Rng, words: &mut Vec<u32>) {
     }
 }
 
+/// Both sides of every bound of a name's bytes; what else a type might be spelt with; letters and digits with
+/// the highest bit set.
+const AROUND_NAMES: &[u8] = b"/09:@AZ[^_`az{-.\x20\x7f\x80\xb0\xc1\xfa\xff\x01";
+
+/// Puts one or two of these bytes into one name, at any place of it.
+pub fn swap_name_bytes(rng: &mut Rng, bytes: &mut [u8]) {
+    let at = rng.index(bytes.len() / NAME) * NAME;
+    swap_bytes(rng, &mut bytes[at..at + NAME]);
+}
+
+fn swap_bytes(rng: &mut Rng, cell: &mut [u8]) {
+    let length = cell.iter().position(|&byte| byte == 0).unwrap_or(NAME).max(1);
+    for _ in 0..1 + rng.weighted(&[75, 25]) {
+        cell[rng.index(length)] = *rng.pick(AROUND_NAMES);
+    }
+}
+
 /// Breaks one rule of the name cells, mostly.
 pub fn spoil_names(rng: &mut Rng, bytes: &mut Vec<u8>) {
     if bytes.len() < NAME {
@@ -193,7 +211,7 @@ pub fn spoil_names(rng: &mut Rng, bytes: &mut Vec<u8>) {
             bytes[at + 23] = b'x';
         }
         2 => bytes[at] = 0,
-        3 => bytes[at] = *rng.pick(b"@[`{/:-.\x20\x7f\x80\xff\x01"),
+        3 => swap_bytes(rng, &mut bytes[at..at + NAME]),
         4 => bytes[at + rng.index(NAME)] = rng.word() as u8,
         5 => {
             let length = rng.index(bytes.len() + 2);

@@ -272,25 +272,6 @@ fn clear(start: &mut Start, empty: u32) {
     }
 }
 
-/// Every byte at every place of a name cell.
-#[test]
-fn every_byte_of_a_name() {
-    let core = core();
-    let model = plain_model(1, false);
-    for at in 0..24 {
-        for byte in 0..=255 {
-            for filled in [0, 1, at, 24] {
-                let mut cell = [0; 24];
-                cell[..filled].fill(b'x');
-                cell[at] = byte;
-                let start = start(&model, &cell, [1, 1, 1], 0);
-                let begun = Tested::start(&core, &start, reference::Clean);
-                begun.unwrap_or_else(|what| panic!("{start:?}: {what}")).err();
-            }
-        }
-    }
-}
-
 /// Every category, component and name of an item word; every parent and name of a component word.
 #[test]
 fn every_field_of_a_model_word() {
@@ -369,7 +350,7 @@ fn every_edge_of_a_value_word() {
     }
 }
 
-/// Ids of every length and byte, bodies of every length.
+/// Ids and bodies of every length.
 #[test]
 fn ids_and_bodies_at_their_bounds() {
     let core = core();
@@ -379,13 +360,6 @@ fn ids_and_bodies_at_their_bounds() {
         let stored = session.store(&id, b"b", 1) < END;
         assert_eq!(stored, (1..=32).contains(&length));
         assert_eq!(session.body(&id).len(), usize::from(stored));
-    }
-    for byte in 0..=255u8 {
-        let plain = (33..=126).contains(&byte) && !b";/?".contains(&byte);
-        for id in [vec![byte], vec![b'T', byte], vec![byte, b'T']] {
-            assert_eq!(session.store(&id, b"b", 1) < END, plain, "{byte}");
-            assert_eq!(session.body(&id).len(), usize::from(plain), "{byte}");
-        }
     }
     for length in (0..=520).chain([766, 767, 768, 65_536, 65_537]) {
         let body = vec![7; length];

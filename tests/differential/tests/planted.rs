@@ -76,6 +76,18 @@ fn faults_in_the_machine_are_told_apart() {
     });
 }
 
+/// A set holds the faults put in, and no other one.
+#[test]
+fn each_fault_has_its_place() {
+    let mut all = Faults::none();
+    for &fault in Fault::ALL {
+        assert!(!all.has(fault));
+        all = all.with(fault);
+        assert!(Fault::ALL.iter().all(|&other| Faults::from(fault).has(other) == (other == fault)));
+    }
+    assert!(Fault::ALL.iter().all(|&fault| all.has(fault)));
+}
+
 #[test]
 fn no_fault_no_difference() {
     assert!(Fault::ALL.iter().all(|&fault| !Clean.has(fault) && !Faults::none().has(fault)));

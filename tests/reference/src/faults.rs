@@ -17,18 +17,28 @@ impl FaultSet for Clean {
     }
 }
 
+const WORDS: usize = 8;
+
 /// Some faults, one bit each.
 #[derive(Clone, Copy, Default, PartialEq, Eq, Debug)]
-pub struct Faults(u128);
+pub struct Faults([u64; WORDS]);
 
 impl Faults {
     pub fn none() -> Faults {
-        Faults(0)
+        Faults([0; WORDS])
     }
 
-    pub fn with(self, fault: Fault) -> Faults {
-        Faults(self.0 | 1 << fault as u32)
+    pub fn with(mut self, fault: Fault) -> Faults {
+        let (word, bit) = place(fault);
+        self.0[word] |= bit;
+        self
     }
+}
+
+/// The word of a fault and its bit there.
+fn place(fault: Fault) -> (usize, u64) {
+    let number = fault as usize;
+    (number / u64::BITS as usize, 1 << (number % u64::BITS as usize))
 }
 
 impl From<Fault> for Faults {
@@ -39,7 +49,8 @@ impl From<Fault> for Faults {
 
 impl FaultSet for Faults {
     fn has(self, fault: Fault) -> bool {
-        self.0 >> (fault as u32) & 1 == 1
+        let (word, bit) = place(fault);
+        self.0[word] & bit != 0
     }
 }
 
@@ -71,7 +82,7 @@ macro_rules! faults {
 }
 
 // Each fault has a bit of its own.
-const _: () = assert!(Fault::ALL.len() <= u128::BITS as usize);
+const _: () = assert!(Fault::ALL.len() <= WORDS * u64::BITS as usize);
 
 faults! {
     // Values and model.
@@ -97,6 +108,18 @@ faults! {
     SpareNameCells in Stores,
     /// Bytes behind the first zero of a name cell are not looked at.
     BytesBehindNames in Stores,
+    /// A hyphen passes in a name.
+    HyphenInNames in Both,
+    /// The letters are one range from `A` to `z`, with what stands between `Z` and `a`.
+    BetweenCasesInNames in Both,
+    /// `Z` is refused in a name: the range of the capitals ends one early.
+    LastCapitalRefused in Both,
+    /// The highest bit of a name's byte is not looked at.
+    HighBitInNames in Both,
+    /// Two wrong bytes in a name make up for each other.
+    WrongBytesCancel in Both,
+    /// A name that reaches behind the last whole 32 bytes of the names is not looked at.
+    LastNamesUnseen in Both,
 
     // Paths.
     /// The second form of a path ignores the item type.
@@ -119,6 +142,12 @@ faults! {
     ShortTexts in Both,
     /// A space passes in a text.
     SpacesInTexts in Both,
+    /// Byte 127 passes in a text.
+    DeleteInTexts in Both,
+    /// Bytes above 127 pass in a text: the upper bound is compared with sign.
+    HighBytesInTexts in Both,
+    /// `~` is refused in a text: the range ends one early.
+    TildeRefused in Both,
     /// A trailing `&` is overlooked.
     TrailingAmpersand in Both,
     /// A repeated parameter replaces the earlier one.
@@ -131,6 +160,8 @@ faults! {
     LeadingZeroUncounted in Both,
     /// Numbers above 2^63 - 1 are read.
     NumbersBeyondRange in Both,
+    /// `:` is the digit behind `9`.
+    ColonAsDigit in Both,
     /// An id of more than 32 bytes in an asset request is malformed.
     LongIdMalformed in Both,
 
@@ -267,6 +298,10 @@ faults! {
     BadEntryMended in Stores,
 
     // Assets.
+    /// `?` passes in an id.
+    QuestionMarkInIds in Both,
+    /// `:` is refused in an id, as `;` is.
+    ColonRefusedInIds in Both,
     /// Ids are compared up to the length given.
     IdPrefix in Both,
     /// The newest asset makes way rather than the oldest.

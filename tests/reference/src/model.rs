@@ -120,9 +120,11 @@ fn category_valid<F: FaultSet>(category: u32, faults: F) -> bool {
 fn names_valid<F: FaultSet>(names: &[u8], faults: F) -> bool {
     let whole = names.len().is_multiple_of(NAME);
     let count = names.len() / NAME;
+    let cut = faults.has(Fault::LastNamesUnseen) && count > 1;
+    let seen = if cut { names.len() / 32 * 32 } else { names.len() };
     whole
         && (1..=MOST_NAMES).contains(&count)
-        && names.chunks_exact(NAME).all(|cell| name_valid(cell, faults))
+        && names[..seen].chunks_exact(NAME).all(|cell| name_valid(cell, faults))
 }
 
 /// 1 to 24 letters, digits or `_`, then zeros to the end of the cell.
@@ -131,6 +133,24 @@ fn name_valid<F: FaultSet>(cell: &[u8], faults: F) -> bool {
     let (name, padding) = cell.split_at(used);
     let filled = used > 0 || faults.has(Fault::SpareNameCells);
     filled
-        && name.iter().all(|&byte| byte.is_ascii_alphanumeric() || byte == b'_')
+        && name_bytes_valid(name, faults)
         && (padding.iter().all(|&byte| byte == 0) || faults.has(Fault::BytesBehindNames))
+}
+
+fn name_bytes_valid<F: FaultSet>(name: &[u8], faults: F) -> bool {
+    let right = |&byte: &u8| name_byte(byte, faults);
+    let wrong = || name.iter().filter(|byte| !right(byte)).count();
+    name.iter().all(right) || (faults.has(Fault::WrongBytesCancel) && wrong() % 2 == 0)
+}
+
+/// Letters, digits and `_`.
+fn name_byte<F: FaultSet>(byte: u8, faults: F) -> bool {
+    let let_in = match byte {
+        b'-' => faults.has(Fault::HyphenInNames),
+        b'['..=b'`' => faults.has(Fault::BetweenCasesInNames),
+        128.. => faults.has(Fault::HighBitInNames) && (byte - 128).is_ascii_alphanumeric(),
+        _ => false,
+    };
+    let kept_out = byte == b'Z' && faults.has(Fault::LastCapitalRefused);
+    let_in || ((byte.is_ascii_alphanumeric() || byte == b'_') && !kept_out)
 }

@@ -216,7 +216,7 @@ impl<F: FaultSet> Machine<F> {
     ) -> Result<u64, Refusal> {
         let event_for = self.model(model, names)?.asset_item(self.faults);
         let longest = if self.faults.has(Fault::LongestBodyRefused) { 509 } else { 510 };
-        if !id_valid(id) || body.is_empty() || body.len() > longest {
+        if !id_valid(id, self.faults) || body.is_empty() || body.len() > longest {
             return Err(Refusal::Asset);
         }
         if event_for.is_some() {
@@ -270,7 +270,7 @@ impl<F: FaultSet> Machine<F> {
 
     /// The asset's body; empty where the id is not stored.
     pub fn body(&self, id: &[u8]) -> &[u8] {
-        if !id_valid(id) {
+        if !id_valid(id, self.faults) {
             return &[];
         }
         self.find(id).map_or(&[], |at| &self.assets[at].body)
@@ -282,7 +282,11 @@ impl<F: FaultSet> Machine<F> {
 }
 
 /// 1 to 32 bytes of 33..126 without `;`, `/` and `?`.
-fn id_valid(id: &[u8]) -> bool {
-    let plain = |byte: &u8| matches!(byte, 33..=126) && !b";/?".contains(byte);
-    (1..=32).contains(&id.len()) && id.iter().all(plain)
+fn id_valid<F: FaultSet>(id: &[u8], faults: F) -> bool {
+    let kept_out: &[u8] = match (faults.has(Fault::QuestionMarkInIds), faults.has(Fault::ColonRefusedInIds)) {
+        (false, false) => b";/?",
+        (true, _) => b";/",
+        (false, true) => b";/?:",
+    };
+    (1..=32).contains(&id.len()) && id.iter().all(|byte| matches!(byte, 33..=126) && !kept_out.contains(byte))
 }

@@ -17,9 +17,18 @@ pub fn length(a: usize) -> usize {
 }
 
 /// 1 to 32 visible bytes, without those that part ids in a text.
-pub fn id_valid(id: &[u8]) -> bool {
-    (1..=ID).contains(&id.len())
-        && id.iter().all(|&byte| visible(byte) && !matches!(byte, b';' | b'/' | b'?'))
+pub fn id_valid<F: FaultSet>(id: &[u8], faults: F) -> bool {
+    (1..=ID).contains(&id.len()) && id.iter().all(|&byte| visible(byte) && !parts(byte, faults))
+}
+
+/// Whether a byte ends an id in a text, or the list of them.
+fn parts<F: FaultSet>(byte: u8, faults: F) -> bool {
+    match byte {
+        b';' | b'/' => true,
+        b'?' => !faults.has(Fault::QuestionMarkInIds),
+        b':' => faults.has(Fault::ColonRefusedInIds),
+        _ => false,
+    }
 }
 
 /// The checked head of an asset store.

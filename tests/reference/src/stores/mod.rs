@@ -201,7 +201,7 @@ impl<F: FaultSet> Stores<F> {
         let head = Head::check(words, model.items(), self.faults).ok_or(Refusal::Store)?;
         let cells = Cells::check(bytes, self.faults).ok_or(Refusal::Store)?;
         let longest = if self.faults.has(Fault::LongestBodyRefused) { 509 } else { assets::LONGEST };
-        if !assets::id_valid(id) || !(1..=longest).contains(&body.len()) {
+        if !assets::id_valid(id, self.faults) || !(1..=longest).contains(&body.len()) {
             return Err(Refusal::Asset);
         }
         let event_for = model.asset_item(self.faults);
@@ -250,7 +250,7 @@ impl<F: FaultSet> Stores<F> {
     pub fn body_place(&self, bytes: &[u8], id: &[u8]) -> Option<(usize, usize)> {
         let cells = Cells::check(bytes, self.faults)?;
         let padded = self.faults.has(Fault::BodyByPaddedId) && id.len() <= 32 && !id.is_empty();
-        if !assets::id_valid(id) && !padded {
+        if !assets::id_valid(id, self.faults) && !padded {
             return None;
         }
         let cell = cells.find(bytes, id, self.faults)?;
