@@ -1,6 +1,6 @@
 # shellcheck shell=sh
-# What the gate counts, and how it reads the checker's logs: functions for .ci/run, tests/run and tests/gate, which
-# source this file with the repository's top as their working folder. POSIX sh.
+# What the gate counts and measures, and how it reads the checker's logs: functions for .ci/run, bench/run and the
+# scripts in tests, in POSIX sh. All but those that are given a file want the repository's top as the working folder.
 
 # the number of a bound in .ci/bounds; fails where there isn't exactly one
 bound() { # least|most NAME
@@ -139,7 +139,10 @@ archive_bytes() { # ARCHIVE
         $1 ~ /^\.text/ { kind = "code" }
         $1 ~ /^\.(data|bss|tdata|tbss)/ && $1 !~ /^\.data\.rel\.ro/ { kind = "data" }
         { bytes[kind] += $2; if ($2 > 0) print "section", kind, $1, $2 }
-        END { if (known) for (k = split("code constants data", kinds, " "); k > 0; k--) print kinds[k], bytes[kinds[k]] + 0 }
+        END {
+            split(known ? "code constants data" : "", kinds, " ")
+            for (k in kinds) print kinds[k], bytes[kinds[k]] + 0
+        }
     '
 }
 
@@ -181,7 +184,8 @@ false_fact() { # LOG
     '
 }
 
-# the edits that rt refused when it last ran, a line each: 'fact CRATE/LABEL', or 'other CRATE/LABEL' and the first refusal
+# the edits that rt refused when it last ran, a line each: 'fact CRATE/LABEL', or 'other CRATE/LABEL' and the first
+# refusal
 edits_refused() {
     edits_listed | sed 's|^crates/||; s|/must-fail/|/|; s|\.edit$||' | while read -r edit; do
         [ "$(cat "target/must-fail/$edit.res" 2>/dev/null)" = refused ] || continue

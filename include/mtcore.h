@@ -24,7 +24,7 @@
  * - The deepest call writes less than 2,400 bytes of stack.
  *
  * Times are milliseconds since 1970-01-01T00:00:00Z. docs/HOST.md says what each request means, with replies, how
- * much memory, stack and time a call takes, and what a host does about each refusal; docs/LIMITS.md what of
+ * much flash, memory, stack and time it takes, and what a host does about each refusal; docs/LIMITS.md what of
  * MTConnect is not here.
  */
 #ifndef MTCORE_H
