@@ -6,22 +6,22 @@ use mathlib.Core.List.{List, [], _∷_, _++_, append-nil}
 use native.Mathlib.Numerals.{add-one}
 use native.Mathlib.Omega.{arith}
 use lib.Dec.{ltb, eqb}
-use lib.ListN.{length, getD, set, take, drop, length-set, length-append, length-drop, drop-of-length-le}
-use lib.Seq.{sets, drop-cons, length-take-le, take-suc-set, append-snoc, getD-set-same, getD-set-other, length-sets}
-use borrow.Author.Tests.{lt-ltb, le-ltb, lt-leb, le-leb, leb-true, leb-false, ltb-true, ltb-false, eqb-true, eqb-false}
+use lib.ListN.{length, getD, set, take, drop, length-set, length-drop, drop-of-length-le}
+use lib.Seq.{sets, drop-cons, length-take-le, take-suc-set, append-snoc, getD-set-same, getD-set-other}
+use borrow.Author.Tests.{lt-ltb, le-ltb, leb-true, ltb-true, ltb-false, eqb-true, eqb-false}
 use Rattle.spec.specs.Bytes.{before, split}
 use Rattle.spec.specs.Text.{idText, idTexts, longestText}
 use Rattle.spec.specs.Assets.{maxAssets, capacity, used, lengthAt, lengthOk, find}
-use Rattle.spec.specs.Reply.{Replied, refuse, numbers, lengths, assetWords, assetReply}
+use Rattle.spec.specs.Reply.{Replied, refuse, numbers, lengths, written, assetWords, assetReply}
 use Rattle.spec.specs.Calls.{cellRows, allCells, cellsReply, findAll, namedReply, downFrom}
 use Rattle.spec.specs.declared.Refusal.the-variants.{Store, Space, AssetNotFound}
 use Rattle.spec.specs.declared.Answer.the-variants.{Done, Refused}
 use Rattle.spec.proofs.Words.{and-left, and-right}
 use Rattle.asset_reply.specs.declared.Found.{Found}
 use Rattle.asset_reply.specs.Cells.{Cells, FoundAll}
-use Rattle.asset_reply.specs.Fitted.{Fitted}
 use Rattle.spec.proofs.Reply.{length-numbers, length-lengths}
-use Rattle.reply.proofs.Laws.{sets-set, lent-room, lent-over, written-short, written-whole}
+use Rattle.reply.specs.Fitted.{Fitted}
+use Rattle.reply.proofs.Laws.{sets-set, short, whole}
 use Rattle.parts.proofs.Laws.{split-at-more, split-at-last}
 use Rattle.asset_reply.specs.declared.Found.the-variants as found
 
@@ -97,72 +97,34 @@ module _ {bs cells o l : List ℕ} {k i : ℕ} (w : Writing bs cells k o l i) (m
   unfolding numbers lengths cellRows
   writing-end h = sym (w .all ∙ rw (no-cell cells many i h))
 
--- ---- k rows that fit or don't
+-- ---- the reply of k cells: r says whether their lengths are right
 
-module _ (bs reply : List ℕ) (k : ℕ) where
-  pub fitted-not : length reply < 4 + 2 * k → Fitted bs reply k false reply
-  fitted-not h = record { told = sym (lt-leb _ _ h); sized = refl }
+module _ (bs : List ℕ) {reply x : List ℕ} {k u a : ℕ} {t : Bool} (w : Fitted reply (2 * k) k u a 0 t x)
+    (iu : u ≡ used bs) (ia : a ≡ capacity bs) (cells : List ℕ) {r : Bool} (many : length cells ≡ k)
+    (e : r ≡ allCells (λ i. lengthOk (lengthAt bs i)) cells) (right : r ≡ true) where
+  in-words : (let rows = cellRows bs cells in
+      cellsReply bs cells reply ≡ written k (k ∷ u ∷ a ∷ 0 ∷ (numbers rows ++ lengths rows)) reply)
+  unfolding cellsReply assetReply assetWords
+  in-words = rw (← e, right, ← iu, ← ia, length-rows bs cells, many)
 
-  pub fitted : {x : List ℕ} {u a : ℕ} → 4 + 2 * k ≤ length reply → u ≡ used bs → a ≡ capacity bs
-      → x ≡ sets reply 0 (k ∷ u ∷ a ∷ 0 ∷ []) → Fitted bs reply k true x
-  fitted h iu ia e = record { told = sym (le-leb _ _ h); sized = e ∙ rw (iu, ia) }
+  row-count : k ≡ length (numbers (cellRows bs cells))
+  row-count = sym (length-numbers (cellRows bs cells) ∙ length-rows bs cells ∙ many)
 
-module _ {bs reply x : List ℕ} {k : ℕ} {t : Bool} (w : Fitted bs reply k t x) where
-  module _ (fits : t ≡ true) where
-    room : 4 + 2 * k ≤ length reply
-    room = leb-true _ _ (sym (w .told) ∙ fits)
+  row-words : 2 * k ≡ length (numbers (cellRows bs cells)) + length (lengths (cellRows bs cells))
+  row-words = omega (arith, row-count, length-lengths (cellRows bs cells), length-rows bs cells)
 
-    front : x ≡ sets reply 0 (k ∷ used bs ∷ capacity bs ∷ 0 ∷ [])
-    front = rw fits at (w .sized)
+  pub cells-short : t ≡ false → cellsReply bs cells reply ≡ record { answer = Refused Space; reply = x }
+  cells-short f = let rows = cellRows bs cells in in-words ∙ short w (numbers rows) (lengths rows) row-words f
 
-    -- the part behind the sizes begins inside the reply and has room for the rows
-    pub behind : 4 ≤ length x
-    behind = omega (arith, room, ap length front, length-sets reply 0 (k ∷ used bs ∷ capacity bs ∷ 0 ∷ []))
-
-    pub lends : 2 * k ≤ length (take (length x - 4) (drop 4 x))
-    lends = lent-room reply x k (used bs) (capacity bs) 0 front (2 * k) room
-
-  -- ---- the reply of k cells: r says whether their lengths are right
-
-  module _ (cells : List ℕ) {r : Bool} (many : length cells ≡ k)
-      (e : r ≡ allCells (λ i. lengthOk (lengthAt bs i)) cells) where
-    asset-size : length (assetWords (used bs) (capacity bs) (cellRows bs cells)) ≡ 4 + 2 * k
-    unfolding assetWords
-    asset-size =
-        let rows = cellRows bs cells in
-        omega (
-          arith,
-          length-append (numbers rows) (lengths rows),
-          length-numbers rows,
-          length-lengths rows,
-          length-rows bs cells,
-        )
-
-    pub cells-short : r ≡ true → t ≡ false → cellsReply bs cells reply ≡ record { answer = Refused Space; reply = x }
-    unfolding cellsReply assetReply
-    cells-short right f =
-        let kept : x ≡ reply = rw f at (w .sized) in
-        let h : length reply < 4 + 2 * k = leb-false _ _ (sym (w .told) ∙ f) in
-        rw (← e, right, kept) (written-short _ _ _ (omega (arith, asset-size)))
-
-    -- y is the part behind the sizes as it comes back
-    pub cells-whole : (y : List ℕ) → r ≡ true → t ≡ true
-        → (let rows = cellRows bs cells in
-        y ≡ sets (sets (take (length x - 4) (drop 4 x)) 0 (numbers rows)) k (lengths rows))
-        → cellsReply bs cells reply
-        ≡ record { answer = Done k; reply = take 4 x ++ (y ++ drop (length x - 4) (drop 4 x)) }
-    unfolding cellsReply assetReply assetWords
-    cells-whole y right fits ey =
-        let rows = cellRows bs cells in
-        let n : length rows ≡ k = length-rows bs cells ∙ many in
-        let c = length-numbers rows in
-        let l = length-lengths rows in
-        let h = room fits in
-        rw (← e, right, n)
-        (written-whole k (k ∷ used bs ∷ capacity bs ∷ 0 ∷ (numbers rows ++ lengths rows)) reply _
-        (omega (arith, length-append (numbers rows) (lengths rows)))
-        (lent-over reply x k (used bs) (capacity bs) 0 (front fits) y (numbers rows) (lengths rows) k (omega arith)
-        (omega arith) ey))
+  -- y is the part behind the sizes as it comes back
+  pub cells-whole : (y : List ℕ) → t ≡ true
+      → (let rows = cellRows bs cells in
+      y ≡ sets (sets (take (length x - 4) (drop 4 x)) 0 (numbers rows)) k (lengths rows))
+      → cellsReply bs cells reply
+      ≡ record { answer = Done k; reply = take 4 x ++ (y ++ drop (length x - 4) (drop 4 x)) }
+  cells-whole y fits ey =
+      let rows = cellRows bs cells in
+      in-words ∙ whole w (numbers rows) (lengths rows) row-words row-count fits y ey
 
 pub cells-wrong : (bs cells reply : List ℕ) (r : Bool) → r ≡ allCells (λ i. lengthOk (lengthAt bs i)) cells → r ≡ false
     → cellsReply bs cells reply ≡ refuse Store reply
@@ -267,7 +229,7 @@ module _ (bs text : List ℕ) (at end : ℕ) (ends : end ≡ at + before 59 59 (
   missing-here h =
       by-more (λ ids. allCells (stored bs) (findAll bs ids) ≡ false) (λ l. rw (le-ltb _ _ h)) (λ l. rw (le-ltb _ _ h))
 
-  module _ {start k cell : ℕ} {cells : List ℕ} (w : Finding bs text start at k cells) (short : length text ≤ longestText)
+  module _ {start k cell : ℕ} {cells : List ℕ} (w : Finding bs text start at k cells) (few : length text ≤ longestText)
       (inside : end ≤ length text) (is : cell ≡ find bs here) where
     -- there is a place for its cell
     pub finding-room : k < maxAssets

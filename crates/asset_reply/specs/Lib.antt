@@ -1,3 +1,2 @@
--- What the writers of replies keep of the cells that they are to show, and what stands at a reply's front.
+-- What the writers of replies keep of the cells that they are to show.
 pub mod Cells
-pub mod Fitted

@@ -10,7 +10,6 @@ ghost use Rattle.spec.specs.Assets.{AssetHead, maxAssets, used, lengthAt, lengt
 ghost use Rattle.spec.specs.Reply.{numbers, lengths};
 ghost use Rattle.spec.specs.Calls.{cellRows, allCells, cellsReply, namedReply, downFrom};
 ghost use Rattle.asset_reply.specs.Cells.{Cells, FoundAll};
-ghost use Rattle.asset_reply.specs.Fitted.{Fitted};
 use spec::ASSET_SLOTS;
 use spec::Answer;
 use spec::Refusal;
@@ -52,21 +51,6 @@ fn all_lengths_ok(assets: &[u8], u: u64) -> bool
             return false;
         }
     }
-    true
-}
-
-// Whether k rows fit the reply; if so, the four sizes are written.
-fn fit_sizes(assets: &[u8], k: u64, reply: &mut [u64]) -> bool
-    requires { ⌜ AssetHead (now assets) ⌝ }
-    requires { ⌜ k ≤ maxAssets ⌝ }
-    ensures { λ r. ⌜ Fitted (now (assets .entry)) (now (reply .entry)) k r (now (reply .exit)) ⌝ }
-{
-    if (reply.len() as u64) < 4 + 2 * k {
-        return false;
-    }
-    let used = assets::used(assets);
-    let capacity = assets::capacity(assets);
-    reply::write_sizes(reply, k, used, capacity, 0);
     true
 }
 
@@ -120,7 +104,9 @@ fn reply_cells(assets: &[u8], cells: &[u64; ASSET_SLOTS], k: u64, reply: &mut [u
     if !lengths_ok(assets, cells, k) {
         return Answer::Refused(Refusal::Store);
     }
-    if !fit_sizes(assets, k, reply) {
+    let used = assets::used(assets);
+    let capacity = assets::capacity(assets);
+    if !reply::fit_sizes(reply, 2 * k, k, used, capacity, 0) {
         return Answer::Refused(Refusal::Space);
     }
     write_cells(assets, cells, k, &mut reply[4..]);
@@ -139,7 +125,7 @@ pub fn reply_all(assets: &[u8], reply: &mut [u64]) -> Answer
     if !all_lengths_ok(assets, u) {
         return Answer::Refused(Refusal::Store);
     }
-    if !fit_sizes(assets, u, reply) {
+    if !reply::fit_sizes(reply, 2 * u, u, u, assets::capacity(assets), 0) {
         return Answer::Refused(Refusal::Space);
     }
     write_all(assets, u, &mut reply[4..]);

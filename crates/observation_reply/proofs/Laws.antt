@@ -1,18 +1,16 @@
 -- Laws of the replies of observations: k rows that fit or don't, and the three requests, one way through each at a
 -- time.
 use Prim.Native.Nat.{ℕ, suc, _+_, _-_, _*_, _^_, _≤_, _<_}
-use mathlib.Core.Path.{_≡_, refl, sym, ap, _∙_}
+use mathlib.Core.Path.{_≡_, sym, ap, _∙_}
 use mathlib.Core.Bool.{Bool, true, false}
-use mathlib.Core.List.{List, [], _∷_, _++_}
+use mathlib.Core.List.{List, _++_}
 use native.Mathlib.Numerals.{add-one}
 use native.Mathlib.Omega.{arith}
 use lib.Count.{ones}
-use lib.ListN.{length, take, drop, length-append, length-take, length-drop}
-use lib.Seq.{sets, length-sets}
-use borrow.Author.Tests.{leb-true, leb-false, lt-leb, le-leb}
+use lib.ListN.{length, take, drop}
 use Rattle.spec.specs.Words.{bit, pickRows}
 use Rattle.spec.specs.Model.{maxItems}
-use Rattle.spec.specs.Observations.{ringSize, base, last, currentRows, atRows}
+use Rattle.spec.specs.Observations.{Head, maxRing, ringSize, base, last, currentRows, atRows}
 use Rattle.spec.specs.Reply.{refuse, numbers, pairs, observationWords, observationReply}
 use Rattle.spec.specs.Calls.{first, sampleBetween, currentReply, currentUpTo}
 use Rattle.spec.specs.declared.Refusal.the-variants.{Store, Space}
@@ -21,73 +19,41 @@ use Rattle.spec.specs.declared.Selection.the-variants.{Items}
 use Rattle.rows.specs.Rows.{itemsOk, sampled, counted, rowsInto}
 use Rattle.rows.specs.declared.Counted.the-variants.{Count, Broken}
 use Rattle.snapshots.specs.Snapshots.{seenFrom, noNumbers, heldFrom, heldRows, presentIn}
-use Rattle.observation_reply.specs.Fitted.{Fitted}
+use Rattle.reply.specs.Fitted.{Fitted}
 use Rattle.spec.proofs.Reply.{length-numbers, length-pairs}
-use Rattle.rows.proofs.Laws.{counted-count, counted-broken}
+use Rattle.rows.proofs.Laws.{counted-count, counted-few, counted-broken}
 use Rattle.snapshots.proofs.Laws.{current-count, at-rows}
-use Rattle.reply.proofs.Laws.{lent-over, written-short, written-whole}
+use Rattle.reply.proofs.Laws.{short, whole}
 
 -- the numbers from f up to e are at most a ring of them
 pub in-ring : (st : List ℕ) (f e : ℕ) → first st ≤ f → e ≤ suc (last st) → (base st ≤ f) × (e - f ≤ ringSize st)
 in-ring st f e h g = (omega arith, omega arith)
 
+-- and so are the rows counted
+pub in-ring-few : (m : ℕ) (st : List ℕ) (selection f e : ℕ) {k : ℕ} → Head m st → first st ≤ f → e ≤ suc (last st)
+    → Count k ≡ counted m st selection f e → k ≤ maxRing
+in-ring-few m st selection f e is h g count =
+    omega (arith, counted-few m st selection f e count, in-ring st f e h g .1, is .n-max)
+
 -- ---- k rows that fit or don't
 
-module _ (st reply x : List ℕ) (k next f l : ℕ) (is : f ≡ first st) (il : l ≡ last st) where
-  pub fitted-not : length reply < 4 + 3 * k → Fitted st reply k next false reply
-  fitted-not h = record { told = sym (lt-leb _ _ h); sized = refl }
+module _ {reply x : List ℕ} {k f l next : ℕ} {t : Bool} (w : Fitted reply (3 * k) k f l next t x)
+    (rows : List (List ℕ)) (many : k ≡ length rows) where
+  row-words : 3 * k ≡ length (numbers rows) + length (pairs rows)
+  row-words = omega (arith, length-numbers rows, length-pairs rows)
 
-  pub fitted : 4 + 3 * k ≤ length reply → x ≡ sets reply 0 (k ∷ f ∷ l ∷ next ∷ []) → Fitted st reply k next true x
-  fitted h e = record { told = sym (le-leb _ _ h); sized = e ∙ rw (is, il) }
+  rows-short : t ≡ false → observationReply f l next rows reply ≡ record { answer = Refused Space; reply = x }
+  unfolding observationReply observationWords
+  rows-short e = rw (← many) (short w (numbers rows) (pairs rows) row-words e)
 
-module _ {st reply x : List ℕ} {k next : ℕ} {t : Bool} (w : Fitted st reply k next t x) where
-  -- a reply that is too short stays as it was
-  pub kept : t ≡ false → x ≡ reply
-  kept f = rw f at (w .sized)
-
-  module _ (fits : t ≡ true) where
-    room : 4 + 3 * k ≤ length reply
-    room = leb-true _ _ (sym (w .told) ∙ fits)
-
-    front : x ≡ sets reply 0 (k ∷ first st ∷ last st ∷ next ∷ [])
-    front = rw fits at (w .sized)
-
-    -- the part behind the sizes begins inside the reply and has room for the rows
-    pub behind : 4 ≤ length x
-    behind = omega (arith, room, ap length front, length-sets reply 0 (k ∷ first st ∷ last st ∷ next ∷ []))
-
-    -- so has any part that begins no later
-    pub lends : (a : ℕ) → a ≤ 4 → 3 * k ≤ length (take (length x - a) (drop a x))
-    lends a h =
-        let d = length-drop a x in
-        let l = length-sets reply 0 (k ∷ first st ∷ last st ∷ next ∷ []) in
-        omega (arith, length-take (length x - a) (drop a x), d, room, ap length front, l)
-
-  module _ (rows : List (List ℕ)) (many : k ≡ length rows) where
-    size : 4 + 3 * k ≡ length (k ∷ first st ∷ last st ∷ next ∷ (numbers rows ++ pairs rows))
-    size = omega (arith, length-append (numbers rows) (pairs rows), length-numbers rows, length-pairs rows)
-
-    short : t ≡ false
-        → observationReply (first st) (last st) next rows reply ≡ record { answer = Refused Space; reply = x }
-    unfolding observationReply observationWords
-    short f =
-        let h : length reply < 4 + 3 * k = leb-false _ _ (sym (w .told) ∙ f) in
-        rw (kept f, ← many)
-        (written-short k (k ∷ first st ∷ last st ∷ next ∷ (numbers rows ++ pairs rows)) reply (omega (arith, size)))
-
-    -- y is the part behind the sizes as it comes back
-    whole : (y : List ℕ) → t ≡ true → y ≡ rowsInto (take (length x - 4) (drop 4 x)) k rows
-        → observationReply (first st) (last st) next rows reply
-        ≡ record { answer = Done k; reply = take 4 x ++ (y ++ drop (length x - 4) (drop 4 x)) }
-    unfolding observationReply observationWords
-    whole y fits e =
-        let n = length-numbers rows in
-        let p = length-pairs rows in
-        let r = room fits in
-        rw (← many)
-        (written-whole k (k ∷ first st ∷ last st ∷ next ∷ (numbers rows ++ pairs rows)) reply _ (omega (arith, size))
-        (lent-over reply x k (first st) (last st) next (front fits) y (numbers rows) (pairs rows) k (omega arith)
-        (omega arith) e))
+  -- y is the part behind the sizes as it comes back
+  rows-whole : (y : List ℕ) → t ≡ true → y ≡ rowsInto (take (length x - 4) (drop 4 x)) k rows
+      → observationReply f l next rows reply
+      ≡ record { answer = Done k; reply = take 4 x ++ (y ++ drop (length x - 4) (drop 4 x)) }
+  unfolding observationReply observationWords
+  rows-whole y fits e =
+      rw (← many)
+      (whole w (numbers rows) (pairs rows) row-words (many ∙ sym (length-numbers rows)) fits y e)
 
 -- ---- sample
 
@@ -96,13 +62,14 @@ module _ (m : ℕ) (st : List ℕ) (selection f e : ℕ) (reply : List ℕ) wher
   unfolding sampleBetween
   sample-broken h = rw (counted-broken m st selection f e h)
 
-  module _ {k : ℕ} {t : Bool} {x : List ℕ} (count : Count k ≡ counted m st selection f e)
-      (w : Fitted st reply k e t x) where
+  module _ {k a l : ℕ} {t : Bool} {x : List ℕ} (count : Count k ≡ counted m st selection f e) (is : a ≡ first st)
+      (il : l ≡ last st) (w : Fitted reply (3 * k) k a l e t x) where
     pub sample-short : t ≡ false
         → sampleBetween m st selection f e reply ≡ record { answer = Refused Space; reply = x }
     unfolding sampleBetween
     sample-short h =
-        let g = counted-count m st selection f e count in rw (g .0) (short w (sampled st selection f e) (g .1) h)
+        let g = counted-count m st selection f e count in
+        rw (g .0, ← is, ← il) (rows-short w (sampled st selection f e) (g .1) h)
 
     pub sample-whole : (y : List ℕ) → t ≡ true
         → y ≡ rowsInto (take (length x - 4) (drop 4 x)) k (sampled st selection f e)
@@ -110,30 +77,31 @@ module _ (m : ℕ) (st : List ℕ) (selection f e : ℕ) (reply : List ℕ) wher
         ≡ record { answer = Done k; reply = take 4 x ++ (y ++ drop (length x - 4) (drop 4 x)) }
     unfolding sampleBetween
     sample-whole y h i =
-        let g = counted-count m st selection f e count in rw (g .0) (whole w (sampled st selection f e) (g .1) y h i)
+        let g = counted-count m st selection f e count in
+        rw (g .0, ← is, ← il) (rows-whole w (sampled st selection f e) (g .1) y h i)
 
 -- ---- current
 
-module _ (m : ℕ) (st : List ℕ) (selection : ℕ) (reply : List ℕ) {k l : ℕ} {t : Bool} {x : List ℕ}
-    (few : selection < 2 ^ m) (many : k ≡ ones selection)
-    (il : l ≡ last st) (w : Fitted st reply k (l + 1) t x) where
+module _ (m : ℕ) (st : List ℕ) (selection : ℕ) (reply : List ℕ) {k f l : ℕ} {t : Bool} {x : List ℕ}
+    (few : selection < 2 ^ m) (many : k ≡ ones selection) (is : f ≡ first st)
+    (il : l ≡ last st) (w : Fitted reply (3 * k) k f l (l + 1) t x) where
   pub current-many : k ≡ length (currentRows (ringSize st) m st selection)
   current-many = many ∙ current-count (ringSize st) m st selection few
 
   current-reply : currentReply m st reply (Items selection)
-      ≡ observationReply (first st) (last st) (l + 1) (currentRows (ringSize st) m st selection) reply
+      ≡ observationReply f l (l + 1) (currentRows (ringSize st) m st selection) reply
   unfolding currentReply
-  current-reply = rw (il, add-one (last st))
+  current-reply = rw (is, il, add-one (last st))
 
   pub current-short : t ≡ false
       → currentReply m st reply (Items selection) ≡ record { answer = Refused Space; reply = x }
-  current-short h = current-reply ∙ short w (currentRows (ringSize st) m st selection) current-many h
+  current-short h = current-reply ∙ rows-short w (currentRows (ringSize st) m st selection) current-many h
 
   pub current-whole : (y : List ℕ) → t ≡ true
       → y ≡ rowsInto (take (length x - 4) (drop 4 x)) k (currentRows (ringSize st) m st selection)
       → currentReply m st reply (Items selection)
       ≡ record { answer = Done k; reply = take 4 x ++ (y ++ drop (length x - 4) (drop 4 x)) }
-  current-whole y h e = current-reply ∙ whole w (currentRows (ringSize st) m st selection) current-many y h e
+  current-whole y h e = current-reply ∙ rows-whole w (currentRows (ringSize st) m st selection) current-many y h e
 
 -- ---- current with at: f is first, and `seen` has each item's newest number up to `number`
 
@@ -145,7 +113,7 @@ module _ (m : ℕ) (st : List ℕ) (selection number f : ℕ) (reply : List ℕ)
 
   module _ (right : r ≡ true) where
     at-reply : (l : ℕ) → l ≡ last st → currentUpTo m st selection number reply
-        ≡ observationReply (first st) (last st) (l + 1)
+        ≡ observationReply f l (l + 1)
         (atRows (ringSize st) m (base st) st selection (number + 1 - f) f) reply
     unfolding currentUpTo
     at-reply l il =
@@ -162,11 +130,13 @@ module _ (m : ℕ) (st : List ℕ) (selection number f : ℕ) (reply : List ℕ)
       pub at-many : k ≡ length (pickRows (bit chosen) (heldFrom m st seen) m 0)
       at-many = at-have .1 ∙ ap length (sym (at-have .0))
 
-      module _ {t : Bool} {l : ℕ} {x : List ℕ} (il : l ≡ last st) (w : Fitted st reply k (l + 1) t x) where
+      module _ {t : Bool} {l : ℕ} {x : List ℕ} (il : l ≡ last st)
+          (w : Fitted reply (3 * k) k f l (l + 1) t x) where
         pub at-short : t ≡ false
             → currentUpTo m st selection number reply ≡ record { answer = Refused Space; reply = x }
         at-short h =
-            at-reply l il ∙ short w (atRows (ringSize st) m (base st) st selection (number + 1 - f) f) (at-have .1) h
+            at-reply l il
+            ∙ rows-short w (atRows (ringSize st) m (base st) st selection (number + 1 - f) f) (at-have .1) h
 
         pub at-whole : (y : List ℕ) → t ≡ true
             → y ≡ rowsInto (take (length x - 4) (drop 4 x)) k (pickRows (bit chosen) (heldFrom m st seen) m 0)
@@ -174,5 +144,5 @@ module _ (m : ℕ) (st : List ℕ) (selection number f : ℕ) (reply : List ℕ)
             ≡ record { answer = Done k; reply = take 4 x ++ (y ++ drop (length x - 4) (drop 4 x)) }
         at-whole y h e =
             at-reply l il
-            ∙ whole w (atRows (ringSize st) m (base st) st selection (number + 1 - f) f) (at-have .1) y h
+            ∙ rows-whole w (atRows (ringSize st) m (base st) st selection (number + 1 - f) f) (at-have .1) y h
             (rw (at-have .0) at e)

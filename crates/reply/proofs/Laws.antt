@@ -1,17 +1,19 @@
 -- Laws of replies: words written one behind the other, the arrays behind the sizes, and what answer and buffer then
 -- are.
-use Prim.Native.Nat.{ℕ, suc, _+_, _-_, _≤_, _<_}
+use Prim.Native.Nat.{ℕ, suc, _+_, _-_, _≤_}
 use mathlib.Core.Path.{_≡_, refl, sym, ap, _∙_}
+use mathlib.Core.Bool.{Bool, true, false}
 use mathlib.Core.Logic.{_≢_}
 use mathlib.Core.List.{List, [], _∷_, _++_, append-nil}
 use native.Mathlib.Omega.{arith}
-use lib.ListN.{length, set, take, drop, length-append, length-drop, drop-of-length-le}
+use lib.ListN.{length, set, take, drop, length-append, length-take, length-drop, drop-of-length-le}
 use lib.Seq.{sets, sets-eq, set-comm, length-sets, take-all, take-at, drop-append-add, drop-drop}
-use borrow.Author.Tests.{le-leb, lt-leb}
-use Rattle.spec.specs.Reply.{Replied, refuse, over, written}
+use borrow.Author.Tests.{leb-true}
+use Rattle.spec.specs.Reply.{Replied, over, written}
 use Rattle.spec.specs.declared.Refusal.the-variants.{Space}
 use Rattle.spec.specs.declared.Answer.{Answer}
-use Rattle.spec.specs.declared.Answer.the-variants.{Done}
+use Rattle.spec.specs.declared.Answer.the-variants.{Done, Refused}
+use Rattle.reply.specs.Fitted.{Fitted}
 
 -- a word behind those that are set
 pub sets-set : (vs l : List ℕ) (i q x : ℕ) → i + length vs ≤ q → sets (set l q x) i vs ≡ set (sets l i vs) q x
@@ -38,41 +40,69 @@ columns-over o C L h =
       drop-drop (length L) (length C) o,
     ))
 
--- x is a reply whose sizes are written, and of which the part behind them is lent
-module _ (r x : List ℕ) (a b c d : ℕ) (sized : x ≡ sets r 0 (a ∷ b ∷ c ∷ d ∷ [])) where
-  same-size : length x ≡ length r
-  same-size = ap length sized ∙ length-sets r 0 (a ∷ b ∷ c ∷ d ∷ [])
+-- w words behind the sizes a, b, c and d, which fit the reply or don't; x is the reply, of which a part may be lent
+module _ {reply x : List ℕ} {w a b c d : ℕ} {t : Bool} (s : Fitted reply w a b c d t x) where
+  module _ (fits : t ≡ true) where
+    room : 4 + w ≤ length reply
+    room = leb-true _ _ (sym (s .told) ∙ fits)
 
-  lent : take (length x - 4) (drop 4 x) ≡ drop 4 x
-  lent = take-all (length x - 4) (drop 4 x) (omega (arith, length-drop 4 x))
+    front : x ≡ sets reply 0 (a ∷ b ∷ c ∷ d ∷ [])
+    front = rw fits at (s .sized)
 
-  -- there is room for n words in it
-  pub lent-room : (n : ℕ) → 4 + n ≤ length r → n ≤ length (take (length x - 4) (drop 4 x))
-  lent-room n h = rw lent (omega (arith, same-size, length-drop 4 x))
+    same-size : length x ≡ length reply
+    same-size = ap length front ∙ length-sets reply 0 (a ∷ b ∷ c ∷ d ∷ [])
 
-  -- the part comes back as y, with C and L written: the reply is all these words, then those that stood behind them
-  pub lent-over : (y C L : List ℕ) (k : ℕ) → k ≡ length C → 4 + (length C + length L) ≤ length r
-      → y ≡ sets (sets (take (length x - 4) (drop 4 x)) 0 C) k L
-      → take 4 x ++ (y ++ drop (length x - 4) (drop 4 x)) ≡ over (a ∷ b ∷ c ∷ d ∷ (C ++ L)) r
-  lent-over y C L k ek h ey =
-      let e : x ≡ (a ∷ b ∷ c ∷ d ∷ []) ++ drop 4 r = sized ∙ sets-eq (a ∷ b ∷ c ∷ d ∷ []) r 0 (omega arith) in
-      let f : drop 4 x ≡ drop 4 r = ap (drop 4) e in
-      let t : take 4 x ≡ a ∷ b ∷ c ∷ d ∷ [] = ap (take 4) e in
-      let u : drop (length x - 4) (drop 4 x) ≡ [] =
-      drop-of-length-le (drop 4 x) {i = length x - 4} (omega (arith, length-drop 4 x)) in
-      let n : 4 + (length C + length L) ≡ length (a ∷ b ∷ c ∷ d ∷ (C ++ L)) = omega (arith, length-append C L) in
-      rw (
-        t,
-        u,
-        append-nil y,
-        ey,
-        lent,
-        f,
-        ek,
-        columns-over (drop 4 r) C L (omega (arith, length-drop 4 r)),
-        drop-drop (length C + length L) 4 r,
-      )
-      (ap (λ (z : ℕ). a ∷ b ∷ c ∷ d ∷ ((C ++ L) ++ drop z r)) n)
+    -- the part behind the sizes begins inside the reply
+    pub behind : 4 ≤ length x
+    behind = omega (arith, room, same-size)
+
+    -- it has room for the words, and so has any part that begins no later
+    pub lends : (n : ℕ) → n ≤ 4 → w ≤ length (take (length x - n) (drop n x))
+    lends n h = omega (arith, length-take (length x - n) (drop n x), length-drop n x, room, same-size)
+
+  -- the words are C, then L
+  module _ (C L : List ℕ) (size : w ≡ length C + length L) where
+    all-size : length (a ∷ b ∷ c ∷ d ∷ (C ++ L)) ≡ 4 + w
+    all-size = omega (arith, length-append C L)
+
+    pub short : t ≡ false
+        → written a (a ∷ b ∷ c ∷ d ∷ (C ++ L)) reply ≡ record { answer = Refused Space; reply = x }
+    unfolding written
+    short f = let kept : x ≡ reply = rw f at (s .sized) in rw (all-size, ← s .told, f, kept)
+
+    module _ (many : a ≡ length C) (fits : t ≡ true) (y : List ℕ)
+        (ey : y ≡ sets (sets (take (length x - 4) (drop 4 x)) 0 C) a L) where
+      -- the part comes back as y: the reply is all these words, then those that stood behind them
+      lent-over : take 4 x ++ (y ++ drop (length x - 4) (drop 4 x)) ≡ over (a ∷ b ∷ c ∷ d ∷ (C ++ L)) reply
+      lent-over =
+          let h = room fits in
+          let e : x ≡ (a ∷ b ∷ c ∷ d ∷ []) ++ drop 4 reply =
+          front fits ∙ sets-eq (a ∷ b ∷ c ∷ d ∷ []) reply 0 (omega arith) in
+          let f : drop 4 x ≡ drop 4 reply = ap (drop 4) e in
+          let g : take 4 x ≡ a ∷ b ∷ c ∷ d ∷ [] = ap (take 4) e in
+          let l : take (length x - 4) (drop 4 x) ≡ drop 4 x =
+          take-all (length x - 4) (drop 4 x) (omega (arith, length-drop 4 x)) in
+          let u : drop (length x - 4) (drop 4 x) ≡ [] =
+          drop-of-length-le (drop 4 x) {i = length x - 4} (omega (arith, length-drop 4 x)) in
+          let n : 4 + (length C + length L) ≡ length (a ∷ b ∷ c ∷ d ∷ (C ++ L)) = omega (arith, all-size) in
+          rw (
+            g,
+            u,
+            append-nil y,
+            ey,
+            l,
+            f,
+            many,
+            columns-over (drop 4 reply) C L (omega (arith, length-drop 4 reply)),
+            drop-drop (length C + length L) 4 reply,
+          )
+          (ap (λ (z : ℕ). length C ∷ b ∷ c ∷ d ∷ ((C ++ L) ++ drop z reply)) n)
+
+      pub whole :
+          written a (a ∷ b ∷ c ∷ d ∷ (C ++ L)) reply
+          ≡ record { answer = Done a; reply = take 4 x ++ (y ++ drop (length x - 4) (drop 4 x)) }
+      unfolding written
+      whole = rw (all-size, ← s .told, fits, lent-over)
 
 -- ---- answer and reply
 
@@ -84,13 +114,3 @@ both o {x} {y} e = (sym (ap (λ (z : Replied). z .answer) e), sym (ap (λ (z : R
 pub passed : (o p : Replied) {x : Answer} {y : List ℕ} → o ≡ p → (x ≡ o .answer) × (y ≡ o .reply)
     → (x ≡ p .answer) × (y ≡ p .reply)
 passed o p {x} {y} e h = (h .0 ∙ ap (λ (z : Replied). z .answer) e, h .1 ∙ ap (λ (z : Replied). z .reply) e)
-
-module _ (k : ℕ) (words reply : List ℕ) where
-  pub written-short : length reply < length words → written k words reply ≡ refuse Space reply
-  unfolding written
-  written-short h = rw (lt-leb _ _ h)
-
-  pub written-whole : (l : List ℕ) → length words ≤ length reply → l ≡ over words reply
-      → written k words reply ≡ record { answer = Done k; reply = l }
-  unfolding written
-  written-whole l h e = rw (le-leb _ _ h, e)

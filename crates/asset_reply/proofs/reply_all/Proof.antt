@@ -2,8 +2,8 @@
 use native.Mathlib.Omega.{arith}
 use borrow.Author.Tests.{not-true, not-false}
 use borrow.Author.Needs.{needs}
-use Rattle.reply.proofs.Laws.{both}
-use Rattle.asset_reply.proofs.Laws.{behind, lends, cells-wrong, cells-short, cells-whole, length-down, of-used}
+use Rattle.reply.proofs.Laws.{behind, lends, both}
+use Rattle.asset_reply.proofs.Laws.{cells-wrong, cells-short, cells-whole, length-down, of-used}
 use Rattle.asset_reply.proofs.reply_all.Statement.{statement}
 use Rattle.asset_reply.proofs.reply_all.Tie as tie
 
@@ -22,11 +22,18 @@ returns c =
     (of-used (a .assets .now) (a .reply .now) (us .used .ensures .0)
     (cells-wrong (a .assets .now) _ (a .reply .now) _ (lo .all-lengths-ok .ensures) (not-true _ (c .if1 .taken))))
 
+mul-fit-sizes : tie.Need-mul-fit-sizes
+mul-fit-sizes c =
+    let us = c .before .before .before in
+    omega (arith, us .used .ensures .1, us .before .before .before .pre .a-max)
+
+capacity-requires : tie.Need-capacity-requires
+capacity-requires c κs = search needs
+
 fit-sizes-requires : tie.Need-fit-sizes-requires
 fit-sizes-requires c κs =
-    let us = c .before .before .before in
-    let s = us .before .before .before in
-    (s .pre, omega (arith, us .used .ensures .1, s .pre .a-max))
+    let us = c .before .before .before .before in
+    omega (arith, us .used .ensures .1, us .before .before .before .pre .a-max)
 
 same-length : tie.Need-same-length
 same-length c = search needs
@@ -34,13 +41,15 @@ same-length c = search needs
 returns-2 : tie.Need-returns-2
 returns-2 c =
     let fs = c .before .before .before in
-    let if1 = fs .before .before in
+    let cap = fs .before in
+    let if1 = cap .before .before in
     let us = if1 .before .before in
     let a = us .before .before .before .args in
+    let iu = us .used .ensures .0 in
     both _
-    (of-used (a .assets .now) (a .reply .now) (us .used .ensures .0)
-    (cells-short (fs .fit-sizes .ensures) _ (length-down _) (if1 .before .all-lengths-ok .ensures)
-    (not-false _ (if1 .if1 .left)) (not-true _ (c .if2 .taken))))
+    (of-used (a .assets .now) (a .reply .now) iu
+    (cells-short (a .assets .now) (fs .fit-sizes .ensures) iu (cap .capacity .ensures .0) _ (length-down _)
+    (if1 .before .all-lengths-ok .ensures) (not-false _ (if1 .if1 .left)) (not-true _ (c .if2 .taken))))
 
 sub-write-all : tie.Need-sub-write-all
 sub-write-all c =
@@ -57,9 +66,13 @@ write-all-requires : tie.Need-write-all-requires
 write-all-requires c κs =
     let if2 = c .before in
     let fs = if2 .before .before .before in
-    let us = fs .before .before .before .before in
-    let s = us .before .before .before in
-    (s .pre, (omega (arith, us .used .ensures .0), lends (fs .fit-sizes .ensures) (not-false _ (if2 .if2 .left))))
+    let us = fs .before .before .before .before .before in (
+      us .before .before .before .pre,
+      (
+        omega (arith, us .used .ensures .0),
+        lends (fs .fit-sizes .ensures) (not-false _ (if2 .if2 .left)) _ (omega arith),
+      ),
+    )
 
 same-length-2 : tie.Need-same-length-2
 same-length-2 c = search needs
@@ -69,13 +82,16 @@ returns-3 c =
     let wa = c .before .before in
     let if2 = wa .before .before in
     let fs = if2 .before .before .before in
-    let if1 = fs .before .before in
+    let cap = fs .before in
+    let if1 = cap .before .before in
     let us = if1 .before .before in
     let a = us .before .before .before .args in
+    let iu = us .used .ensures .0 in
     both _
-    (of-used (a .assets .now) (a .reply .now) (us .used .ensures .0)
-    (cells-whole (fs .fit-sizes .ensures) _ (length-down _) (if1 .before .all-lengths-ok .ensures) _
-    (not-false _ (if1 .if1 .left)) (not-false _ (if2 .if2 .left)) (wa .write-all .ensures)))
+    (of-used (a .assets .now) (a .reply .now) iu
+    (cells-whole (a .assets .now) (fs .fit-sizes .ensures) iu (cap .capacity .ensures .0) _ (length-down _)
+    (if1 .before .all-lengths-ok .ensures) (not-false _ (if1 .if1 .left)) _ (not-false _ (if2 .if2 .left))
+    (wa .write-all .ensures)))
 
 pub reply-all-spec : {M : Type 1} → statement M
 reply-all-spec =
@@ -84,6 +100,8 @@ reply-all-spec =
     used-requires
     all-lengths-ok-requires
     returns
+    mul-fit-sizes
+    capacity-requires
     fit-sizes-requires
     same-length
     returns-2

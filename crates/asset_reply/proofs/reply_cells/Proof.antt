@@ -2,8 +2,8 @@
 use native.Mathlib.Omega.{arith}
 use borrow.Author.Tests.{not-true, not-false}
 use borrow.Author.Needs.{needs}
-use Rattle.reply.proofs.Laws.{both}
-use Rattle.asset_reply.proofs.Laws.{behind, lends, cells-wrong, cells-short, cells-whole, length-first}
+use Rattle.reply.proofs.Laws.{behind, lends, both}
+use Rattle.asset_reply.proofs.Laws.{cells-wrong, cells-short, cells-whole, length-first}
 use Rattle.asset_reply.proofs.reply_cells.Statement.{statement}
 use Rattle.asset_reply.proofs.reply_cells.Tie as tie
 
@@ -17,6 +17,15 @@ returns c =
     both _
     (cells-wrong (a .assets .now) _ (a .reply .now) _ (lo .lengths-ok .ensures) (not-true _ (c .if1 .taken)))
 
+used-requires : tie.Need-used-requires
+used-requires c κs = search needs
+
+capacity-requires : tie.Need-capacity-requires
+capacity-requires c κs = search needs
+
+mul-fit-sizes : tie.Need-mul-fit-sizes
+mul-fit-sizes c = search needs
+
 fit-sizes-requires : tie.Need-fit-sizes-requires
 fit-sizes-requires c κs = search needs
 
@@ -26,11 +35,14 @@ same-length c = search needs
 returns-2 : tie.Need-returns-2
 returns-2 c =
     let fs = c .before .before .before in
-    let if1 = fs .before .before in
+    let cap = fs .before .before in
+    let us = cap .before in
+    let if1 = us .before in
     let s = if1 .before .before .before .before in
     both _
-    (cells-short (fs .fit-sizes .ensures) _ (length-first (s .pre .1)) (if1 .before .lengths-ok .ensures)
-    (not-false _ (if1 .if1 .left)) (not-true _ (c .if2 .taken)))
+    (cells-short (s .args .assets .now) (fs .fit-sizes .ensures) (us .used .ensures .0) (cap .capacity .ensures .0) _
+    (length-first (s .pre .1)) (if1 .before .lengths-ok .ensures) (not-false _ (if1 .if1 .left))
+    (not-true _ (c .if2 .taken)))
 
 sub-write-cells : tie.Need-sub-write-cells
 sub-write-cells c =
@@ -47,8 +59,8 @@ write-cells-requires : tie.Need-write-cells-requires
 write-cells-requires c κs =
     let if2 = c .before in
     let fs = if2 .before .before .before in
-    let s = fs .before .before .before .before .before .before in
-    (s .pre .0, (s .pre .1, lends (fs .fit-sizes .ensures) (not-false _ (if2 .if2 .left))))
+    let s = fs .before .before .before .before .before .before .before .before in
+    (s .pre .0, (s .pre .1, lends (fs .fit-sizes .ensures) (not-false _ (if2 .if2 .left)) _ (omega arith)))
 
 same-length-2 : tie.Need-same-length-2
 same-length-2 c = search needs
@@ -58,11 +70,14 @@ returns-3 c =
     let wc = c .before .before in
     let if2 = wc .before .before in
     let fs = if2 .before .before .before in
-    let if1 = fs .before .before in
+    let cap = fs .before .before in
+    let us = cap .before in
+    let if1 = us .before in
     let s = if1 .before .before .before .before in
     both _
-    (cells-whole (fs .fit-sizes .ensures) _ (length-first (s .pre .1)) (if1 .before .lengths-ok .ensures) _
-    (not-false _ (if1 .if1 .left)) (not-false _ (if2 .if2 .left)) (wc .write-cells .ensures))
+    (cells-whole (s .args .assets .now) (fs .fit-sizes .ensures) (us .used .ensures .0) (cap .capacity .ensures .0) _
+    (length-first (s .pre .1)) (if1 .before .lengths-ok .ensures) (not-false _ (if1 .if1 .left)) _
+    (not-false _ (if2 .if2 .left)) (wc .write-cells .ensures))
 
 pub reply-cells-spec : {M : Type 1} → statement M
 reply-cells-spec =
@@ -70,6 +85,9 @@ reply-cells-spec =
     (tie.spec
     lengths-ok-requires
     returns
+    used-requires
+    capacity-requires
+    mul-fit-sizes
     fit-sizes-requires
     same-length
     returns-2

@@ -3,8 +3,8 @@
 use Prim.Native.Nat.{_+_}
 use native.Mathlib.Omega.{arith}
 use borrow.Author.Tests.{not-true, not-false}
-use Rattle.reply.proofs.Laws.{both}
-use Rattle.observation_reply.proofs.Laws.{in-ring, behind, lends, at-broken, at-many, at-short, at-whole}
+use Rattle.reply.proofs.Laws.{behind, lends, both}
+use Rattle.observation_reply.proofs.Laws.{in-ring, at-broken, at-many, at-short, at-whole}
 use borrow.Author.Needs.{needs}
 use Rattle.observation_reply.proofs.reply_at.Statement.{statement}
 use Rattle.observation_reply.proofs.reply_at.Tie as tie
@@ -44,6 +44,9 @@ count-requires c κs = search needs
 
 last-requires : tie.Need-last-requires
 last-requires c κs = search needs
+
+mul-fit-sizes : tie.Need-mul-fit-sizes
+mul-fit-sizes c = search needs
 
 add-fit-sizes : tie.Need-add-fit-sizes
 add-fit-sizes c = search needs
@@ -145,6 +148,7 @@ reply-at-spec =
     present-requires
     count-requires
     last-requires
+    mul-fit-sizes
     add-fit-sizes
     fit-sizes-requires
     same-length

@@ -1,8 +1,8 @@
 -- As many rows as the selection has ones are written behind the sizes.
 use native.Mathlib.Omega.{arith}
 use borrow.Author.Tests.{not-true, not-false}
-use Rattle.reply.proofs.Laws.{both}
-use Rattle.observation_reply.proofs.Laws.{behind, lends, current-many, current-short, current-whole}
+use Rattle.reply.proofs.Laws.{behind, lends, both}
+use Rattle.observation_reply.proofs.Laws.{current-many, current-short, current-whole}
 use borrow.Author.Needs.{needs}
 use Rattle.observation_reply.proofs.reply_current.Statement.{statement}
 use Rattle.observation_reply.proofs.reply_current.Tie as tie
@@ -10,8 +10,14 @@ use Rattle.observation_reply.proofs.reply_current.Tie as tie
 count-requires : tie.Need-count-requires
 count-requires c κs = search needs
 
+first-requires : tie.Need-first-requires
+first-requires c κs = search needs
+
 last-requires : tie.Need-last-requires
 last-requires c κs = search needs
+
+mul-fit-sizes : tie.Need-mul-fit-sizes
+mul-fit-sizes c = search needs
 
 add-fit-sizes : tie.Need-add-fit-sizes
 add-fit-sizes c = search needs
@@ -26,13 +32,14 @@ returns : tie.Need-returns
 returns c =
     let fs = c .before .before .before in
     let last = fs .before .before in
-    let coun = last .before in
+    let firs = last .before in
+    let coun = firs .before in
     let s = coun .before .before .before in
     let w = fs .fit-sizes .ensures in
     let l = last .last .ensures .0 in
     both _
     (current-short (s .args .m) (s .args .st .now) (s .args .selection) (s .args .reply .now) (s .pre .1 .1)
-    (coun .count .ensures .0) l w (not-true _ (c .if1 .taken)))
+    (coun .count .ensures .0) (firs .first .ensures .0) l w (not-true _ (c .if1 .taken)))
 
 sub-write-latest : tie.Need-sub-write-latest
 sub-write-latest c =
@@ -52,12 +59,13 @@ write-latest-requires c κs =
     let if1 = c .before in
     let fs = if1 .before .before .before in
     let last = fs .before .before in
-    let coun = last .before in
+    let firs = last .before in
+    let coun = firs .before in
     let s = coun .before .before .before in
     let p = s .pre in
     let w = fs .fit-sizes .ensures in
     let n = current-many (s .args .m) (s .args .st .now) (s .args .selection) (s .args .reply .now) (s .pre .1 .1)
-    (coun .count .ensures .0) (last .last .ensures .0) w in
+    (coun .count .ensures .0) (firs .first .ensures .0) (last .last .ensures .0) w in
     (p .0, (p .1 .0, (n, lends w (not-false _ (if1 .if1 .left)) _ (omega arith))))
 
 same-length-2 : tie.Need-same-length-2
@@ -69,21 +77,24 @@ returns-2 c =
     let if1 = wl .before .before in
     let fs = if1 .before .before .before in
     let last = fs .before .before in
-    let coun = last .before in
+    let firs = last .before in
+    let coun = firs .before in
     let s = coun .before .before .before in
     let w = fs .fit-sizes .ensures in
     let l = last .last .ensures .0 in
     let y = not-false _ (if1 .if1 .left) in
     both _
     (current-whole (s .args .m) (s .args .st .now) (s .args .selection) (s .args .reply .now) (s .pre .1 .1)
-    (coun .count .ensures .0) l w _ y (wl .write-latest .ensures))
+    (coun .count .ensures .0) (firs .first .ensures .0) l w _ y (wl .write-latest .ensures))
 
 pub reply-current-spec : {M : Type 1} → statement M
 reply-current-spec =
     tie.close
     (tie.spec
     count-requires
+    first-requires
     last-requires
+    mul-fit-sizes
     add-fit-sizes
     fit-sizes-requires
     same-length

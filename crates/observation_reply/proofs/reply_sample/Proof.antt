@@ -2,9 +2,9 @@
 use mathlib.Core.Path.{sym, _∙_}
 use native.Mathlib.Omega.{arith}
 use borrow.Author.Tests.{not-true, not-false}
-use Rattle.rows.proofs.Laws.{counted-count, counted-few}
-use Rattle.reply.proofs.Laws.{both}
-use Rattle.observation_reply.proofs.Laws.{in-ring, behind, lends, sample-broken, sample-short, sample-whole}
+use Rattle.rows.proofs.Laws.{counted-count}
+use Rattle.reply.proofs.Laws.{behind, lends, both}
+use Rattle.observation_reply.proofs.Laws.{in-ring, in-ring-few, sample-broken, sample-short, sample-whole}
 use borrow.Author.Needs.{needs}
 use Rattle.observation_reply.proofs.reply_sample.Statement.{statement}
 use Rattle.observation_reply.proofs.reply_sample.Tie as tie
@@ -31,16 +31,29 @@ returns c =
     (sample-broken (s .args .m) (s .args .st .now) (s .args .selection) (s .args .f) (s .args .e)
     (s .args .reply .now) n)
 
-fit-sizes-requires : tie.Need-fit-sizes-requires
-fit-sizes-requires c κs =
-    let k = c .before .before in
+first-requires : tie.Need-first-requires
+first-requires c κs = search needs
+
+last-requires : tie.Need-last-requires
+last-requires c κs = search needs
+
+mul-fit-sizes : tie.Need-mul-fit-sizes
+mul-fit-sizes c =
+    let k = c .before .before .before .before in
     let cr = k .before .before in
     let s = cr .before .before .before in
     let p = s .pre in
-    let r = in-ring (s .args .st .now) (s .args .f) (s .args .e) (p .1 .1 .0) (p .1 .1 .1 .1) in
-    let n = counted-few (s .args .m) (s .args .st .now) (s .args .selection) (s .args .f) (s .args .e)
-    (sym (k .k .given .1) ∙ cr .count-rows .ensures) in
-    (p .0, omega (arith, p .0 .n-max))
+    let n = sym (k .k .given .1) ∙ cr .count-rows .ensures in
+    omega (arith, in-ring-few _ _ _ _ _ (p .0) (p .1 .1 .0) (p .1 .1 .1 .1) n)
+
+fit-sizes-requires : tie.Need-fit-sizes-requires
+fit-sizes-requires c κs =
+    let k = c .before .before .before .before in
+    let cr = k .before .before in
+    let s = cr .before .before .before in
+    let p = s .pre in
+    let n = sym (k .k .given .1) ∙ cr .count-rows .ensures in
+    omega (arith, in-ring-few _ _ _ _ _ (p .0) (p .1 .1 .0) (p .1 .1 .1 .1) n)
 
 same-length : tie.Need-same-length
 same-length c = search needs
@@ -48,14 +61,15 @@ same-length c = search needs
 returns-2 : tie.Need-returns-2
 returns-2 c =
     let fs = c .before .before .before in
-    let k = fs .before .before .before in
+    let last = fs .before .before in
+    let k = last .before .before .before in
     let cr = k .before .before in
     let s = cr .before .before .before in
     let n = sym (k .k .given .1) ∙ cr .count-rows .ensures in
     let w = fs .fit-sizes .ensures in
     both _
     (sample-short (s .args .m) (s .args .st .now) (s .args .selection) (s .args .f) (s .args .e)
-    (s .args .reply .now) n w (not-true _ (c .if1 .taken)))
+    (s .args .reply .now) n (last .before .first .ensures .0) (last .last .ensures .0) w (not-true _ (c .if1 .taken)))
 
 sub-write-rows : tie.Need-sub-write-rows
 sub-write-rows c =
@@ -74,7 +88,8 @@ write-rows-requires : tie.Need-write-rows-requires
 write-rows-requires c κs =
     let if1 = c .before in
     let fs = if1 .before .before .before in
-    let k = fs .before .before .before in
+    let last = fs .before .before in
+    let k = last .before .before .before in
     let cr = k .before .before in
     let s = cr .before .before .before in
     let p = s .pre in
@@ -93,14 +108,16 @@ returns-3 c =
     let wr = c .before .before in
     let if1 = wr .before .before in
     let fs = if1 .before .before .before in
-    let k = fs .before .before .before in
+    let last = fs .before .before in
+    let k = last .before .before .before in
     let cr = k .before .before in
     let s = cr .before .before .before in
     let n = sym (k .k .given .1) ∙ cr .count-rows .ensures in
     let w = fs .fit-sizes .ensures in
     both _
     (sample-whole (s .args .m) (s .args .st .now) (s .args .selection) (s .args .f) (s .args .e)
-    (s .args .reply .now) n w _ (not-false _ (if1 .if1 .left)) (wr .write-rows .ensures))
+    (s .args .reply .now) n (last .before .first .ensures .0) (last .last .ensures .0) w _
+    (not-false _ (if1 .if1 .left)) (wr .write-rows .ensures))
 
 pub reply-sample-spec : {M : Type 1} → statement M
 reply-sample-spec =
@@ -110,6 +127,9 @@ reply-sample-spec =
     enum-known-k
     enum-told
     returns
+    first-requires
+    last-requires
+    mul-fit-sizes
     fit-sizes-requires
     same-length
     returns-2

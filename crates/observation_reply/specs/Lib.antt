@@ -1,2 +1,0 @@
--- What stands at the front of a reply of observations.
-pub mod Fitted

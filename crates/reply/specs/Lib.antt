@@ -1,0 +1,2 @@
+-- What stands at the front of a reply.
+pub mod Fitted
