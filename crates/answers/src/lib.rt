@@ -1,16 +1,17 @@
 // An answer as document 01 writes it: number and count, or one word.
 ghost use mathlib.Core.Path.{_≡_};
 ghost use Prim.Native.Nat.{_<_};
+ghost use Rattle.answers.specs.Places.{numberAt};
 ghost use Rattle.spec.specs.Answers.{refusalNumber, refusalWord, answerNumber, answerCount, observeWord, storeWord};
 use spec::Answer;
 use spec::ObserveAnswer;
 use spec::Refusal;
 use spec::StoreAnswer;
 
-// The refusal's number, of five bits.
-fn refusal_number(refusal: Refusal) -> u64
-    ensures { λ r. ⌜ r ≡ refusalNumber refusal ⌝ }
-    ensures { λ r. ⌜ r < 32 ⌝ }
+// The refusal's place among them all, from 1 on. Without a gap the compiler makes a sum of it, and no table.
+fn refusal_place(refusal: Refusal) -> u64
+    ensures { λ r. ⌜ numberAt r ≡ refusalNumber refusal ⌝ }
+    ensures { λ r. ⌜ r < 31 ⌝ }
 {
     match refusal {
         Refusal::Model => 1,
@@ -24,12 +25,22 @@ fn refusal_number(refusal: Refusal) -> u64
         Refusal::Unsupported => 9,
         Refusal::TooMany => 10,
         Refusal::InvalidXpath => 11,
-        Refusal::OutOfRange => 12,
-        Refusal::AssetNotFound => 13,
-        Refusal::Asset => 14,
-        Refusal::Space => 15,
-        Refusal::Batch => 16,
+        Refusal::AssetNotFound => 12,
+        Refusal::Asset => 13,
+        Refusal::Space => 14,
+        Refusal::Batch => 15,
+        Refusal::Late => 16,
+        Refusal::Early => 17,
     }
+}
+
+// The refusal's number, of five bits: 12 is none's.
+fn refusal_number(refusal: Refusal) -> u64
+    ensures { λ r. ⌜ r ≡ refusalNumber refusal ⌝ }
+    ensures { λ r. ⌜ r < 32 ⌝ }
+{
+    let place = refusal_place(refusal);
+    if place < 12 { place } else { place + 1 }
 }
 
 // The refusal as a word: its number with bit 63.

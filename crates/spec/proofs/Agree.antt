@@ -2,7 +2,7 @@
 -- it leaves stand for the state that the reference model is then in.
 use mathlib.Core.Path.{_≡_, refl, sym, ap, _∙_}
 use mathlib.Core.Logic.{_≢_}
-use mathlib.Core.Bool.{Bool, true, false, cond, _&&_, _||_, not, true≢false, false≢true}
+use mathlib.Core.Bool.{Bool, true, false, cond, _&&_, not, true≢false, false≢true}
 use Prim.Native.Nat.{ℕ, zero, suc, _+_, _-_, _^_, _≤_, _<_}
 use native.Mathlib.Omega.{arith}
 use mathlib.Core.List.{List, [], _∷_, _++_, map}
@@ -26,14 +26,14 @@ use Rattle.spec.specs.Calls.{inRange, sampleBetween, sampleReply, curren
 use Rattle.spec.specs.Calls.{allCells, cellsReply, namedReply, downFrom, answerRequest, answerReading, added}
 use Rattle.spec.specs.Calls
 use Rattle.spec.specs.Reference.{State, Observation, Held, nothing, newestOr, newest, lastOf, firstOf, within}
-use Rattle.spec.specs.Reference.{keep, triple, outside, sameValue, spent, observeAnswer, observeNext, withOne}
+use Rattle.spec.specs.Reference.{keep, triple, sameValue, spent, observeAnswer, observeNext, withOne}
 use Rattle.spec.specs.Reference.{place, holds, assetsAfter, storeAnswer, storeNext, sampleStart, sampleEnd}
 use Rattle.spec.specs.Reference.{sampleFor, currentFor, foundRows, atFor, selected, contentAt, heldRows, allHeld}
 use Rattle.spec.specs.Reference.{placesOf, newestFirst, replyTo, replyReading, bodyOf}
 use Rattle.spec.specs.Reference
 use Rattle.spec.specs.declared.Value.{Value}
 use Rattle.spec.specs.declared.Value.the-variants.{Event}
-use Rattle.spec.specs.declared.Refusal.the-variants.{Spent, TooMany, InvalidXpath, OutOfRange}
+use Rattle.spec.specs.declared.Refusal.the-variants.{Spent, TooMany, InvalidXpath, Late, Early}
 use Rattle.spec.specs.declared.Place.the-variants.{At, Nothing}
 use Rattle.spec.specs.declared.ObserveAnswer.{ObserveAnswer}
 use Rattle.spec.specs.declared.ObserveAnswer.the-variants.{Recorded, Refused as Unrecorded}
@@ -126,12 +126,14 @@ module _ (N m B : ℕ) (H : List Observation) (st : List ℕ) (R : Rep N m B H s
 -- ---- replies agree where they are in range
 
 range-agree : (low high n : ℕ) (reply : List ℕ) (r r' : Replied) → (low ≤ n → n ≤ high → r ≡ r')
-    → unless (inRange low high n) reply r ≡ cond (outside low high n) (refuse OutOfRange reply) r'
+    → unless (inRange low high n) reply r
+    ≡ cond (ltb n low) (refuse Late reply) (cond (ltb high n) (refuse Early reply) r')
 unfolding inRange
 range-agree low high n reply r r' h = go (ltb n low) refl (ltb high n) refl
   where
     go : (a : Bool) → ltb n low ≡ a → (b : Bool) → ltb high n ≡ b
-        → unless (cond a (Against OutOfRange) (cond b (Against OutOfRange) Fine)) reply r ≡ cond (a || b) (refuse OutOfRange reply) r'
+        → unless (cond a (Against Late) (cond b (Against Early) Fine)) reply r
+        ≡ cond a (refuse Late reply) (cond b (refuse Early reply) r')
     go true e b f = refl
     go false e true f = refl
     go false e false f = h (ltb-false n low e) (ltb-false high n f)

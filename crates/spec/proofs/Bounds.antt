@@ -18,7 +18,7 @@ use Rattle.spec.specs.declared.Answer.{Answer}
 use Rattle.spec.specs.declared.Answer.the-variants.{Done, Refused}
 use Rattle.spec.specs.declared.ObserveAnswer.the-variants.{Recorded, Refused as Unrecorded}
 use Rattle.spec.specs.declared.StoreAnswer.the-variants.{Stored, Refused as Unstored}
-use Rattle.spec.specs.declared.Refusal.the-variants.{Size, Store, Spent, InvalidRequest, TooMany, OutOfRange}
+use Rattle.spec.specs.declared.Refusal.the-variants.{Size, Store, Spent, InvalidRequest, TooMany, Late, Early}
 use Rattle.spec.specs.declared.Refusal.the-variants.{AssetNotFound, Asset, Space}
 use Rattle.spec.proofs.Opened.{opened}
 use Rattle.spec.proofs.Fixtures.{Step, shows, refuses, refusesIn, stores}
@@ -222,26 +222,69 @@ pub given-counts :
 unfolding opened
 given-counts = (refl, refl)
 
--- ---- from: first to last + 1; at: first to last; refusal 12. First is 2, last is 4
+-- ---- from: first to last + 1; at: first to last; below 17, above 18 (document 02, Req 04). First is 2, last is 4
 
+-- from 0 is first
 pub from-bounds :
     BenchGives
-    (refuses "/sample?from=1" OutOfRange
+    (shows "/sample?from=0&count=1" (1 ∷ 2 ∷ 4 ∷ 3 ∷ 2 ∷ 1000 ∷ 1099511627776 ∷ [])
+    ∷ refuses "/sample?from=1" Late
     ∷ shows "/sample?from=2&count=1" (1 ∷ 2 ∷ 4 ∷ 3 ∷ 2 ∷ 1000 ∷ 1099511627776 ∷ [])
+    ∷ shows "/sample?from=4" (1 ∷ 2 ∷ 4 ∷ 5 ∷ 4 ∷ 1030 ∷ 1108101562367 ∷ [])
     ∷ shows "/sample?from=5" (0 ∷ 2 ∷ 4 ∷ 5 ∷ [])
-    ∷ refuses "/sample?from=6" OutOfRange ∷ [])
+    ∷ refuses "/sample?from=6" Early
+    ∷ refuses "/sample?from=9223372036854775807" Early ∷ [])
 unfolding opened
 from-bounds = (refl, refl)
 
+-- at 0 is a number below first
 pub at-bounds :
     BenchGives
-    (refuses "/current?at=0" OutOfRange
-    ∷ refuses "/current?at=1" OutOfRange
+    (refuses "/current?at=0" Late
+    ∷ refuses "/current?at=1" Late
     ∷ shows "/current?at=2" (2 ∷ 2 ∷ 4 ∷ 5 ∷ 1 ∷ 2 ∷ 1000 ∷ 0 ∷ 1000 ∷ 1099511627776 ∷ [])
     ∷ shows "/current?at=4" (2 ∷ 2 ∷ 4 ∷ 5 ∷ 1 ∷ 4 ∷ 1000 ∷ 0 ∷ 1030 ∷ 1108101562367 ∷ [])
-    ∷ refuses "/current?at=5" OutOfRange ∷ [])
+    ∷ refuses "/current?at=5" Early
+    ∷ refuses "/current?at=6" Early
+    ∷ refuses "/current?at=9223372036854775807" Early ∷ [])
 unfolding opened
 at-bounds = (refl, refl)
+
+-- nothing is overwritten yet, so B is first: 1, and 5
+pub base-bounds :
+    ToolsGive 1
+    (shows "/sample?from=0&count=1" (1 ∷ 1 ∷ 2 ∷ 2 ∷ 1 ∷ 1000 ∷ 0 ∷ [])
+    ∷ shows "/sample?from=1&count=1" (1 ∷ 1 ∷ 2 ∷ 2 ∷ 1 ∷ 1000 ∷ 0 ∷ [])
+    ∷ shows "/sample?from=3" (0 ∷ 1 ∷ 2 ∷ 3 ∷ [])
+    ∷ refuses "/sample?from=4" Early
+    ∷ refuses "/current?at=0" Late
+    ∷ shows "/current?at=1" (1 ∷ 1 ∷ 2 ∷ 3 ∷ 1 ∷ 1000 ∷ 0 ∷ [])
+    ∷ refuses "/current?at=3" Early ∷ [])
+    × ToolsGive 5
+    (shows "/sample?from=0&count=1" (1 ∷ 5 ∷ 6 ∷ 6 ∷ 5 ∷ 1000 ∷ 0 ∷ [])
+    ∷ refuses "/sample?from=1" Late
+    ∷ refuses "/sample?from=4" Late
+    ∷ shows "/sample?from=5&count=1" (1 ∷ 5 ∷ 6 ∷ 6 ∷ 5 ∷ 1000 ∷ 0 ∷ [])
+    ∷ shows "/sample?from=7" (0 ∷ 5 ∷ 6 ∷ 7 ∷ [])
+    ∷ refuses "/sample?from=8" Early
+    ∷ refuses "/current?at=4" Late
+    ∷ shows "/current?at=5" (1 ∷ 5 ∷ 6 ∷ 7 ∷ 5 ∷ 1000 ∷ 0 ∷ [])
+    ∷ refuses "/current?at=7" Early ∷ [])
+unfolding opened
+base-bounds = ((refl, refl), (refl, refl))
+
+-- N 1, last 5: first is 5 too
+pub ring-of-one-bounds :
+    PlainGives 1 5
+    (refuses "/sample?from=4" Late
+    ∷ shows "/sample?from=5" (1 ∷ 5 ∷ 5 ∷ 6 ∷ 5 ∷ 0 ∷ 0 ∷ [])
+    ∷ shows "/sample?from=6" (0 ∷ 5 ∷ 5 ∷ 6 ∷ [])
+    ∷ refuses "/sample?from=7" Early
+    ∷ refuses "/current?at=4" Late
+    ∷ shows "/current?at=5" (1 ∷ 5 ∷ 5 ∷ 6 ∷ 5 ∷ 0 ∷ 0 ∷ [])
+    ∷ refuses "/current?at=6" Early ∷ [])
+unfolding opened
+ring-of-one-bounds = (refl, refl)
 
 -- ---- the reply's space, refusal 15: 4 + 3k words, of assets 4 + 2k; a word behind them stays
 
@@ -323,6 +366,8 @@ pub last-numbers :
     ∷ shows "/current?at=9223372036854775805"
     (1 ∷ 9223372036854775805 ∷ 9223372036854775807 ∷ 9223372036854775808
     ∷ 9223372036854775805 ∷ 1000 ∷ 0 ∷ [])
+    ∷ refuses "/sample?from=9223372036854775804" Late
+    ∷ refuses "/current?at=9223372036854775804" Late
     ∷ refuses "/sample?from=9223372036854775808" InvalidRequest ∷ [])
 unfolding opened
 last-numbers = (refl, refl)

@@ -7,10 +7,12 @@ use Rattle.spec.specs.Value.{decode}
 use Rattle.spec.specs.declared.Record.{Record}
 use Rattle.spec.specs.Reference.{State}
 use Rattle.spec.specs.Reference.Begun.{begun}
+use Rattle.spec.specs.Polls.{Told}
 use Rattle.spec.specs.History.{Call, Typed, AllTyped, Start, History, begins, storesOutputs, referenceAfter}
 use Rattle.spec.proofs.Packing.{decode-fits}
 use Rattle.spec.proofs.History.{Sequence, history, sequence}
 use Rattle.spec.proofs.Never.{AllFree, never-store}
+use Rattle.spec.proofs.Late.{late}
 
 -- a call of `mtcore`; the words of the reply or answer buffer at the call are part of it
 pub data HostCall : Type 0 where
@@ -52,3 +54,7 @@ module _ (a : Start) (p : State) (accepted : begins a ≡ begun p) (cs : List Ho
   -- no answer is 2
   pub host-never-store : AllFree (storesOutputs a (map made cs))
   host-never-store = never-store a p accepted (map made cs) (all-typed cs)
+
+  -- a client's next number is late once it is overwritten, and not before
+  pub host-late : Told a p (map made cs)
+  host-late = late a p accepted (map made cs) (all-typed cs)

@@ -38,4 +38,6 @@ pub mod Orders
 pub mod Damaged
 pub mod Batches
 pub mod Discrete
+pub mod Late
 pub mod Refusals
+pub mod Twelve

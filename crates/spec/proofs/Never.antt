@@ -24,7 +24,7 @@ use Rattle.spec.specs.Path.{select}
 use Rattle.spec.specs.Answers.{refusalNumber, refusalWord, observeWord}
 use Rattle.spec.specs.Observations.{maxNumber}
 use Rattle.spec.specs.Reply.{Replied, over, observationWords, assetWords, written, observationReply, assetReply}
-use Rattle.spec.specs.Reference.{State, Offer, newest, sameValue, spent, firstOf, lastOf, outside, sampleStart}
+use Rattle.spec.specs.Reference.{State, Offer, newest, sameValue, spent, firstOf, lastOf, sampleStart}
 use Rattle.spec.specs.Reference.{allHeld, observeAnswer, observeNext, offerNext, offersAnswers, batchAnswer}
 use Rattle.spec.specs.Reference.{offerOf, batchOffers, storeAnswer, sampleFor, currentFor, atFor, selected}
 use Rattle.spec.specs.Reference.{replyTo, replyReading, beginAnswer}
@@ -155,11 +155,13 @@ unfolding replyTo sampleFor currentFor atFor
 request-free model names p reply (sample path from count) =
     by-cond R (ltb (p .N) count) _ _ (λ h. refl)
     (λ h. selected-free (select model names path) reply _
-    (λ s. by-cond R (outside (firstOf p) (suc (lastOf p)) (sampleStart p from)) _ _ (λ g. refl) (λ g. rows-free _ _ _ _ reply)))
+    (λ s. by-cond R (ltb (sampleStart p from) (firstOf p)) _ _ (λ g. refl)
+    (λ g. by-cond R (ltb (suc (lastOf p)) (sampleStart p from)) _ _ (λ g. refl) (λ g. rows-free _ _ _ _ reply))))
 request-free model names p reply (current path) = selected-free (select model names path) reply _ (λ s. rows-free _ _ _ _ reply)
 request-free model names p reply (currentAt path number) =
     selected-free (select model names path) reply _
-    (λ s. by-cond R (outside (firstOf p) (lastOf p) number) _ _ (λ g. refl) (λ g. rows-free _ _ _ _ reply))
+    (λ s. by-cond R (ltb number (firstOf p)) _ _ (λ g. refl)
+    (λ g. by-cond R (ltb (lastOf p) number) _ _ (λ g. refl) (λ g. rows-free _ _ _ _ reply)))
 request-free model names p reply (assets ids) = by-cond R (not (allHeld (p .T) ids)) _ _ (λ h. refl) (λ h. cells-free _ _ _ reply)
 request-free model names p reply allAssets = cells-free _ _ _ reply
 

@@ -18,7 +18,7 @@ use Rattle.spec.specs.declared.ObserveAnswer.the-variants.{Same, Refused
 use Rattle.spec.specs.declared.StoreAnswer.the-variants.{Refused as Unstored}
 use Rattle.spec.specs.declared.Refusal.the-variants.{Model, Store, Item, Kind, Spent, InvalidUri}
 use Rattle.spec.specs.declared.Refusal.the-variants.{InvalidRequest, Unsupported, TooMany, InvalidXpath}
-use Rattle.spec.specs.declared.Refusal.the-variants.{OutOfRange, AssetNotFound, Asset}
+use Rattle.spec.specs.declared.Refusal.the-variants.{AssetNotFound, Asset, Late, Early}
 use Rattle.spec.proofs.Opened.{opened}
 use Rattle.spec.proofs.Fixtures.{Step, refuses, refusesIn, stores, StoresGive, BothGive, ToolsGive}
 use Rattle.spec.proofs.Fixtures.{BenchGives, plainNames, noAssets, toolModel, toolNames, toolState}
@@ -27,7 +27,8 @@ use Rattle.spec.proofs.Fixtures.Step.{_gives_}
 
 -- ---- requests
 
--- 7 before 8 and 9; 8 for another word before 9; 9 for probe before 8; 8 before 9 for interval; 9 before 10 and 11
+-- 7 before 8 and 9; 8 for another word before 9; 9 for probe before 8; 8 before 9 for interval; 9 before
+-- 10, 11, 17 and 18; 8 before 17 and 18
 pub text-orders :
     BenchGives
     (refuses "probe" InvalidUri
@@ -38,23 +39,35 @@ pub text-orders :
     ∷ refuses "/sample?interval=5&from=x" InvalidRequest
     ∷ refuses "/current?interval=5&at=9" InvalidRequest
     ∷ refuses "/sample?interval=5&count=4" Unsupported
-    ∷ refuses "/sample?interval=5&path=//Spindle" Unsupported ∷ [])
+    ∷ refuses "/sample?interval=5&path=//Spindle" Unsupported
+    ∷ refuses "/sample?interval=5&from=1" Unsupported
+    ∷ refuses "/sample?interval=5&from=6" Unsupported
+    ∷ refuses "/sample?from=1&from=1" InvalidRequest
+    ∷ refuses "/sample?from=6&count=0" InvalidRequest ∷ [])
 unfolding opened
 text-orders = (refl, refl)
 
--- 10 before 11 and 12; 11 before 12; 12 before 15; 10 and 11 before 15. N is 3, first 2, last 4
+-- 10 before 11, 17 and 18; 11 before 17 and 18, of `from` and of `at`; all of them before 15. N is 3, first 2, last 4
 pub request-orders :
     BenchGives
     (refuses "/sample?count=4&path=//Spindle" TooMany
     ∷ refuses "/sample?count=4&from=1" TooMany
+    ∷ refuses "/sample?count=4&from=6" TooMany
+    ∷ refuses "/sample?count=4&from=6&path=//Spindle" TooMany
     ∷ refuses "/sample?from=1&path=//Spindle" InvalidXpath
     ∷ refuses "/sample?from=6&path=//Spindle" InvalidXpath
     ∷ refuses "/current?at=1&path=//Spindle" InvalidXpath
     ∷ refuses "/current?at=5&path=//Axes//DataItem[@type=\"AVAILABILITY\"]" InvalidXpath
+    ∷ refuses "/sample?from=1&count=3&path=//Axes" Late
+    ∷ refuses "/sample?from=6&count=3&path=//Axes" Early
+    ∷ refuses "/current?at=1&path=//Axes" Late
+    ∷ refuses "/current?at=5&path=//Axes" Early
     ∷ refusesIn 3 "/sample?count=4" TooMany
     ∷ refusesIn 3 "/current?path=//Spindle" InvalidXpath
-    ∷ refusesIn 3 "/sample?from=6" OutOfRange
-    ∷ refusesIn 3 "/current?at=5" OutOfRange
+    ∷ refusesIn 3 "/sample?from=1" Late
+    ∷ refusesIn 3 "/sample?from=6" Early
+    ∷ refusesIn 3 "/current?at=1" Late
+    ∷ refusesIn 3 "/current?at=5" Early
     ∷ refusesIn 3 "/asset/a" AssetNotFound ∷ [])
 unfolding opened
 request-orders = (refl, refl)
@@ -65,17 +78,17 @@ DamagedGives =
     StoresGive benchModel benchNames
     (record { observations = benchWith 2199023255552 2199023255552 2199023255552; assets = noAssets })
 
--- 10, 11 and 12 before 2; 2 before 15
+-- 10, 11, 17 and 18 before 2; 2 before 15
 pub ring-orders :
     DamagedGives
     (refuses "/sample" Store
     ∷ refuses "/current?at=4" Store
     ∷ refuses "/sample?count=4" TooMany
     ∷ refuses "/sample?path=//Spindle" InvalidXpath
-    ∷ refuses "/sample?from=1" OutOfRange
-    ∷ refuses "/sample?from=6" OutOfRange
-    ∷ refuses "/current?at=1" OutOfRange
-    ∷ refuses "/current?at=5" OutOfRange
+    ∷ refuses "/sample?from=1" Late
+    ∷ refuses "/sample?from=6" Early
+    ∷ refuses "/current?at=1" Late
+    ∷ refuses "/current?at=5" Early
     ∷ refusesIn 3 "/sample" Store
     ∷ refusesIn 3 "/current?at=4" Store ∷ [])
 unfolding opened

@@ -1,17 +1,18 @@
--- Refusals: each of the sixteen is given by some call; a refused call changes nothing, whatever its inputs.
+-- Refusals: each of the seventeen is given by some call, and no call answers 12; a refused call changes nothing. Of
+-- whatever inputs.
 use mathlib.Core.Path.{_≡_, refl}
 use mathlib.Core.Bool.{_&&_}
 use Prim.Native.Nat.{ℕ, suc, _-_, _^_}
 use mathlib.Core.List.{List, [], _∷_}
 use lib.IntN.{pos}
 use lib.Dec.{leb, ltb}
-use lib.ListN.{length, getD, replicate}
+use lib.ListN.{length, replicate}
 use Rattle.spec.specs.Bytes.{bytes}
-use Rattle.spec.specs.Value.{takes, repeats, pack}
-use Rattle.spec.specs.Model.{items, category, hasChange, modelOk}
+use Rattle.spec.specs.Value.{pack}
+use Rattle.spec.specs.Model.{items, hasChange, modelOk}
 use Rattle.spec.specs.Text.{readText}
 use Rattle.spec.specs.Path.{select}
-use Rattle.spec.specs.Observations.{ringSize, base, last, latestRow, headOk, ringOk}
+use Rattle.spec.specs.Observations.{ringSize, base, last, headOk, ringOk}
 use Rattle.spec.specs.Assets.{used, lengthAt, assetHeadOk, assetOk, cellFor, storeCells, lengthOk}
 use Rattle.spec.specs.Reply.{Replied, refuse, over, observationWords, written, observationReply, assetReply}
 use Rattle.spec.specs.Answers.{answerNumber, observeWord, storeWord}
@@ -21,7 +22,7 @@ use Rattle.spec.specs.Text.Reading.{unread, asked}
 use Rattle.spec.specs.Calls.{timeOr, Started, Observed, Answered, Batched, Kept, first, startOf, endOf, startOk}
 use Rattle.spec.specs.Calls.{startBoth, start}
 use Rattle.spec.specs.Calls.{observeAll, admitted, batchBy, observeBatch}
-use Rattle.spec.specs.Calls.{roomFor, observeBy, observeItem, observe, keepBy, keepAsset, storeAsset, unless}
+use Rattle.spec.specs.Calls.{roomFor, observeBy, observe, keepBy, keepAsset, storeAsset, unless}
 use Rattle.spec.specs.Calls.{inRange}
 use Rattle.spec.specs.Calls.{sampleBetween, sampleReply, currentReply, currentUpTo, atReply, cellRows, allCells}
 use Rattle.spec.specs.Calls.{cellsReply, findAll, namedReply, answerRequest, answerReading, request}
@@ -42,6 +43,7 @@ use Rattle.spec.specs.declared.Selection.the-variants.{Items, NotFound}
 use Rattle.spec.proofs.Opened.{opened}
 use Rattle.spec.proofs.Fixtures.{noAssets, benchStore}
 use Rattle.spec.proofs.Words.{by-cond}
+use Rattle.spec.proofs.Heads.{item-cases}
 
 -- ---- each refusal is given
 
@@ -80,14 +82,15 @@ given =
     ∷ asks (bytes "/probe")
     ∷ asks (bytes "/sample?count=4")
     ∷ asks (bytes "/current?path=//Spindle")
-    ∷ asks (bytes "/sample?from=1")
     ∷ asks (bytes "/asset/T1")
     ∷ (storeWord (storeAsset benchModel benchNames benchStore noAssets [] (1 ∷ []) 1 .answer) - 2 ^ 63)
     ∷ asksIn 1 (bytes "/current")
     ∷ answerNumber (observeBatch benchModel benchNames benchStore (replicate 257 unavailable) 1 [] .answer)
+    ∷ asks (bytes "/sample?from=1")
+    ∷ asks (bytes "/sample?from=6")
     ∷ []
 
-pub each-given : given ≡ 1 ∷ 2 ∷ 3 ∷ 4 ∷ 5 ∷ 6 ∷ 7 ∷ 8 ∷ 9 ∷ 10 ∷ 11 ∷ 12 ∷ 13 ∷ 14 ∷ 15 ∷ 16 ∷ []
+pub each-given : given ≡ 1 ∷ 2 ∷ 3 ∷ 4 ∷ 5 ∷ 6 ∷ 7 ∷ 8 ∷ 9 ∷ 10 ∷ 11 ∷ 13 ∷ 14 ∷ 15 ∷ 16 ∷ 17 ∷ 18 ∷ []
 unfolding asksIn asks observes spentObserve given opened
 each-given = refl
 
@@ -111,18 +114,12 @@ observe-by Fine m st item time word r q = cc
 observe-by (Against x) m st item time word r q = refl
 
 pub observe-keeps : (model names st : List ℕ) (item time host : ℕ) (v : Value) → KeepsObserve st (observe model names st item time host v)
-unfolding observe observeItem
+unfolding observe
 observe-keeps model names st item time host v =
     by-cond (KeepsObserve st) (modelOk model names) _ _
     (λ a. by-cond (KeepsObserve st) (headOk (items model) st) _ _
-    (λ b. by-cond (KeepsObserve st) (ltb item (items model)) _ _
-    (λ c. by-cond (KeepsObserve st) (takes (category model item) v) _ _
-    (λ d. by-cond (KeepsObserve st)
-    (repeats (category model item) (getD (latestRow (ringSize st) (items model) st item) 2 0) (pack item v)) _ _
-    (λ e r q. refl)
-    (λ e. observe-by (roomFor (items model) st) (items model) st item (timeOr time host) (pack item v)))
-    (λ d r q. refl))
-    (λ c r q. refl))
+    (λ b. item-cases (KeepsObserve st) model st item (timeOr time host) v (λ x r q. refl) (λ r q. refl)
+    (λ l. observe-by (roomFor (items model) st) (items model) st item (timeOr time host) (pack item v)))
     (λ b r q. refl))
     (λ a r q. refl)
 

@@ -1,7 +1,7 @@
 -- One client's windows: what an accepted sample delivers are H's matching observations between its two numbers, whatever is
 -- recorded later, and windows that meet join to the matching observations between the first and the last number.
 use mathlib.Core.Path.{_≡_, refl, sym, ap, _∙_, subst}
-use mathlib.Core.Bool.{Bool, true, false, cond, _||_, true≢false}
+use mathlib.Core.Bool.{Bool, true, false, cond}
 use Prim.Native.Nat.{ℕ, zero, suc, _+_, _-_, _≤_}
 use native.Mathlib.Nat.{not-suc-le-zero}
 use native.Mathlib.Omega.{arith}
@@ -19,7 +19,7 @@ use Rattle.spec.specs.Text.Reading.{unread, asked}
 use Rattle.spec.specs.Path.{select}
 use Rattle.spec.specs.Reply.{Replied, refuse, numbers, pairs, observationWords, over, written, observationReply}
 use Rattle.spec.specs.Reply.{readRows, rowsOf}
-use Rattle.spec.specs.Reference.{State, Observation, keep, within, matching, triple, lastOf, firstOf, outside}
+use Rattle.spec.specs.Reference.{State, Observation, keep, within, matching, triple, lastOf, firstOf}
 use Rattle.spec.specs.Reference.{Offer, observeAnswer, observeNext, offerNext, offersNext, storeAnswer, storeNext}
 use Rattle.spec.specs.Reference.{sampleStart, sampleEnd, sampleFor, selected, replyTo, replyReading}
 use Rattle.spec.specs.Reference
@@ -27,7 +27,7 @@ use Rattle.spec.specs.History.{Call, Start, Window, windowOfReading, win
 use Rattle.spec.specs.History.{windowsOfCall, Meets, lastNext, joined, setSelected, selection, matchingRows}
 use Rattle.spec.specs.History.{offersOf, referenceOutput, referenceNext, referenceAfter}
 use Rattle.spec.specs.History.Call.{observe, batch, storeAsset, request, body}
-use Rattle.spec.specs.declared.Refusal.the-variants.{Space, TooMany, OutOfRange}
+use Rattle.spec.specs.declared.Refusal.the-variants.{Space, TooMany, Late, Early}
 use Rattle.spec.specs.declared.Answer.{Answer}
 use Rattle.spec.specs.declared.Answer.the-variants.{Done, Refused}
 use Rattle.spec.specs.declared.ObserveAnswer.{ObserveAnswer}
@@ -153,7 +153,7 @@ module _ (a : Start) where
   unfolding replyTo sampleFor
   sample-true path from count p X reply n n' l r hr =
       subst (λ (x : Replied). AllTrue (p .H ++ X) (windowOfAnswer (x .answer) (asked (sample path from count)) (x .reply))) (sym hr)
-      (go (ltb (p .N) count) (select (a .model) (a .names) path) refl (outside (firstOf p) (suc (lastOf p)) f) refl)
+      (go (ltb (p .N) count) (select (a .model) (a .names) path) refl (ltb f (firstOf p)) (ltb (suc (lastOf p)) f) refl)
     where
       f : ℕ
       f = sampleStart p from
@@ -164,22 +164,22 @@ module _ (a : Start) where
       rows : ℕ → Replied
       rows sel = observationReply (firstOf p) (lastOf p) e (map triple (matching sel f e (p .H))) reply
 
-      out : Bool → Selection → Bool → Replied
-      out t s u = cond t (refuse TooMany reply) (selected s reply (λ sel. cond u (refuse OutOfRange reply) (rows sel)))
+      out : Bool → Selection → Bool → Bool → Replied
+      out t s u v =
+          cond t (refuse TooMany reply)
+          (selected s reply (λ sel. cond u (refuse Late reply) (cond v (refuse Early reply) (rows sel))))
 
       Goal : Replied → Type 0
       Goal x = AllTrue (p .H ++ X) (windowOfAnswer (x .answer) (asked (sample path from count)) (x .reply))
 
-      low : (x y : Bool) → (x || y) ≡ false → y ≡ false
-      low true y q = absurd (true≢false q)
-      low false y q = q
-
-      go : (t : Bool) (s : Selection) → select (a .model) (a .names) path ≡ s → (u : Bool) → outside (firstOf p) (suc (lastOf p)) f ≡ u → Goal (out t s u)
-      go true s q u w = tt
-      go false NotFound q u w = tt
-      go false (Items sel) q true w = tt
-      go false (Items sel) q false w =
-          let h : f ≤ suc (lastOf p) = ltb-false (suc (lastOf p)) f (low (ltb f (firstOf p)) (ltb (suc (lastOf p)) f) w) in
+      go : (t : Bool) (s : Selection) → select (a .model) (a .names) path ≡ s → (u v : Bool)
+          → ltb (suc (lastOf p)) f ≡ v → Goal (out t s u v)
+      go true s q u v w = tt
+      go false NotFound q u v w = tt
+      go false (Items sel) q true v w = tt
+      go false (Items sel) q false true w = tt
+      go false (Items sel) q false false w =
+          let h : f ≤ suc (lastOf p) = ltb-false (suc (lastOf p)) f w in
           reply-true path (firstOf p) (lastOf p) from count e (p .B) (p .H) X reply (omega arith) (omega (arith, l)) n n' (rows sel)
           (ap (λ (x : Selection). observationReply (firstOf p) (lastOf p) e (map triple (matching (setSelected x) f e (p .H))) reply) (sym q))
 

@@ -1,10 +1,10 @@
 -- The refusals' numbers, and each answer as number, count and word: document 01, "Reply words" and "Refusal table"; 16
--- is document 02's, Req 01.
+-- is document 02's, Req 01, and so are 17 and 18 in the place of 12, Req 04.
 use Prim.Native.Nat.{ℕ, _+_, _^_}
 use Rattle.spec.specs.declared.Refusal.{Refusal}
 use Rattle.spec.specs.declared.Refusal.the-variants.{Model, Store, Size, Item, Kind, Spent, InvalidUri}
 use Rattle.spec.specs.declared.Refusal.the-variants.{InvalidRequest, Unsupported, TooMany, InvalidXpath}
-use Rattle.spec.specs.declared.Refusal.the-variants.{OutOfRange, AssetNotFound, Asset, Space, Batch}
+use Rattle.spec.specs.declared.Refusal.the-variants.{AssetNotFound, Asset, Space, Batch, Late, Early}
 use Rattle.spec.specs.declared.Answer.{Answer}
 use Rattle.spec.specs.declared.Answer.the-variants.{Done, Refused}
 use Rattle.spec.specs.declared.ObserveAnswer.{ObserveAnswer}
@@ -24,11 +24,12 @@ refusalNumber InvalidRequest = 8
 refusalNumber Unsupported = 9
 refusalNumber TooMany = 10
 refusalNumber InvalidXpath = 11
-refusalNumber OutOfRange = 12
 refusalNumber AssetNotFound = 13
 refusalNumber Asset = 14
 refusalNumber Space = 15
 refusalNumber Batch = 16
+refusalNumber Late = 17
+refusalNumber Early = 18
 
 -- start, request and observe-batch: 0 and k, or the refusal's number and 0
 abbrev pub answerNumber : Answer → ℕ

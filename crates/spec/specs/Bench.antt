@@ -1,4 +1,5 @@
--- The bench case: document 01, "Bench case". The start, the three observes and the twelve requests with what they give.
+-- The bench case: document 01, "Bench case", with C5 and C8 as document 02, Req 04, has them. The start, the three
+-- observes and the twelve requests with what they give.
 use Prim.Native.Nat.{ℕ, _+_, _-_, _*_, _^_}
 use mathlib.Core.Bool.{Bool, true, false}
 use mathlib.Core.List.{List, [], _∷_, _++_, map}
@@ -14,7 +15,7 @@ use Rattle.spec.specs.Reference.{State}
 use Rattle.spec.specs.History.{Call, Stores, Start, storesAfter, referenceAfter}
 use Rattle.spec.specs.History.Call.{observe}
 use Rattle.spec.specs.declared.Value.the-variants.{Sample}
-use Rattle.spec.specs.declared.Refusal.the-variants.{InvalidRequest, TooMany, OutOfRange}
+use Rattle.spec.specs.declared.Refusal.the-variants.{InvalidRequest, TooMany, Late, Early}
 use Rattle.spec.specs.declared.Answer.{Answer}
 use Rattle.spec.specs.declared.Answer.the-variants.{Done, Refused}
 
@@ -66,12 +67,12 @@ cases =
     ∷ record { text = bytes "/current?at=2"; answer = Done 2; words = 2 ∷ 2 ∷ 4 ∷ 5 ∷ 1 ∷ 2 ∷ 1000 ∷ 0 ∷ 1000 ∷ 1099511627776 ∷ [] }
     ∷ record { text = bytes "/current?path=//Axes"; answer = Done 1; words = 1 ∷ 2 ∷ 4 ∷ 5 ∷ 4 ∷ 1030 ∷ 1108101562367 ∷ [] }
     ∷ record { text = bytes "/sample?from=5"; answer = Done 0; words = 0 ∷ 2 ∷ 4 ∷ 5 ∷ [] }
-    ∷ record { text = bytes "/sample?from=6"; answer = Refused OutOfRange; words = [] }
-    ∷ record { text = bytes "/sample?from=1"; answer = Refused OutOfRange; words = [] }
+    ∷ record { text = bytes "/sample?from=6"; answer = Refused Early; words = [] }
+    ∷ record { text = bytes "/sample?from=1"; answer = Refused Late; words = [] }
     ∷ record { text = bytes "/sample?count=3"; answer = Done 3; words = c1 }
     ∷ record { text = bytes "/sample?count=4"; answer = Refused TooMany; words = [] }
     ∷ record { text = bytes "/sample?count=0"; answer = Refused InvalidRequest; words = [] }
-    ∷ record { text = bytes "/current?at=1"; answer = Refused OutOfRange; words = [] }
+    ∷ record { text = bytes "/current?at=1"; answer = Refused Late; words = [] }
     ∷ record { text = bytes "/sample?from=2&count=1&path=//Device//DataItem[@type=\"AVAILABILITY\"]"; answer = Done 0; words = 0 ∷ 2 ∷ 4 ∷ 3 ∷ [] }
     ∷ record { text = bytes "/assets"; answer = Done 0; words = 0 ∷ 0 ∷ 1 ∷ 0 ∷ [] }
     ∷ []

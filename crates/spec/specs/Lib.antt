@@ -1,4 +1,4 @@
--- Document 01 as definitions, in reading order.
+-- Document 01, and what of document 02 has landed, as definitions, in reading order.
 pub mod Words
 pub mod Bytes
 pub mod Value
@@ -12,4 +12,5 @@ pub mod Answers
 pub mod Calls
 pub mod Reference
 pub mod History
+pub mod Polls
 pub mod Bench

@@ -61,7 +61,7 @@ pub struct Record {
     pub value: u64,
 }
 
-// The refusals 1 to 16, in the order of their numbers.
+// The refusals, in the order of their numbers: 1 to 18, of which 12 is none's.
 pub enum Refusal {
     Model,
     Store,
@@ -74,11 +74,12 @@ pub enum Refusal {
     Unsupported,
     TooMany,
     InvalidXpath,
-    OutOfRange,
     AssetNotFound,
     Asset,
     Space,
     Batch,
+    Late,
+    Early,
 }
 
 // The answer of start, request and observe_batch: how many rows the reply has or records were observed, or the

@@ -1,0 +1,2 @@
+-- A word of the contracts' own.
+pub mod Places

@@ -1,0 +1,343 @@
+-- A client's next number, document 02, Req 04: behind every list of calls a poll from one that has been overwritten is
+-- answered by 17, and a poll from one that hasn't by neither 17 nor 18; and worked lists of both.
+use mathlib.Core.Path.{_≡_, refl, sym, ap, _∙_, subst}
+use mathlib.Core.Logic.{_≢_}
+use mathlib.Core.Bool.{true, false, false≢true}
+use Prim.Native.Nat.{ℕ, zero, suc, _+_, _^_, _≤_, _<_}
+use native.Mathlib.Nat.{not-suc-le-zero}
+use native.Mathlib.Omega.{arith}
+use mathlib.Core.List.{List, [], _∷_, map}
+use mathlib.Core.Option.{Option, none, some, Option·none-ne-some, Option·some-injective}
+use lib.Dec.{leb, ltb, lit<, lit≤}
+use lib.IntN.{pos}
+use lib.ListN.{length, getD, take, getElem?, replicate, length-append}
+use borrow.Author.Tests.{ltb-false, lt-ltb, le-ltb, ne-eqb}
+use Rattle.spec.specs.Bytes.{bytes}
+use Rattle.spec.specs.Text.{Request, Reading, readText}
+use Rattle.spec.specs.Text.Request.{sample, current, currentAt, assets, allAssets}
+use Rattle.spec.specs.Text.Reading.{unread, asked}
+use Rattle.spec.specs.Path.{select}
+use Rattle.spec.specs.Reply.{Replied, refuse, observationWords, written, observationReply}
+use Rattle.spec.specs.Answers.{answerNumber}
+use Rattle.spec.specs.Calls.{first}
+use Rattle.spec.specs.Reference
+use Rattle.spec.specs.Reference.{State, lastOf, firstOf, sampleStart, sampleEnd, sampleFor}
+use Rattle.spec.specs.Reference.{currentFor, atFor, selected, replyTo, replyReading}
+use Rattle.spec.specs.Reference.Begun.{begun}
+use Rattle.spec.specs.History.{Call, AllTyped, Start, begins, storesBehind, referenceOutput, referenceNext}
+use Rattle.spec.specs.History.{referenceRun, referenceAfter}
+use Rattle.spec.specs.History.Call.{request}
+use Rattle.spec.specs.History.Output.{observed}
+use Rattle.spec.specs.Polls.{Asks, Gave, Polls, Told, givesNext, firstBefore}
+use Rattle.spec.specs.declared.Value.the-variants.{Sample}
+use Rattle.spec.specs.declared.Refusal.{Refusal}
+use Rattle.spec.specs.declared.Refusal.the-variants.{TooMany, InvalidXpath, Late, Early}
+use Rattle.spec.specs.declared.Answer.{Answer}
+use Rattle.spec.specs.declared.Answer.the-variants.{Done, Refused}
+use Rattle.spec.specs.declared.ObserveAnswer.the-variants.{Recorded}
+use Rattle.spec.specs.declared.Selection.{Selection}
+use Rattle.spec.specs.declared.Selection.the-variants.{Items, NotFound}
+use Rattle.spec.proofs.Words.{by-cond}
+use Rattle.spec.proofs.Print.{print, print-reads, plain-short}
+use Rattle.spec.proofs.Agree.{Good, last-is, store-last}
+use Rattle.spec.proofs.Windows.{Later, later-after}
+use Rattle.spec.proofs.History.{calls-agree, behind-good, base-after}
+use Rattle.spec.proofs.Opened.{opened}
+use Rattle.spec.proofs.Fixtures.{Step, callOf, shows, refuses, ToolsGive, toolStart, toolState}
+use Rattle.spec.proofs.Fixtures.Step.{_gives_}
+
+-- ---- the calls before call i, and its output
+
+typed-take : (cs : List Call) (i : ℕ) → AllTyped cs → AllTyped (take i cs)
+typed-take cs zero t = tt
+typed-take [] (suc i) t = tt
+typed-take (c ∷ cs) (suc i) t = (t .0, typed-take cs i (t .1))
+
+module _ (model names : List ℕ) where
+  run-at : (cs : List Call) (p : State) (i : ℕ) (c : Call) → getElem? cs i ≡ some c
+      → getElem? (referenceRun model names p cs) i
+      ≡ some (referenceOutput model names (referenceAfter model names p (take i cs)) c)
+  unfolding referenceRun referenceAfter
+  run-at [] p i c e = absurd (Option·none-ne-some c e)
+  run-at (d ∷ cs) p zero c e = ap (λ (x : Call). some (referenceOutput model names p x)) (Option·some-injective d c e)
+  run-at (d ∷ cs) p (suc i) c e = run-at cs (referenceNext model names p d) i c e
+
+-- what was recorded before call i was so before call j
+later-between : (a : Start) (cs : List Call) (p : State) (i j : ℕ) → i ≤ j
+    → Later a (referenceAfter (a .model) (a .names) p (take i cs) .H)
+    (referenceAfter (a .model) (a .names) p (take j cs) .H)
+unfolding referenceAfter
+later-between a cs p zero j h = later-after a (take j cs) p
+later-between a [] p (suc i) j h = later-after a (take j []) p
+later-between a (c ∷ cs) p (suc i) zero h = absurd (not-suc-le-zero h)
+later-between a (c ∷ cs) p (suc i) (suc j) h =
+    later-between a cs (referenceNext (a .model) (a .names) p c) i j (omega arith)
+
+-- ---- the next number that a state gives
+
+refused-done : (r : Refusal) (k : ℕ) → Refused r ≡ Done k → ⊥
+refused-done r k e = let z : _≡_ {A = ℕ} 0 1 = (cc) in omega arith
+
+module _ (p : State) where
+  -- an accepted reply's next number is a number of p, or the one behind them
+  abbrev Next : Replied → Type 0
+  Next r =
+      (k : ℕ) → r .answer ≡ Done k → (p .B ≤ getD (r .reply) 3 0) × (getD (r .reply) 3 0 ≤ suc (lastOf p))
+
+  refuse-next : (r : Refusal) (reply : List ℕ) → Next (refuse r reply)
+  refuse-next r reply k e = absurd (refused-done r k e)
+
+  rows-next : (first last e : ℕ) (rows : List (List ℕ)) (reply : List ℕ) → p .B ≤ e → e ≤ suc (lastOf p)
+      → Next (observationReply first last e rows reply)
+  unfolding observationReply written observationWords
+  rows-next first last e rows reply lo hi =
+      by-cond Next (leb (length (observationWords first last e rows)) (length reply)) _ _ (λ h k q. (lo, hi))
+      (λ h. refuse-next _ reply)
+
+  selected-next : (s : Selection) (reply : List ℕ) (f : ℕ → Replied) → ((sel : ℕ) → Next (f sel))
+      → Next (selected s reply f)
+  selected-next NotFound reply f h = refuse-next _ reply
+  selected-next (Items sel) reply f h = h sel
+
+  request-next : (model names reply : List ℕ) → p .B ≤ suc (lastOf p) → (q : Request) → givesNext (asked q) ≡ true
+      → Next (replyTo model names p reply q)
+  unfolding replyTo sampleFor currentFor atFor
+  request-next model names reply l (sample path from count) g =
+      by-cond Next (ltb (p .N) count) _ _ (λ h. refuse-next _ reply)
+      (λ h. selected-next (select model names path) reply _
+      (λ s. by-cond Next (ltb (sampleStart p from) (firstOf p)) _ _ (λ u. refuse-next _ reply)
+      (λ u. by-cond Next (ltb (suc (lastOf p)) (sampleStart p from)) _ _ (λ v. refuse-next _ reply)
+      (λ v.
+      let lo : firstOf p ≤ sampleStart p from = ltb-false _ _ u in
+      let hi : sampleStart p from ≤ suc (lastOf p) = ltb-false _ _ v in
+      rows-next _ _ _ _ reply (omega arith) (omega arith)))))
+  request-next model names reply l (current path) g =
+      selected-next (select model names path) reply _ (λ s. rows-next _ _ _ _ reply l (omega arith))
+  request-next model names reply l (currentAt path number) g =
+      selected-next (select model names path) reply _
+      (λ s. by-cond Next (ltb number (firstOf p)) _ _ (λ u. refuse-next _ reply)
+      (λ u. by-cond Next (ltb (lastOf p) number) _ _ (λ v. refuse-next _ reply)
+      (λ v. rows-next _ _ _ _ reply l (omega arith))))
+  request-next model names reply l (assets ids) g = absurd (false≢true g)
+  request-next model names reply l allAssets g = absurd (false≢true g)
+
+  -- whatever was read
+  reading-next : (model names reply : List ℕ) → p .B ≤ suc (lastOf p) → (q : Reading) → givesNext q ≡ true
+      → Next (replyReading model names p reply q)
+  unfolding replyReading
+  reading-next model names reply l (unread r) g = absurd (false≢true g)
+  reading-next model names reply l (asked q) g = request-next model names reply l q g
+
+  -- ---- a poll from a number that isn't 0
+
+  module _ (n : ℕ) (pos : 0 < n) where
+    starts : sampleStart p n ≡ n
+    starts = rw (ne-eqb n 0 (λ e. omega arith))
+
+    abbrev IsLate : Replied → Type 0
+    IsLate r = answerNumber (r .answer) ≢ 10 → answerNumber (r .answer) ≢ 11 → answerNumber (r .answer) ≡ 17
+
+    poll-late : (model names reply : List ℕ) (path : Option (List ℕ)) (count : ℕ) → n < firstOf p
+        → IsLate (replyTo model names p reply (sample path n count))
+    unfolding replyTo sampleFor
+    poll-late model names reply path count l =
+        by-cond IsLate (ltb (p .N) count) _ _ (λ h x y. absurd (x refl))
+        (λ h. go (select model names path))
+      where
+        go : (s : Selection)
+            → IsLate (selected s reply
+            (λ s. sampleFor p s (sampleStart p n) (sampleEnd p (sampleStart p n) count) reply))
+        go NotFound x y = absurd (y refl)
+        go (Items sel) x y = rw (starts, lt-ltb n (firstOf p) l)
+
+    abbrev InRange : Replied → Type 0
+    InRange r = (answerNumber (r .answer) ≢ 17) × (answerNumber (r .answer) ≢ 18)
+
+    rows-in : (first last e : ℕ) (rows : List (List ℕ)) (reply : List ℕ)
+        → InRange (observationReply first last e rows reply)
+    unfolding observationReply written
+    rows-in first last e rows reply =
+        by-cond InRange (leb (length (observationWords first last e rows)) (length reply)) _ _
+        (λ h. (λ q. omega arith, λ q. omega arith)) (λ h. (λ q. omega arith, λ q. omega arith))
+
+    poll-in : (model names reply : List ℕ) (path : Option (List ℕ)) (count : ℕ) → firstOf p ≤ n → n ≤ suc (lastOf p)
+        → InRange (replyTo model names p reply (sample path n count))
+    unfolding replyTo sampleFor
+    poll-in model names reply path count lo hi =
+        by-cond InRange (ltb (p .N) count) _ _ (λ h. (λ q. omega arith, λ q. omega arith))
+        (λ h. go (select model names path))
+      where
+        go : (s : Selection)
+            → InRange (selected s reply
+            (λ s. sampleFor p s (sampleStart p n) (sampleEnd p (sampleStart p n) count) reply))
+        go NotFound = (λ q. omega arith, λ q. omega arith)
+        go (Items sel) =
+            rw (starts, le-ltb _ _ lo, le-ltb _ _ hi) (rows-in _ _ _ _ reply)
+
+-- ---- every list of calls
+
+module _ (a : Start) (p : State) (accepted : begins a ≡ begun p) (cs : List Call) (typed : AllTyped cs) where
+  before : ℕ → State
+  before i = referenceAfter (a .model) (a .names) p (take i cs)
+
+  good : (i : ℕ) → Good (a .model) (a .names) (before i) (storesBehind a (take i cs) .observations)
+  unfolding before
+  good i = behind-good a p accepted (take i cs) (typed-take cs i typed)
+
+  -- first of the stores is that of the reference model
+  pub first-is : (i : ℕ) → first (storesBehind a (take i cs) .observations) ≡ firstBefore a p cs i
+  unfolding before
+  first-is i = let G = good i in rw (G .rep .cap, G .rep .base, store-last (a .model) (a .names) (before i) _ G)
+
+  base-is : (i : ℕ) → before i .B ≡ p .B
+  unfolding before
+  base-is i = base-after (a .model) (a .names) (take i cs) p
+
+  last-at : (i : ℕ) → suc (lastOf (before i)) ≡ p .B + length (before i .H)
+  last-at i =
+      last-is (a .model) (a .names) (before i) _ (good i) ∙ ap (λ (b : ℕ). b + length (before i .H)) (base-is i)
+
+  -- last before an earlier call is no higher
+  last-rises : (i j : ℕ) → i ≤ j → lastOf (before i) ≤ lastOf (before j)
+  unfolding before
+  last-rises i j h =
+      let g = later-between a cs p i j h in
+      let e = ap length (g .1) ∙ length-append (before i .H) (g .0) in
+      omega (arith, last-at i, last-at j)
+
+  -- call i's answer and buffer are the reference model's
+  module _ (i : ℕ) (text : List ℕ) (x : Answer) (words : List ℕ) (s : Asks a cs i text x words) where
+    abbrev told : Replied
+    told = replyReading (a .model) (a .names) (before i) (s .buffer) (readText text)
+
+    asks-is : (x ≡ told .answer) × (words ≡ told .reply)
+    unfolding before Reference.reply
+    asks-is =
+        let r = run-at (a .model) (a .names) cs p i (request text (s .buffer)) (s .call) in
+        let o = ap (λ (os : _). getElem? os i) (calls-agree a p accepted cs typed) in
+        let e = rw (good i .right) at (Option·some-injective _ _ (sym (s .output) ∙ o ∙ r)) in
+        (cc, cc)
+
+  -- a next number that was given is a number, and last + 1 at most
+  next-given : (i n : ℕ) → Gave a cs i n → (0 < n) × (n ≤ suc (lastOf (before i)))
+  next-given i n g =
+      let e = asks-is i (g .text) (Done (g .k)) (g .words) (g .asks) in
+      let l = reading-next (before i) (a .model) (a .names) (g .asks .buffer)
+      (omega (arith, last-at i, base-is i)) (readText (g .text)) (g .gives) (g .k) (sym (e .0)) in
+      let w = ap (λ (ws : List ℕ). getD ws 3 0) (e .1) in
+      (omega (arith, good i .rep .B-pos, l .0, w, g .next), omega (arith, l .1, w, g .next))
+
+  -- a poll's answer
+  poll-is : (j n : ℕ) (x : Answer) (q : Polls a cs j n x)
+      → x ≡ replyTo (a .model) (a .names) (before j) (q .asks .buffer) (sample (q .path) n (q .count)) .answer
+  unfolding replyReading
+  poll-is j n x q = rw (q .from) at (asks-is j (q .text) x (q .words) (q .asks) .0)
+
+  pub told-late : (i j n : ℕ) (x : Answer) → i < j → Gave a cs i n → Polls a cs j n x → n < firstBefore a p cs j
+      → answerNumber x ≢ 10 → answerNumber x ≢ 11 → answerNumber x ≡ 17
+  unfolding before
+  told-late i j n x h g q l y z =
+      let e = poll-is j n x q in
+      let b = next-given i n g in
+      let t = poll-late (before j) n (b .0) (a .model) (a .names) (q .asks .buffer) (q .path) (q .count) l in
+      subst (λ (v : Answer). answerNumber v ≢ 10 → answerNumber v ≢ 11 → answerNumber v ≡ 17) (sym e) t y z
+
+  pub told-in : (i j n : ℕ) (x : Answer) → i < j → Gave a cs i n → Polls a cs j n x → firstBefore a p cs j ≤ n
+      → (answerNumber x ≢ 17) × (answerNumber x ≢ 18)
+  unfolding before
+  told-in i j n x h g q l =
+      let e = poll-is j n x q in
+      let b = next-given i n g in
+      let hi : n ≤ suc (lastOf (before j)) = omega (arith, b .1, last-rises i j (omega arith)) in
+      let t = poll-in (before j) n (b .0) (a .model) (a .names) (q .asks .buffer) (q .path) (q .count) l hi in
+      subst (λ (v : Answer). (answerNumber v ≢ 17) × (answerNumber v ≢ 18)) (sym e) t
+
+pub late : (a : Start) (p : State) → begins a ≡ begun p → (cs : List Call) → AllTyped cs → Told a p cs
+late a p e cs t = record { late = told-late a p e cs t; kept-up = told-in a p e cs t }
+
+-- ---- the plainest poll, `/sample?from=n`: nothing is tested before its number
+
+module _ (a : Start) (p : State) (accepted : begins a ≡ begun p) (cs : List Call) (typed : AllTyped cs) where
+  pub late-plain : (i j n : ℕ) (x : Answer) (words : List ℕ) → i < j → Gave a cs i n
+      → Asks a cs j (print (sample none n 0)) x words → n < firstBefore a p cs j → x ≡ Refused Late
+  unfolding before replyReading replyTo sampleFor select
+  late-plain i j n x words h g q l =
+      let b = next-given a p accepted cs typed i n g in
+      let G = good a p accepted cs typed j in
+      let top : n < 2 ^ 63 = omega (arith, last-is _ _ _ _ G, G .top) in
+      let r = print-reads (sample none n 0) (record { fitting = (tt, top, lit< tt); short = plain-short n top }) in
+      let e = asks-is a p accepted cs typed j _ x words q .0 in
+      let s = before a p accepted cs typed j in
+      rw (r, le-ltb (s .N) 0 (omega arith), starts s n (b .0), lt-ltb n _ l) at e
+
+-- ---- a client that kept up, slept, and came back: N 4, B 1, first 1, 3 and 4
+
+abbrev slept : List Step
+slept =
+    shows "/current" (2 ∷ 1 ∷ 2 ∷ 3 ∷ 1 ∷ 2 ∷ 1000 ∷ 0 ∷ 1000 ∷ 1099511627776 ∷ [])
+    ∷ Call.observe 0 10 10 (Sample (pos 1)) gives observed (Recorded 3)
+    ∷ Call.observe 0 11 11 (Sample (pos 2)) gives observed (Recorded 4)
+    ∷ Call.observe 0 12 12 (Sample (pos 3)) gives observed (Recorded 5)
+    ∷ Call.observe 0 13 13 (Sample (pos 4)) gives observed (Recorded 6)
+    ∷ shows "/sample?from=3&count=1" (1 ∷ 3 ∷ 6 ∷ 4 ∷ 3 ∷ 10 ∷ 4294967297 ∷ [])
+    ∷ Call.observe 0 14 14 (Sample (pos 5)) gives observed (Recorded 7)
+    ∷ refuses "/sample?from=3" Late
+    ∷ refuses "/sample?from=3&count=4&path=//Device" Late
+    ∷ refuses "/sample?from=3&count=5" TooMany
+    ∷ refuses "/sample?from=3&path=//Spindle" InvalidXpath
+    ∷ shows "/sample?from=4&count=1" (1 ∷ 4 ∷ 7 ∷ 5 ∷ 4 ∷ 11 ∷ 4294967298 ∷ [])
+    ∷ shows "/sample?from=8" (0 ∷ 4 ∷ 7 ∷ 8 ∷ [])
+    ∷ refuses "/sample?from=9" Early
+    ∷ []
+
+pub slept-gives : ToolsGive 1 slept
+unfolding opened
+slept-gives = (refl, refl)
+
+abbrev sleptCalls : List Call
+sleptCalls = map callOf slept
+
+-- `current` gave 3, and calls 5 and 7 poll from it: what the theorem asks for is met on either side of first
+pub slept-gave : Gave (toolStart 1) sleptCalls 0 3
+unfolding opened
+slept-gave =
+    record {
+      text = bytes "/current";
+      k = 2;
+      words = 2 ∷ 1 ∷ 2 ∷ 3 ∷ 1 ∷ 2 ∷ 1000 ∷ 0 ∷ 1000 ∷ 1099511627776 ∷ [];
+      asks = record { buffer = replicate 10 7; call = refl; output = refl };
+      gives = refl;
+      next = refl;
+    }
+
+pub slept-late :
+    Polls (toolStart 1) sleptCalls 7 3 (Refused Late)
+    × (3 < firstBefore (toolStart 1) (toolState 1) sleptCalls 7)
+unfolding opened
+slept-late = (
+  record {
+    text = bytes "/sample?from=3";
+    words = replicate 64 7;
+    path = none;
+    count = 0;
+    asks = record { buffer = replicate 64 7; call = refl; output = refl };
+    from = refl;
+  },
+  lit< tt,
+)
+
+pub slept-kept :
+    Polls (toolStart 1) sleptCalls 5 3 (Done 1)
+    × (firstBefore (toolStart 1) (toolState 1) sleptCalls 5 ≤ 3)
+unfolding opened
+slept-kept = (
+  record {
+    text = bytes "/sample?from=3&count=1";
+    words = 1 ∷ 3 ∷ 6 ∷ 4 ∷ 3 ∷ 10 ∷ 4294967297 ∷ [];
+    path = none;
+    count = 1;
+    asks = record { buffer = replicate 7 7; call = refl; output = refl };
+    from = refl;
+  },
+  lit≤ tt,
+)
