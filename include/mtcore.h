@@ -41,8 +41,8 @@ extern "C" {
 
 /* MAJOR moves where a host has to look at its own code, MINOR where something was added: CHANGELOG.md. Header and
  * archive are taken from the same version; the archive does not hold a number of its own. */
-#define MTCORE_VERSION_MAJOR 1
-#define MTCORE_VERSION_MINOR 3
+#define MTCORE_VERSION_MAJOR 2
+#define MTCORE_VERSION_MINOR 0
 
 /* Moves where the form of a store or of the model does. Saved stores outlive a version: save this number beside
  * them, and start anew where it differs, since refusal 2 need not see another form. */
@@ -50,6 +50,8 @@ extern "C" {
 
 /* ---- refusals ---- */
 
+/* 12 is no refusal's number and will not be one again: up to version 1.3 it stood for late and early together. Towards
+ * a client both are MTConnect's OUT_OF_RANGE: docs/HOST.md, "Late and early". */
 enum mtcore_refusal {
     MTCORE_MODEL = 1,            /* model or names break their rules */
     MTCORE_STORE = 2,            /* a store's head or length is wrong or another model's, or an entry is damaged */
@@ -62,11 +64,12 @@ enum mtcore_refusal {
     MTCORE_UNSUPPORTED = 9,      /* text: probe, or interval */
     MTCORE_TOO_MANY = 10,        /* text: count above n */
     MTCORE_INVALID_XPATH = 11,   /* text: path of another form or unknown type; the second form without items */
-    MTCORE_OUT_OF_RANGE = 12,    /* text: from or at is no longer, or not yet, held */
     MTCORE_ASSET_NOT_FOUND = 13, /* text: an id isn't stored */
     MTCORE_ASSET = 14,           /* id or body break their rules */
     MTCORE_SPACE = 15,           /* the buffer for the reply, or for the answers, is too short */
-    MTCORE_BATCH = 16            /* more records than one delivery may have */
+    MTCORE_BATCH = 16,           /* more records than one delivery may have */
+    MTCORE_LATE = 17,            /* text: from (not 0) or at is below first, the lowest number held */
+    MTCORE_EARLY = 18            /* text: from is above last + 1, or at above last, the newest number */
 };
 
 /* The words of mtcore_observe, of mtcore_store_asset and of a delivery's answers: bit 63 marks a refusal. Of an
@@ -74,7 +77,7 @@ enum mtcore_refusal {
 #define MTCORE_SAME UINT64_C(0)
 #define MTCORE_REFUSED (UINT64_C(1) << 63)
 
-/* The refusal in such a word, or 0 where the call was not refused. A later version may have numbers above 16: a
+/* The refusal in such a word, or 0 where the call was not refused. A later version may have numbers above 18: a
  * host treats a number that it doesn't know as a refusal all the same. */
 static inline unsigned mtcore_refusal_of(uint64_t word) {
     return word >= MTCORE_REFUSED ? (unsigned)(word & 63) : 0u;
@@ -451,9 +454,11 @@ uint64_t mtcore_store_asset(const uint32_t *model, size_t model_len, const uint8
  *     /sample?from=..&count=..&path=..   The numbers from `from` (0 or absent: the lowest held) up to `count` of them
  *         (absent: 100), but not beyond the newest, are considered; the rows are those of them that the path selects,
  *         by rising number. `next` is the number behind the last one considered, so no rows with a next below
- *         last + 1 is ordinary: the client goes on from next. from = last + 1 is accepted, with no rows.
+ *         last + 1 is ordinary: the client goes on from next. from = last + 1 is accepted, with no rows; one above
+ *         that is early, one below the lowest held, but for 0, late.
  *     /current?at=..&path=..             A row for each selected item, in item order: its newest observation, or its
- *         newest numbered at or below `at`; an item that has none is left out. `next` is last + 1 either way.
+ *         newest numbered at or below `at`; an item that has none is left out. `next` is last + 1 either way. An `at`
+ *         below the lowest held, 0 too, is late, and one above the newest early.
  *     /asset/ID;ID..                     A row for each id, in the text's order, repeats kept.
  *     /assets                            Every asset, the newest first.
  *
@@ -468,7 +473,7 @@ uint64_t mtcore_store_asset(const uint32_t *model, size_t model_len, const uint8
  * a shorter buffer is refused only where this reply doesn't fit.
  * Refuses, in this order: MTCORE_MODEL, MTCORE_STORE, MTCORE_INVALID_URI, MTCORE_INVALID_REQUEST (the word),
  * MTCORE_UNSUPPORTED (probe), MTCORE_INVALID_REQUEST, MTCORE_UNSUPPORTED (interval), MTCORE_TOO_MANY,
- * MTCORE_INVALID_XPATH, MTCORE_OUT_OF_RANGE, MTCORE_STORE (damaged entries), MTCORE_SPACE; for assets
+ * MTCORE_INVALID_XPATH, MTCORE_LATE or MTCORE_EARLY, MTCORE_STORE (damaged entries), MTCORE_SPACE; for assets
  * MTCORE_INVALID_REQUEST, MTCORE_ASSET_NOT_FOUND, MTCORE_STORE, MTCORE_SPACE.
  */
 mtcore_answer mtcore_request(const uint32_t *model, size_t model_len, const uint8_t *names, size_t names_len,

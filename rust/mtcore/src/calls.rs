@@ -220,12 +220,14 @@ pub fn store_asset(
 ///   `from` on, up to last; the rows are those of them whose item the path selects, by rising number, and
 ///   next is the number behind the last one considered. So count limits the numbers considered and not
 ///   the rows: with a path, no rows and a next that is not yet last + 1 are normal, and the client goes on
-///   from next. No `from` and `from=0` mean first. `from` of last + 1 is accepted, with no rows. A count
-///   that isn't given is 100, also in a smaller ring.
+///   from next. No `from` and `from=0` mean first; another `from` below first is [`Refusal::Late`]. `from`
+///   of last + 1 is accepted, with no rows, and above that it is [`Refusal::Early`]. A count that isn't
+///   given is 100, also in a smaller ring.
 /// * `/current?path=..&at=..`, each part optional. A row for each selected item, in item order whatever
 ///   their numbers are: its newest observation, or with `at` its newest numbered at or below that, also
 ///   where it has left the ring. An item that had none by then is left out, which happens only among the
-///   numbers that start gave out. next is last + 1, also with `at`.
+///   numbers that start gave out. next is last + 1, also with `at`. An `at` below first, 0 too, is
+///   [`Refusal::Late`], and one above last [`Refusal::Early`].
 /// * `/assets`: every asset, the newest first.
 /// * `/asset/ID;ID..`: the assets named, in the text's order; an id named twice is two rows. An id that
 ///   is not stored refuses the whole request.
@@ -243,9 +245,9 @@ pub fn store_asset(
 /// In this order: [`Refusal::Model`], [`Refusal::Store`], [`Refusal::InvalidUri`],
 /// [`Refusal::InvalidRequest`] (the word), [`Refusal::Unsupported`] (probe), [`Refusal::InvalidRequest`],
 /// [`Refusal::Unsupported`] (interval), [`Refusal::TooMany`], [`Refusal::InvalidXpath`],
-/// [`Refusal::OutOfRange`], [`Refusal::Store`] (damaged entries among the numbers considered, or up to
-/// `at`), [`Refusal::Space`]; for assets [`Refusal::InvalidRequest`], [`Refusal::AssetNotFound`],
-/// [`Refusal::Store`], [`Refusal::Space`].
+/// [`Refusal::Late`] or [`Refusal::Early`], [`Refusal::Store`] (damaged entries among the numbers
+/// considered, or up to `at`), [`Refusal::Space`]; for assets [`Refusal::InvalidRequest`],
+/// [`Refusal::AssetNotFound`], [`Refusal::Store`], [`Refusal::Space`].
 ///
 /// [`Refusal::Space`] looks at the rows that this reply has and not at the count: with a path a large
 /// count may fit. A host that reserves less than the largest reply ([`sample_words`](crate::sample_words))
@@ -292,14 +294,16 @@ pub fn store_asset(
 /// assert_eq!(ask("/sample"), rows(&[2, 3, 4], 5));
 /// assert_eq!(ask("/sample?from=0&count=2"), rows(&[2, 3], 4));
 /// assert_eq!(ask("/sample?from=5"), rows(&[], 5));
-/// assert_eq!(ask("/sample?from=6"), Err(Refusal::OutOfRange));
-/// assert_eq!(ask("/sample?from=1"), Err(Refusal::OutOfRange));
+/// assert_eq!(ask("/sample?from=6"), Err(Refusal::Early));
+/// assert_eq!(ask("/sample?from=1"), Err(Refusal::Late));
 /// assert_eq!(ask("/sample?count=4"), Err(Refusal::TooMany));
 /// assert_eq!(ask("/sample?"), Err(Refusal::InvalidRequest));
 /// // The second form keeps the device's own item, which number 2 is not: go on from 3.
 /// assert_eq!(ask("/sample?from=2&count=1&path=//Device//DataItem[@type=\"AVAILABILITY\"]"), rows(&[], 3));
 /// assert_eq!(ask("/current"), rows(&[1, 4], 5));
 /// assert_eq!(ask("/current?at=3"), rows(&[1, 3], 5));
+/// assert_eq!(ask("/current?at=1"), Err(Refusal::Late));
+/// assert_eq!(ask("/current?at=5"), Err(Refusal::Early));
 /// assert_eq!(ask("/current?path=//Axes"), rows(&[4], 5));
 /// assert_eq!(ask("/current?path=//axes"), Err(Refusal::InvalidXpath));
 /// assert_eq!(ask("/current?path=//Door"), rows(&[], 5));
@@ -368,7 +372,8 @@ mod tests {
             assert_eq!(refusal.number(), number);
             assert_eq!(Observed::from_word((1 << 63) + number), Err(refusal));
         }
-        assert_eq!(accepted((1 << 63) + 12), Err(Refusal::OutOfRange));
+        assert_eq!(accepted((1 << 63) + 16), Err(Refusal::Batch));
+        assert_eq!(accepted((1 << 63) + 12), Err(Refusal::Unknown { number: 12 }));
         assert_eq!(accepted(u64::MAX).unwrap_err().number(), (1 << 63) - 1);
         assert_eq!(Observed::from_word((1 << 63) - 1), Ok(Observed::Recorded((1 << 63) - 1)));
     }
@@ -379,5 +384,8 @@ mod tests {
         for number in 1..100 {
             assert_eq!(done(Answer { number, count: 0 }).unwrap_err().number(), number);
         }
+        assert_eq!(done(Answer { number: 17, count: 0 }), Err(Refusal::Late));
+        assert_eq!(done(Answer { number: 18, count: 0 }), Err(Refusal::Early));
+        assert_eq!(done(Answer { number: 12, count: 0 }), Err(Refusal::Unknown { number: 12 }));
     }
 }

@@ -80,7 +80,8 @@
 //!     );
 //!     assert_eq!(answer(&mill, "/sample?from=9", &mut reply), ["next 9"]);
 //!     assert_eq!(answer(&mill, "/assets", &mut reply), ["T17: drill, 8 mm, 412 parts left"]);
-//!     assert_eq!(answer(&mill, "/sample?from=2000", &mut reply), ["OUT_OF_RANGE"]);
+//!     let early = ["OUT_OF_RANGE", "early: the number is above last"];
+//!     assert_eq!(answer(&mill, "/sample?from=2000", &mut reply), early);
 //!     Ok(())
 //! }
 //!
@@ -96,7 +97,10 @@
 //!             let tool = |cell| format!("{}: {}", text(mill.cell_id(cell)), text(mill.cell_body(cell)));
 //!             assets.rows().map(|row| tool(row.cell)).collect()
 //!         }
-//!         Err(refusal) => vec![refusal.error_code().unwrap_or("INTERNAL_ERROR").to_string()],
+//!         Err(refusal) => {
+//!             // What an MTConnectError document says: late and early have one errorCode.
+//!             vec![refusal.error_code().unwrap_or("INTERNAL_ERROR").to_string(), refusal.to_string()]
+//!         }
 //!     }
 //! }
 //!
@@ -150,8 +154,13 @@
 //!
 //! It asks `/current`, takes its rows as the machine's state, and then samples from its next number and
 //! on from each reply's next, whatever other clients do: so it gets each observation that its path
-//! selects exactly once. Where it falls behind the ring it gets [`Refusal::OutOfRange`], and begins again
-//! with `/current`. What was written over in between is lost; a start is never moved up silently.
+//! selects exactly once. Once its next number has been written over, each poll from it gets
+//! [`Refusal::Late`], whatever its path and count, and the client begins again with `/current`. What was
+//! written over in between is lost; a start is never moved up silently.
+//!
+//! [`Refusal::Early`] is never the answer to a poll from a next number while the agent runs on. It says
+//! that the agent was started anew with lower numbers, which its instanceId shows, or that the client is
+//! at fault.
 //!
 //! # What can't go wrong
 //!

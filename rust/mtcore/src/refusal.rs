@@ -11,7 +11,8 @@ use core::fmt;
 /// ```
 /// use mtcore::Refusal;
 /// let client = |refusal: Refusal| match refusal {
-///     Refusal::OutOfRange => "ask /current and go on from its next",
+///     Refusal::Late => "ask /current and go on from its next",
+///     Refusal::Early => "compare instanceId: begin anew, or log a fault",
 ///     other => other.error_code().unwrap_or("INTERNAL_ERROR"),
 /// };
 /// assert_eq!(client(Refusal::TooMany), "TOO_MANY");
@@ -50,9 +51,6 @@ pub enum Refusal {
     /// 11: the path has another form than the two there are, no component has its type, or its second
     /// form selects no item.
     InvalidXpath,
-    /// 12: `from` is below first or above last + 1, or `at` below first or above last. A client that fell
-    /// behind asks for `current` and goes on from its next.
-    OutOfRange,
     /// 13: an asset that was asked for is not stored.
     AssetNotFound,
     /// 14: an id that is not of 1 to 32 bytes of 33 to 126 without `;`, `/` and `?`, or a body that is
@@ -64,8 +62,17 @@ pub enum Refusal {
     Space,
     /// 16: a delivery of more than 256 records. The host makes several of it.
     Batch,
-    /// A number that this version of the crate has no name for: an archive of a later version is
-    /// linked. It is a refusal all the same, and nothing was changed.
+    /// 17: `from`, unless it is 0, or `at` is below first: that number has been overwritten, or is from
+    /// before the start. The client asks for `current`, takes its rows as the state and goes on from its
+    /// next; what lies between is lost.
+    Late,
+    /// 18: `from` is above last + 1, or `at` above last. Either the agent was started anew with lower
+    /// numbers, which its instanceId shows: then the client begins anew with `current`. Or the client is
+    /// at fault: log it. It does not wait until the number comes.
+    Early,
+    /// A number that this version of the crate has no name for: an archive of another version is
+    /// linked. It is a refusal all the same, and nothing was changed. 12 is such a number: it stood for
+    /// late and early together before version 2.0, and is not given any more.
     #[non_exhaustive]
     Unknown {
         /// The number as it came.
@@ -73,37 +80,42 @@ pub enum Refusal {
     },
 }
 
-/// The refusals in the order of their numbers, from 1 on, with their words and their MTConnect errorCode.
-const TABLE: [(Refusal, &str, Option<&str>); 16] = [
-    (Refusal::Model, "model or names break their rules", None),
-    (Refusal::Store, "a store is damaged or not the model's", Some("INTERNAL_ERROR")),
-    (Refusal::Size, "the stores' sizes do not go together", None),
-    (Refusal::Item, "no such item", None),
-    (Refusal::Kind, "the item does not take this value", None),
-    (Refusal::Spent, "no sequence number is left", Some("INTERNAL_ERROR")),
-    (Refusal::InvalidUri, "INVALID_URI", Some("INVALID_URI")),
-    (Refusal::InvalidRequest, "INVALID_REQUEST", Some("INVALID_REQUEST")),
-    (Refusal::Unsupported, "UNSUPPORTED", Some("UNSUPPORTED")),
-    (Refusal::TooMany, "TOO_MANY", Some("TOO_MANY")),
-    (Refusal::InvalidXpath, "INVALID_XPATH", Some("INVALID_XPATH")),
-    (Refusal::OutOfRange, "OUT_OF_RANGE", Some("OUT_OF_RANGE")),
-    (Refusal::AssetNotFound, "ASSET_NOT_FOUND", Some("ASSET_NOT_FOUND")),
-    (Refusal::Asset, "the asset's id or body cannot be stored", None),
-    (Refusal::Space, "the buffer for reply or answers is too short", Some("TOO_MANY")),
-    (Refusal::Batch, "a delivery has too many records", None),
+/// A refusal with its number, its words and its MTConnect errorCode.
+type Entry = (u64, Refusal, &'static str, Option<&'static str>);
+
+/// The refusals that there are, each with its number, since 12 is none's.
+const TABLE: [Entry; 17] = [
+    (1, Refusal::Model, "model or names break their rules", None),
+    (2, Refusal::Store, "a store is damaged or not the model's", Some("INTERNAL_ERROR")),
+    (3, Refusal::Size, "the stores' sizes do not go together", None),
+    (4, Refusal::Item, "no such item", None),
+    (5, Refusal::Kind, "the item does not take this value", None),
+    (6, Refusal::Spent, "no sequence number is left", Some("INTERNAL_ERROR")),
+    (7, Refusal::InvalidUri, "INVALID_URI", Some("INVALID_URI")),
+    (8, Refusal::InvalidRequest, "INVALID_REQUEST", Some("INVALID_REQUEST")),
+    (9, Refusal::Unsupported, "UNSUPPORTED", Some("UNSUPPORTED")),
+    (10, Refusal::TooMany, "TOO_MANY", Some("TOO_MANY")),
+    (11, Refusal::InvalidXpath, "INVALID_XPATH", Some("INVALID_XPATH")),
+    (13, Refusal::AssetNotFound, "ASSET_NOT_FOUND", Some("ASSET_NOT_FOUND")),
+    (14, Refusal::Asset, "the asset's id or body cannot be stored", None),
+    (15, Refusal::Space, "the buffer for reply or answers is too short", Some("TOO_MANY")),
+    (16, Refusal::Batch, "a delivery has too many records", None),
+    (17, Refusal::Late, "late: the number is below first", Some("OUT_OF_RANGE")),
+    (18, Refusal::Early, "early: the number is above last", Some("OUT_OF_RANGE")),
 ];
 
 impl Refusal {
-    /// The refusal's number: 1 to 16, or the one that [`Refusal::Unknown`] holds.
+    /// The refusal's number: 1 to 18 but for 12, or the one that [`Refusal::Unknown`] holds.
     ///
     /// ```
     /// use mtcore::Refusal;
-    /// assert_eq!(Refusal::OutOfRange.number(), 12);
+    /// assert_eq!(Refusal::Late.number(), 17);
+    /// assert_eq!(Refusal::Early.number(), 18);
     /// ```
     pub fn number(self) -> u64 {
         match self {
             Refusal::Unknown { number } => number,
-            known => (1..).zip(TABLE).find(|(_, entry)| entry.0 == known).map_or(0, |(number, _)| number),
+            known => known.entry().map_or(0, |entry| entry.0),
         }
     }
 
@@ -112,33 +124,56 @@ impl Refusal {
     ///
     /// ```
     /// use mtcore::Refusal;
-    /// assert_eq!(Refusal::from_number(12), Some(Refusal::OutOfRange));
+    /// assert_eq!(Refusal::from_number(17), Some(Refusal::Late));
     /// assert_eq!(Refusal::from_number(0), None);
     /// let later = Refusal::from_number(25).unwrap();
     /// assert!(matches!(later, Refusal::Unknown { number: 25, .. }));
     /// assert_eq!(later.number(), 25);
+    /// // Late and early were one number before version 2.0; it is none now.
+    /// assert!(matches!(Refusal::from_number(12), Some(Refusal::Unknown { number: 12, .. })));
     /// ```
     pub fn from_number(number: u64) -> Option<Refusal> {
-        let below = usize::try_from(number.checked_sub(1)?).unwrap_or(usize::MAX);
-        Some(TABLE.get(below).map_or(Refusal::Unknown { number }, |entry| entry.0))
+        if number == 0 {
+            return None;
+        }
+        let known = TABLE.into_iter().find(|entry| entry.0 == number);
+        Some(known.map_or(Refusal::Unknown { number }, |entry| entry.1))
     }
 
     /// The errorCode of the MTConnectError document that a host sends for a refused request. None where
     /// the fault is not the client's and no request of a sound host meets it (a fault of the
     /// configuration, of an adapter or of a tool record: log it), and for [`Refusal::Unknown`].
+    ///
+    /// MTConnect has one errorCode for late and early, so the document's text tells which it is, with the
+    /// number asked for and first or last. These two are in every accepted reply of observations, as of
+    /// `/current`; a refused request leaves its reply buffer as it was.
+    ///
+    /// ```
+    /// use mtcore::Refusal;
+    /// for refusal in [Refusal::Late, Refusal::Early] {
+    ///     assert_eq!(refusal.error_code(), Some("OUT_OF_RANGE"));
+    /// }
+    /// let text = |refusal, number, first, last| match refusal {
+    ///     Refusal::Late => format!("late: {number} is below first, {first}"),
+    ///     Refusal::Early => format!("early: {number} is above last, {last}"),
+    ///     other => other.to_string(),
+    /// };
+    /// assert_eq!(text(Refusal::Late, 1572, 2928, 3927), "late: 1572 is below first, 2928");
+    /// assert_eq!(text(Refusal::Early, 9000, 2928, 3927), "early: 9000 is above last, 3927");
+    /// ```
     pub fn error_code(self) -> Option<&'static str> {
-        self.entry().and_then(|entry| entry.2)
+        self.entry().and_then(|entry| entry.3)
     }
 
-    fn entry(self) -> Option<(Refusal, &'static str, Option<&'static str>)> {
-        TABLE.into_iter().find(|entry| entry.0 == self)
+    fn entry(self) -> Option<Entry> {
+        TABLE.into_iter().find(|entry| entry.1 == self)
     }
 }
 
 impl fmt::Display for Refusal {
     fn fmt(&self, f: &mut fmt::Formatter<'_>) -> fmt::Result {
         match self.entry() {
-            Some((_, words, _)) => f.write_str(words),
+            Some((_, _, words, _)) => f.write_str(words),
             None => write!(f, "refusal {}", self.number()),
         }
     }
@@ -157,11 +192,12 @@ mod tests {
         for number in (1..100).chain([255, 256, 1 << 32, (1 << 63) - 1, u64::MAX]) {
             let refusal = Refusal::from_number(number).unwrap();
             assert_eq!(refusal.number(), number);
-            assert_eq!(matches!(refusal, Refusal::Unknown { .. }), number > 16, "{number}");
+            let unknown = number == 12 || number > 18;
+            assert_eq!(matches!(refusal, Refusal::Unknown { .. }), unknown, "{number}");
         }
     }
 
-    /// The numbers are the interface's, whatever order the table is in.
+    /// The numbers are the interface's, whatever the table says.
     #[test]
     fn numbers_are_the_interface_s() {
         let numbered = [
@@ -176,20 +212,43 @@ mod tests {
             (9, Refusal::Unsupported),
             (10, Refusal::TooMany),
             (11, Refusal::InvalidXpath),
-            (12, Refusal::OutOfRange),
             (13, Refusal::AssetNotFound),
             (14, Refusal::Asset),
             (15, Refusal::Space),
             (16, Refusal::Batch),
+            (17, Refusal::Late),
+            (18, Refusal::Early),
         ];
+        assert_eq!(numbered.len(), TABLE.len());
         for (number, refusal) in numbered {
             assert_eq!((refusal.number(), Refusal::from_number(number)), (number, Some(refusal)));
         }
     }
 
+    /// Late and early have numbers and words of their own, and one errorCode.
+    #[test]
+    fn late_and_early_are_told_apart() {
+        let (late, early) = (Refusal::Late, Refusal::Early);
+        assert_eq!((late.number(), early.number()), (17, 18));
+        assert_eq!((late.error_code(), early.error_code()), (Some("OUT_OF_RANGE"), Some("OUT_OF_RANGE")));
+        assert_eq!(late.to_string(), "late: the number is below first");
+        assert_eq!(early.to_string(), "early: the number is above last");
+        assert_eq!(TABLE.iter().filter(|entry| entry.3 == Some("OUT_OF_RANGE")).count(), 2);
+    }
+
+    /// It is what any number without a name is, and not what it was: late or early.
+    #[test]
+    fn twelve_is_no_refusal_s_number() {
+        let twelve = Refusal::from_number(12).unwrap();
+        assert!(matches!(twelve, Refusal::Unknown { number: 12 }));
+        assert_eq!((twelve.number(), twelve.error_code()), (12, None));
+        assert_eq!(twelve.to_string(), "refusal 12");
+        assert!(TABLE.iter().all(|entry| entry.0 != 12));
+    }
+
     #[test]
     fn words_are_said() {
-        assert!(TABLE.iter().all(|(_, words, _)| !words.is_empty()));
+        assert!(TABLE.iter().all(|(_, _, words, _)| !words.is_empty()));
         assert_eq!(Refusal::InvalidXpath.to_string(), "INVALID_XPATH");
         assert_eq!(Refusal::from_number(19).unwrap().to_string(), "refusal 19");
         assert_eq!(Refusal::from_number(19).unwrap().error_code(), None);

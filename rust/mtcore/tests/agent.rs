@@ -282,6 +282,112 @@ fn deliveries_of_equal_discrete_events() {
     assert!(answers.iter().skip(1).all(|answer| answer == Ok(Observed::Same)));
 }
 
+/// What a number gets that has to be from `first` to `end`.
+fn between(number: u64, first: u64, end: u64) -> Result<(), Refusal> {
+    match number {
+        _ if number < first => Err(Refusal::Late),
+        _ if number > end => Err(Refusal::Early),
+        _ => Ok(()),
+    }
+}
+
+/// The lowest and the newest number that the ring holds, from the store's own words.
+fn held(agent: &Lathe) -> (u64, u64) {
+    let last = agent.observations()[3];
+    (SIZES.origin.max(last + 1 - SIZES.places), last)
+}
+
+/// Both parameters at every number, while the ring fills and behind that. Below first is late, also where no
+/// start gave the number out; `from` may be 0 or last + 1, `at` neither. What is refused writes no word.
+#[test]
+fn late_below_first_and_early_behind_the_end() {
+    let (o, a) = stores();
+    let mut agent = Agent::start(model(), o, a, SIZES, 9).unwrap();
+    for step in 0..20 {
+        let (first, last) = held(&agent);
+        for number in (0..last + 5).chain([1 << 32, (1 << 63) - 1]) {
+            let from = if number == 0 { Ok(()) } else { between(number, first, last + 1) };
+            let asked = [("/sample?from=", from), ("/current?at=", between(number, first, last))];
+            for (parameter, expected) in asked {
+                let (text, mut reply) = (format!("{parameter}{number}"), [3; 40]);
+                assert_eq!(agent.request(text.as_bytes(), &mut reply).map(|_| ()), expected, "{text}");
+                assert_eq!(reply == [3; 40], expected.is_err(), "{text}");
+            }
+        }
+        agent.observe(1, 0, step, Value::Sample(step as i32)).unwrap();
+    }
+    assert_eq!(held(&agent), (23, 29));
+}
+
+/// Some request that is answered with observations, where the ring holds these numbers.
+fn answered(rng: &mut Rng, first: u64, last: u64) -> String {
+    let number = first + rng.below(last + 1 - first);
+    match rng.below(4) {
+        0 => "/current".to_string(),
+        1 => format!("/current?at={number}"),
+        2 => format!("/sample?from={number}&count=2"),
+        _ => "/sample?count=1&path=//Axes".to_string(),
+    }
+}
+
+/// A number that a reply gave as next is neither late nor early while it is at least first, and late at each
+/// poll from it behind that, whatever its path and count.
+#[test]
+fn clients_that_fall_behind_are_late() {
+    let polls = ["", "&count=1", "&count=7", "&path=//Axes", "&path=//Device//DataItem[@type=\"MESSAGE\"]"];
+    let mut rng = Rng::new(17);
+    let (o, a) = stores();
+    let mut agent = Agent::start(model(), o, a, SIZES, 9).unwrap();
+    let (mut given, mut seen) = (Vec::new(), [0; 2]);
+    for step in 0..1000 {
+        if rng.below(3) == 0 {
+            agent.observe(1, 0, step, Value::Sample(step as i32)).unwrap();
+        }
+        let (first, last) = held(&agent);
+        let (text, mut reply) = (answered(&mut rng, first, last), [0; 40]);
+        let Ok(Reply::Observations(read)) = agent.request(text.as_bytes(), &mut reply) else {
+            panic!("{text} is answered");
+        };
+        given.push(read.next);
+        for &next in given.iter().rev().take(40) {
+            let text = format!("/sample?from={next}{}", rng.pick(&polls));
+            let expected = if next < first { Err(Refusal::Late) } else { Ok(()) };
+            assert_eq!(agent.request(text.as_bytes(), &mut reply).map(|_| ()), expected, "{text}");
+            seen[usize::from(next < first)] += 1;
+        }
+    }
+    assert!(seen.iter().all(|&times| times > 1000), "answered, late: {seen:?}");
+}
+
+/// Both stand where the text's count and path are past, and the ring and the reply are not looked at yet.
+#[test]
+fn late_and_early_in_the_order_of_refusals() {
+    let (o, a) = stores();
+    let mut agent = Agent::start(model(), o, a, SIZES, 9).unwrap();
+    for step in 0..10 {
+        agent.observe(1, 0, step, Value::Sample(step as i32)).unwrap();
+    }
+    let (first, last) = held(&agent);
+    let (owned, good, assets) = agent.into_parts();
+    let mut damaged = good.clone();
+    damaged[4 + PLACES..4 + 2 * PLACES].fill(u64::MAX); // the packed words of the ring
+    let ask = |store: &[u64], text: &str| {
+        mtcore::request(owned.words(), owned.names(), store, &assets, text.as_bytes(), &mut [])
+    };
+    for (number, refusal) in [(first - 1, Refusal::Late), (last + 2, Refusal::Early)] {
+        for text in [format!("/sample?from={number}"), format!("/current?at={number}")] {
+            assert_eq!(ask(&damaged, &text), Err(refusal), "{text}");
+            assert_eq!(ask(&damaged, &format!("{text}&path=//axes")), Err(Refusal::InvalidXpath), "{text}");
+        }
+        let both = format!("/sample?from={number}&count=8&path=//axes");
+        assert_eq!(ask(&damaged, &both), Err(Refusal::TooMany));
+    }
+    for text in [format!("/sample?from={first}"), format!("/current?at={last}")] {
+        assert_eq!(ask(&damaged, &text), Err(Refusal::Store), "{text}");
+        assert_eq!(ask(&good, &text), Err(Refusal::Space), "{text}");
+    }
+}
+
 /// Refusal 2 does not see these words of a store; the check of a row does.
 #[test]
 fn rows_that_only_their_check_sees() {

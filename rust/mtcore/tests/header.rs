@@ -26,14 +26,16 @@ fn c_name(rust: &str) -> String {
     format!("MTCORE{}", parts.collect::<String>())
 }
 
+/// Each has its number in the header, and 12 is none's.
 #[test]
 fn refusals() {
-    for number_here in 1..=16 {
+    let numbers: Vec<u64> = (1..=11).chain(13..=18).collect();
+    for &number_here in &numbers {
         let refusal = Refusal::from_number(number_here).unwrap();
         assert_eq!(number(&c_name(&format!("{refusal:?}"))), number_here);
     }
     let body = HEADER.split_once("enum mtcore_refusal {").unwrap().1.split_once("};").unwrap().0;
-    assert_eq!(body.matches(" = ").count(), 16, "a refusal of the header has no name here");
+    assert_eq!(body.matches(" = ").count(), numbers.len(), "a refusal of the header has no name here");
 }
 
 #[test]
