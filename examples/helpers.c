@@ -1,6 +1,8 @@
 /* Tries every helper of mtcore.h, as C and as C++: what goes in comes out again, and what isn't there gives
- * nothing. So does a delivery, whose records are a struct that the header lays out, and a discrete item counts its
- * equal values. Prints the number of trials, or the first that fails. */
+ * nothing. So does a delivery, whose records are a struct that the header lays out, a discrete item counts its equal
+ * values, and a request beside the numbers held is late or early. Prints the number of trials, or the first that
+ * fails. */
+#include <inttypes.h>
 #include <stdio.h>
 #include <string.h>
 
@@ -158,6 +160,28 @@ static void try_batch(void) {
     HOLDS(words[0] == before + 3 && words[1] == MTCORE_SAME && words[MTCORE_MAX_BATCH - 1] == MTCORE_SAME);
 }
 
+/* the refusal of a text that ends with this number, or 0 */
+static uint64_t asked(const char *text, uint64_t number) {
+    char whole[64];
+    snprintf(whole, sizeof whole, "%s%" PRIu64, text, number);
+    return ask(whole).number;
+}
+
+/* the last number that is accepted and the first that isn't, at both ends; 0 and last + 1 go for `from` alone */
+static void try_late_and_early(void) {
+    uint64_t first, last;
+    HOLDS(ask("/current").number == 0);
+    first = mtcore_reply_first(reply);
+    last = mtcore_reply_last(reply);
+    HOLDS(first > 1 && last == first + N - 1);
+    HOLDS(asked("/sample?from=", first - 1) == MTCORE_LATE && asked("/sample?from=", 1) == MTCORE_LATE);
+    HOLDS(asked("/sample?from=", 0) == 0 && asked("/sample?from=", first) == 0);
+    HOLDS(asked("/sample?from=", last + 1) == 0 && asked("/sample?from=", last + 2) == MTCORE_EARLY);
+    HOLDS(asked("/current?at=", first - 1) == MTCORE_LATE && asked("/current?at=", 0) == MTCORE_LATE);
+    HOLDS(asked("/current?at=", first) == 0 && asked("/current?at=", last) == 0);
+    HOLDS(asked("/current?at=", last + 1) == MTCORE_EARLY);
+}
+
 /* right behind start, whose Unavailable of item 4 is number ITEMS: it and every other value counts when equal, where an
  * event item has Same */
 static void try_discrete(void) {
@@ -245,6 +269,7 @@ int main(void) {
     try_names();
     try_rows();
     try_batch();
+    try_late_and_early();
     try_cells();
     try_damaged_cells();
     try_words();

@@ -111,6 +111,8 @@ static const char *const later[] = {
     "/current",
     "/current?at=7",
     "/current?at=5",
+    "/current?at=0",
+    "/current?at=14",
     "/current?path=//Device//DataItem[@type=\"POSITION\"]",
     "/current?interval=1000",
     "/probe",

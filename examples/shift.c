@@ -344,10 +344,11 @@ static void recover(struct client *c) {
     c->lost_from = missed;
     c->lost_end = c->next;
     c->first_then = mtcore_reply_first(reply);
+    agreed(missed < c->first_then);
 }
 
 /* Until the client is level. A count limits the numbers considered, so with a path a poll may bring no row and
- * still move on. */
+ * still move on. Only late is a client's to mend; early would be a fault of this program, as every other refusal. */
 static void poll(struct client *c) {
     char text[MTCORE_MAX_TEXT + 1];
     do {
@@ -355,7 +356,7 @@ static void poll(struct client *c) {
                  c->path[0] != 0 ? "&path=" : "", c->path);
         mtcore_answer r = ask(text);
         c->polls++;
-        if (r.number == MTCORE_OUT_OF_RANGE) {
+        if (r.number == MTCORE_LATE) {
             recover(c);
         } else if (agreed(r.number == 0)) {
             take_rows(c);
@@ -468,8 +469,8 @@ static void print_sleeper(const struct client *c) {
         matching += c->wants[shift_log[s].item];
     printf("\nTHE LAPTOP SLEPT\n\n");
     printf("%s  polled up to number %" PRIu64 ", then slept\n", clock_of(c->sleeps), c->lost_from - 1);
-    printf("%s  asks /sample?from=%" PRIu64 ": refusal %d, OUT_OF_RANGE; the ring begins at %" PRIu64 "\n",
-           clock_of(c->wakes), c->lost_from, MTCORE_OUT_OF_RANGE, c->first_then);
+    printf("%s  asks /sample?from=%" PRIu64 ": refusal %d, late: %" PRIu64 " is below first, %" PRIu64 "\n",
+           clock_of(c->wakes), c->lost_from, MTCORE_LATE, c->lost_from, c->first_then);
     printf("%s  asks /current, takes the state over, and goes on from number %" PRIu64 "\n", clock_of(c->wakes),
            c->lost_end);
     printf("Lost: numbers %" PRIu64 " to %" PRIu64 ", of which %" PRIu64 " were of its path. Those from %" PRIu64
