@@ -1,10 +1,12 @@
-//! docs/HOST.md and the crate say the same: its tables of categories, of requests and of refusals.
+//! docs/HOST.md and the crate say the same: its tables of categories, of requests, of refusals and of what is
+//! late and early, and its version.
 
 use mtcore::{
     Agent, AssetRow, Category, Component, Level, Model, ModelBuilder, Refusal, Reply, Row, Sizes, Value,
 };
 
 const PAGE: &str = include_str!("../../../docs/HOST.md");
+const CHANGES: &str = include_str!("../../../CHANGELOG.md");
 const PLACES: usize = 8;
 const CELLS: usize = 3;
 
@@ -103,6 +105,40 @@ fn requests_are_answered_as_the_page_says() {
     }
 }
 
+/// The numbers of the mill that a row of the page's table of late and early is about: it holds 6 to 13.
+fn numbers(row: &str) -> Vec<u64> {
+    match row {
+        "0" => vec![0],
+        "below first" => (1..6).collect(),
+        "first to last" => (6..14).collect(),
+        "last + 1" => vec![14],
+        "above last + 1" => vec![15, 16, 1000, (1 << 63) - 1],
+        other => panic!("the page has a row {other}"),
+    }
+}
+
+#[test]
+fn late_and_early_are_as_the_page_says() {
+    let mut mill = mill();
+    work(&mut mill).unwrap();
+    let rows = table("| number | `from` | `at` |");
+    assert_eq!(rows.len(), 5);
+    for row in rows {
+        for (parameter, said) in [("/sample?from=", row[1]), ("/current?at=", row[2])] {
+            for number in numbers(row[0]) {
+                let text = format!("{parameter}{number}");
+                let refusal = match asked(&mill, &text)[0].as_str() {
+                    "0" => "accepted",
+                    "17" => "17, late",
+                    "18" => "18, early",
+                    other => panic!("{text} is refused with {other}"),
+                };
+                assert!(said.starts_with(refusal), "{text}: {refusal}, and the page says {said}");
+            }
+        }
+    }
+}
+
 /// A device with one item of this category.
 fn one_item(category: Category) -> Mill {
     let names = mtcore::names(["Device"]).unwrap().as_flattened().to_vec();
@@ -150,9 +186,21 @@ fn categories_are_as_the_page_says() {
 #[test]
 fn refusals_have_the_page_s_error_codes() {
     let rows = table("| No. | name |");
-    assert_eq!(rows.len(), 16);
-    for row in rows {
-        let refusal = Refusal::from_number(row[0].parse().unwrap()).unwrap();
+    let numbers: Vec<u64> = rows.iter().map(|row| row[0].parse().unwrap()).collect();
+    assert_eq!(numbers, (1..=11).chain(13..=18).collect::<Vec<_>>());
+    for (row, number) in rows.into_iter().zip(numbers) {
+        let refusal = Refusal::from_number(number).unwrap();
+        assert!(!matches!(refusal, Refusal::Unknown { .. }), "{number}");
         assert_eq!(refusal.error_code().unwrap_or(""), row[2], "{refusal:?}");
     }
+}
+
+/// The page names this version, and the newest entry of the changes is about it.
+#[test]
+fn the_page_s_version_is_this_one() {
+    let (major, minor) = (env!("CARGO_PKG_VERSION_MAJOR"), env!("CARGO_PKG_VERSION_MINOR"));
+    let version = format!("{major}.{minor}, layout {}", mtcore::LAYOUT);
+    assert!(PAGE.contains(&format!("This is version {version}.")), "{version}");
+    let newest = CHANGES.lines().find_map(|line| line.strip_prefix("## "));
+    assert_eq!(newest, Some(&version[..]));
 }
