@@ -40,19 +40,21 @@ impl fmt::Display for Difference {
     }
 }
 
+/// Answers by refusal number, 0 for accepted ones.
+pub type ByRefusal = [u64; 19];
+
 /// What was met, so that a test can tell that its lists reach every case.
 #[derive(Clone, Default, Debug)]
 pub struct Counts {
     pub calls: u64,
-    /// Answers by refusal number, 0 for accepted ones.
-    pub starts: [u64; 16],
-    pub observes: [u64; 16],
-    pub batches: [u64; 17],
+    pub starts: ByRefusal,
+    pub observes: ByRefusal,
+    pub batches: ByRefusal,
     /// The same for the records of accepted deliveries, and for those behind a recorded one.
-    pub records: [u64; 16],
-    pub amid: [u64; 16],
-    pub stores: [u64; 16],
-    pub requests: [u64; 16],
+    pub records: ByRefusal,
+    pub amid: ByRefusal,
+    pub stores: ByRefusal,
+    pub requests: ByRefusal,
     pub bodies: [u64; 2],
     pub same: u64,
     /// Values of discrete items that were recorded though equal.

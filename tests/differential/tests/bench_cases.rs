@@ -17,8 +17,8 @@ const CASES: [Case; 12] = [
     ("C2", "/current?at=2", Ok(&[2, 2, 4, 5, 1, 2, 1000, 0, 1000, 1_099_511_627_776])),
     ("C3", "/current?path=//Axes", Ok(&[1, 2, 4, 5, 4, 1030, 1_108_101_562_367])),
     ("C4", "/sample?from=5", Ok(&[0, 2, 4, 5])),
-    ("C5 above", "/sample?from=6", Err(12)),
-    ("C5 below", "/sample?from=1", Err(12)),
+    ("C5 above", "/sample?from=6", Err(18)),
+    ("C5 below", "/sample?from=1", Err(17)),
     (
         "C6 at N",
         "/sample?count=3",
@@ -26,7 +26,7 @@ const CASES: [Case; 12] = [
     ),
     ("C6 above N", "/sample?count=4", Err(10)),
     ("C7", "/sample?count=0", Err(8)),
-    ("C8", "/current?at=1", Err(12)),
+    ("C8", "/current?at=1", Err(17)),
     ("C9", "/sample?from=2&count=1&path=//Device//DataItem[@type=\"AVAILABILITY\"]", Ok(&[0, 2, 4, 3])),
     ("C10", "/assets", Ok(&[0, 0, 1, 0])),
 ];

@@ -328,14 +328,18 @@ const PARAMETERS: [(&str, usize, Meaning); 4] = [
     ("/sample?count=1&from=", 3, |from| match from {
         0 => Ok(2),
         1..=121 => Ok((from + 1).min(121)),
-        _ => Err(12),
+        _ => Err(18),
     }),
     ("/sample?count=", 3, |count| match count {
         0 => Err(8),
         1..=128 => Ok((1 + count).min(121)),
         _ => Err(10),
     }),
-    ("/current?at=", 4, |at| if (1..=120).contains(&at) { Ok(at) } else { Err(12) }),
+    ("/current?at=", 4, |at| match at {
+        0 => Err(17),
+        1..=120 => Ok(at),
+        _ => Err(18),
+    }),
     ("/sample?interval=", 0, |_| Err(9)),
 ];
 

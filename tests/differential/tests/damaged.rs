@@ -368,7 +368,7 @@ fn a_sample_tests_the_numbers_considered() {
     assert_eq!(damaged.ask("/sample?from=4&count=1"), Err(2));
     assert_eq!(damaged.ask("/sample?path=//Device//DataItem[@type=\"EXECUTION\"]"), Err(2));
     assert_eq!(damaged.ask_into("/sample", 0), Err(2));
-    assert_eq!(damaged.ask("/sample?from=2"), Err(12));
+    assert_eq!(damaged.ask("/sample?from=2"), Err(17));
     assert!(damaged.ask("/sample?from=3&count=1").is_ok());
     assert!(damaged.ask("/sample?from=5").is_ok());
     assert_eq!(damaged.ask_into("/sample?from=5", 9), Err(15));
@@ -384,7 +384,7 @@ fn at_tests_what_it_passes() {
         assert_eq!(damaged.ask(&format!("/current?at={at}")), Err(2));
         assert_eq!(damaged.ask_into(&format!("/current?at={at}"), 0), Err(2));
     }
-    assert_eq!(damaged.ask("/current?at=7"), Err(12));
+    assert_eq!(damaged.ask("/current?at=7"), Err(18));
 }
 
 /// Kind, level and low bits of stored words are delivered as they stand.

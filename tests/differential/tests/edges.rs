@@ -168,8 +168,11 @@ fn the_default_count() {
         }
         let first = 350 - n + 1;
         for from in (first..first + 3).chain([first + n / 2, 250, 251, 252, 350, 351]) {
-            let held = (first..=351).contains(&from);
-            let expected = if held { Ok((from + 100).min(351)) } else { Err(12) };
+            let expected = match from {
+                _ if from < first => Err(17),
+                0..=351 => Ok((from + 100).min(351)),
+                _ => Err(18),
+            };
             assert_eq!(session.ask(format!("/sample?from={from}")).map(|reply| reply[3]), expected);
         }
         assert_eq!(session.ask("/sample").unwrap()[..4], [n.min(100), first, 350, (first + 100).min(351)]);

@@ -42,7 +42,7 @@ fn every_answer_is_met(counts: &Counts) {
     for refusal in [0, 6, 14] {
         assert!(counts.stores[refusal] > 0, "store-asset never answers {refusal}");
     }
-    for refusal in [0, 7, 8, 9, 10, 11, 12, 13, 15] {
+    for refusal in [0, 7, 8, 9, 10, 11, 13, 15, 17, 18] {
         assert!(counts.requests[refusal] > 0, "request never answers {refusal}");
     }
     assert!(counts.same > 0 && counts.bodies.iter().all(|&met| met > 0));
@@ -58,7 +58,7 @@ fn damaged_contents_get_the_same_answers() {
     if settings::tracing() {
         return;
     }
-    for table in [&counts.observes[..], &counts.batches, &counts.stores, &counts.requests] {
+    for table in [&counts.observes, &counts.batches, &counts.stores, &counts.requests] {
         assert!(table[1] > 0 && table[2] > 0, "damage is never noticed");
     }
     for refusal in [2, 6] {

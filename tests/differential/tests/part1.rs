@@ -103,7 +103,7 @@ fn state_at_the_fault_and_just_after() {
     assert_eq!(packed(&reply)[1], STOPPED.packed(EXECUTION, Clean));
     assert_eq!(packed(&reply)[3], FAULT.packed(SYSTEM, Clean));
     // 'at' must be greater than or equal to 3.
-    assert_eq!(session.ask("/current?at=2"), Err(12));
+    assert_eq!(session.ask("/current?at=2"), Err(17));
     assert!(session.ask("/current?at=3").is_ok());
 }
 
@@ -147,8 +147,8 @@ fn values_stand_until_they_are_replaced() {
     assert_eq!(packed(&reply), rows(&[(LINE, Value::Event(201)), (POSITION, Value::Sample(10_000))]));
     let reply = session.ask("/current?at=14").unwrap();
     assert_eq!(packed(&reply), rows(&[(LINE, Value::Event(210)), (POSITION, Value::Sample(10_000))]));
-    assert_eq!(session.ask("/current?at=11"), Err(12));
-    assert_eq!(session.ask("/current?at=20"), Err(12));
+    assert_eq!(session.ask("/current?at=11"), Err(17));
+    assert_eq!(session.ask("/current?at=20"), Err(18));
 }
 
 #[test]
@@ -160,7 +160,7 @@ fn a_further_line_pushes_out_the_oldest() {
     assert_eq!(reply[..4], [2, 13, 20, 21]);
     assert_eq!(numbers(&reply), [11, 13]);
     assert_eq!(packed(&reply)[0], Value::Event(201).packed(LINE, Clean));
-    assert_eq!(session.ask("/current?at=12"), Err(12));
+    assert_eq!(session.ask("/current?at=12"), Err(17));
     // 13 rolls off: from now on 210 is the oldest line that can be asked for.
     assert_eq!(session.observe(POSITION, 21, 21, Value::Sample(23_000)), 21);
     let reply = session.ask("/current?at=14").unwrap();
@@ -253,7 +253,7 @@ fn windows_without_a_path() {
     assert_eq!(window("from=113&count=10"), ((113..=122).collect(), 123));
     assert_eq!(window("from=123&count=10"), ((123..=126).collect(), 127));
     assert_eq!(window("from=127&count=10"), (vec![], 127));
-    assert_eq!(session.ask("/sample?from=128&count=10"), Err(12));
+    assert_eq!(session.ask("/sample?from=128&count=10"), Err(18));
 }
 
 #[test]

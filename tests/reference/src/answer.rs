@@ -15,11 +15,12 @@ pub enum Refusal {
     Unsupported = 9,
     TooMany = 10,
     InvalidXpath = 11,
-    OutOfRange = 12,
     AssetNotFound = 13,
     Asset = 14,
     Space = 15,
     Batch = 16,
+    Late = 17,
+    Early = 18,
 }
 
 impl Refusal {
