@@ -44,7 +44,7 @@ fn faults_in_the_core_are_told_apart() {
 
 /// Faults of the stores that clients come to see. The others show in the stores alone, or where
 /// they are damaged.
-const SEEN_BY_CLIENTS: [Fault; 11] = [
+const SEEN_BY_CLIENTS: [Fault; 13] = [
     Fault::SameRenewsTime,
     Fault::CheckpointNotUpdated,
     Fault::CheckpointWrittenOnce,
@@ -56,6 +56,8 @@ const SEEN_BY_CLIENTS: [Fault; 11] = [
     Fault::BodyByPaddedId,
     Fault::SameBeforeBatch,
     Fault::RepeatLeavesLatest,
+    Fault::LateAsTwelve,
+    Fault::EarlyAsTwelve,
 ];
 
 #[test]

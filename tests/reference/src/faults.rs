@@ -189,6 +189,36 @@ faults! {
     /// The range is looked at before the path.
     RangeBeforePath in Both,
 
+    // Late and early.
+    /// A number below first is early, and one above the end late.
+    LateAndEarlyExchanged in Both,
+    /// A number above the end is late too.
+    AllLate in Both,
+    /// A number below first is early too.
+    AllEarly in Both,
+    /// Late is still 12.
+    LateAsTwelve in Stores,
+    /// Early is still 12.
+    EarlyAsTwelve in Stores,
+    /// first itself, where a text gives it, is late.
+    FirstLate in Both,
+    /// Late is judged against B: an overwritten number is early.
+    OverwrittenEarly in Both,
+    /// The range begins at B: an overwritten number is in it.
+    RangeFromOrigin in Both,
+    /// A start that has been overwritten is moved up to first where its count reaches that far.
+    PartlyLostStartMoved in Both,
+    /// An early start is moved down to last + 1.
+    EarlyStartMoved in Both,
+    /// `at=0` is taken as first.
+    AtZeroAsFirst in Both,
+    /// The range is looked at before the count.
+    RangeBeforeCount in Both,
+    /// Space for the sizes is looked at before the range.
+    SpaceBeforeRange in Both,
+    /// The ring's contents are looked at before a number is late or early.
+    RingBeforeRange in Stores,
+
     // Current.
     /// `at` sees only what the ring holds.
     AtFromRingOnly in Both,

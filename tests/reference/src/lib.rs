@@ -18,6 +18,7 @@ pub mod answer;
 pub mod calls;
 pub mod faults;
 pub mod machine;
+mod misjudged;
 pub mod model;
 pub mod path;
 pub mod stores;

@@ -10,6 +10,7 @@ mod request;
 use crate::answer::{Done, Observed, Refusal, Stored};
 use crate::calls::{Core, Record};
 use crate::faults::{Clean, Fault, FaultSet};
+use crate::misjudged;
 use crate::model::Model;
 use crate::value::{item_of, Value, EVENT_KIND};
 use crate::{LARGEST, MOST_CELLS, MOST_PLACES};
@@ -333,7 +334,8 @@ impl<F: FaultSet> Core for Stores<F> {
         text: &[u8],
         reply: &mut [u64],
     ) -> (u64, u64) {
-        Stores::request(self, model, names, observations, assets, text, reply).pair()
+        let (number, k) = Stores::request(self, model, names, observations, assets, text, reply).pair();
+        (misjudged::number(number, self.faults), k)
     }
 
     fn body(&self, assets: &[u8], id: &[u8]) -> (u64, u64) {

@@ -50,6 +50,11 @@ impl Head {
         self.n as u64
     }
 
+    /// The first number of all.
+    pub fn origin(&self) -> u64 {
+        self.b
+    }
+
     /// The lowest number the ring still holds.
     pub fn first<F: FaultSet>(&self, faults: F) -> u64 {
         let held = self.n() + u64::from(faults.has(Fault::FirstTooLow));
