@@ -105,5 +105,5 @@ fn beside_singles<C: Core>(
     }
     same("answer word beside the single observes", &buffer, &expected)?;
     same("store word beside the single observes", store, &copy)?;
-    Ok((Answer::Pair(number, count), buffer))
+    Ok((Answer::Pair(number, count).in_use(&buffer)?, buffer))
 }

@@ -46,6 +46,9 @@ pub struct Start {
     pub assets: Vec<u8>,
 }
 
+/// The number that no refusal has: late and early were one refusal under it.
+const RETIRED: u64 = 12;
+
 /// An answer in the C interface's words.
 #[derive(Clone, Copy, PartialEq, Eq, Debug)]
 pub enum Answer {
@@ -69,6 +72,17 @@ impl Answer {
 
     pub fn is_refused(self) -> bool {
         self.refusal() != 0 || self == Answer::Part(0, 0)
+    }
+
+    /// The answer itself, unless it carries the retired number, or one of the words does that an
+    /// accepted delivery wrote.
+    pub fn in_use(self, written: &[u64]) -> Result<Answer, String> {
+        let count = if let Answer::Pair(0, count) = self { count as usize } else { 0 };
+        let words = written.iter().take(count).map(|&word| Answer::Word(word));
+        if words.chain([self]).any(|answer| answer.refusal() == RETIRED) {
+            return Err(format!("{self:?} with {RETIRED}, which no refusal has"));
+        }
+        Ok(self)
     }
 }
 

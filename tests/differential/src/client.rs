@@ -1,9 +1,11 @@
-//! A client that polls with one path, each time from the next number of the poll before. The rows
-//! delivered to it, joined, have to be the machine's matching observations, each once, in order.
+//! A client that polls with one path, each time from the next number of the poll before, and sleeps
+//! now and then. The rows delivered to it, joined, have to be the machine's matching observations,
+//! each once, in order.
 
 use crate::call::Answer;
+use crate::polls::LATE;
 use crate::rng::Rng;
-use reference::{Clean, FaultSet, Machine};
+use reference::{Clean, FaultSet, Machine, LARGEST};
 
 pub struct Client {
     path: Option<Vec<u8>>,
@@ -12,22 +14,46 @@ pub struct Client {
     /// The window that the polls so far add up to: its first number, and the next to ask for.
     window: Option<(u64, u64)>,
     rows: Vec<[u64; 3]>,
+    /// Whether it asked for current last, to begin a window with its next number.
+    asks_current: bool,
+    /// Turns to poll that it will let pass.
+    asleep: u64,
     /// Windows checked.
     pub windows: u64,
 }
 
 impl Client {
     pub fn new(path: Option<Vec<u8>>, selected: u64, count: Option<u64>) -> Client {
-        Client { path, selected, count, window: None, rows: Vec::new(), windows: 0 }
+        Client {
+            path,
+            selected,
+            count,
+            window: None,
+            rows: Vec::new(),
+            asks_current: false,
+            asleep: 0,
+            windows: 0,
+        }
+    }
+
+    /// Whether it lets this turn to poll pass.
+    pub fn sleeps(&mut self, rng: &mut Rng) -> bool {
+        if self.asleep == 0 && rng.percent(6) {
+            self.asleep = rng.between(1, 30);
+        }
+        let asleep = self.asleep > 0;
+        self.asleep = self.asleep.saturating_sub(1);
+        asleep
     }
 
     /// The text of the next poll. The count may change from poll to poll, the path not.
     pub fn text(&mut self, rng: &mut Rng) -> Vec<u8> {
+        self.asks_current = self.window.is_none() && rng.percent(50);
         let mut parts = Vec::new();
         if let Some((_, next)) = self.window {
             parts.push(format!("from={next}").into_bytes());
         }
-        if let Some(count) = self.count {
+        if let (Some(count), false) = (self.count, self.asks_current) {
             let count = if rng.percent(20) { rng.between(1, count) } else { count };
             parts.push(format!("count={count}").into_bytes());
         }
@@ -35,7 +61,7 @@ impl Client {
             parts.push([b"path=", &path[..]].concat());
         }
         rng.shuffle(&mut parts);
-        let mut text = b"/sample".to_vec();
+        let mut text = if self.asks_current { b"/current".to_vec() } else { b"/sample".to_vec() };
         for (index, part) in parts.into_iter().enumerate() {
             text.push(if index == 0 { b'?' } else { b'&' });
             text.extend(part);
@@ -43,22 +69,29 @@ impl Client {
         text
     }
 
-    /// Takes the answer of a poll. A refused one delivers nothing and ends the window only where
-    /// the next number has been written over or cannot be asked for.
+    /// Takes the answer of a poll. Its text is well formed, its path selects and its count is not
+    /// above N, so it is refused for want of space alone, or where the next number has been
+    /// overwritten or is none that a text can give. The last two end the window.
     pub fn take<F: FaultSet>(
         &mut self,
         answer: Answer,
         reply: &[u64],
         machine: &Machine<F>,
     ) -> Result<(), String> {
+        let lost = |(_, next)| answer == Answer::Pair(if next > LARGEST { 8 } else { LATE }, 0);
         match answer {
+            Answer::Pair(0, _) if self.asks_current => {
+                self.window = Some((reply[3], reply[3]));
+                Ok(())
+            }
             Answer::Pair(0, k) => self.accept(k as usize, reply, machine),
             Answer::Pair(15, _) => Ok(()),
-            _ => {
+            _ if self.window.is_some_and(lost) => {
                 self.finish(machine)?;
                 self.window = None;
                 Ok(())
             }
+            _ => Err(format!("the poll of a client is answered {answer:?}")),
         }
     }
 

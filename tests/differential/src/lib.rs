@@ -12,6 +12,7 @@ pub mod guard;
 pub mod hidden;
 pub mod lists;
 pub mod pair;
+pub mod polls;
 pub mod rng;
 pub mod session;
 pub mod settings;
@@ -62,6 +63,9 @@ pub struct Counts {
     pub rows: u64,
     /// Windows of clients, joined from their polls and checked.
     pub windows: u64,
+    /// Polls from a next number that was given: overwritten since, or not.
+    pub late_polls: u64,
+    pub polls_in_time: u64,
 }
 
 impl Counts {
@@ -107,6 +111,8 @@ impl Counts {
         self.repeats += other.repeats;
         self.rows += other.rows;
         self.windows += other.windows;
+        self.late_polls += other.late_polls;
+        self.polls_in_time += other.polls_in_time;
         let tables = [
             (&mut self.starts[..], &other.starts[..]),
             (&mut self.observes, &other.observes),
@@ -125,8 +131,9 @@ impl Counts {
 
 impl fmt::Display for Counts {
     fn fmt(&self, f: &mut fmt::Formatter<'_>) -> fmt::Result {
-        let Counts { calls, same, repeats, rows, windows, .. } = self;
+        let Counts { calls, same, repeats, rows, windows, late_polls, polls_in_time, .. } = self;
         writeln!(f, "{calls} calls, {same} Same, {repeats} repeats, {rows} rows, {windows} joined windows")?;
+        writeln!(f, "  polls from a next number: {late_polls} late, {polls_in_time} in time")?;
         writeln!(f, "  answers by refusal number, 0 accepted:")?;
         writeln!(f, "  start       {:?}", self.starts)?;
         writeln!(f, "  observe     {:?}", self.observes)?;

@@ -3,6 +3,7 @@
 use crate::batches;
 use crate::call::{Answer, Call, Start};
 use crate::client::Client;
+use crate::polls::Polls;
 use crate::rng::Rng;
 use crate::session::Session;
 use crate::texts::{self, Scene};
@@ -23,6 +24,8 @@ struct Script {
     /// The item and value offered last.
     offered: (u64, u64),
     clients: Vec<Client>,
+    windows: Windows,
+    polls: Polls,
 }
 
 /// Runs the list of a seed. The machine takes the faults given; in earnest it has none.
@@ -49,7 +52,6 @@ pub fn run<C: Core, F: FaultSet>(
     let mut script = Script::new(&session, rng);
     let length =
         if script.rng.percent(94) { script.rng.between(20, 240) } else { script.rng.between(300, 900) };
-    let mut windows = Windows::default();
     for index in 0..length {
         let (call, client) = script.next(&session);
         let place = |call: &Call| format!("call {index} after {start:?}: {call:?}");
@@ -58,20 +60,12 @@ pub fn run<C: Core, F: FaultSet>(
         if tracing {
             println!("{index}: {call:?}: {answer:?}");
         }
-        if let Call::Request { text, .. } = &call {
-            windows.take(text, answer, &session.pair.reply);
-        }
-        if let Some(client) = client {
-            let reply = &session.pair.reply;
-            script.clients[client]
-                .take(answer, reply, &session.machine)
-                .map_err(|what| fail(place(&call), what))?;
-        }
+        script.note(&session, &call, client, answer).map_err(|what| fail(place(&call), what))?;
         if index % 32 == 0 {
             session.compare_contents().map_err(|what| fail(place(&call), what))?;
         }
     }
-    script.finish(&session, &windows, counts).map_err(|what| fail("at the end".into(), what))
+    script.finish(&session, counts).map_err(|what| fail("at the end".into(), what))
 }
 
 /// Starts ahead of the one that counts: spoilt ones, and one with other bytes in its names.
@@ -100,6 +94,8 @@ impl Script {
             item_types: items.map(|item| model.item_type(item).to_vec()).collect(),
             ids,
             clients: Vec::new(),
+            windows: Windows::default(),
+            polls: Polls::default(),
             rng,
         };
         for _ in 0..script.rng.between(0, 4) {
@@ -135,6 +131,9 @@ impl Script {
             4 => (self.observe_batch(), None),
             _ => {
                 let client = self.rng.index(self.clients.len());
+                if self.clients[client].sleeps(&mut self.rng) {
+                    return (self.observe(), None);
+                }
                 let text = self.clients[client].text(&mut self.rng);
                 let words = if self.rng.percent(95) { 4 + 3 * 130 } else { self.rng.between(0, 40) as usize };
                 (Call::Request { text, reply: worlds::garbage(&mut self.rng, words) }, Some(client))
@@ -142,15 +141,33 @@ impl Script {
         }
     }
 
+    /// Puts an answered call before the rules about requests, and before the client whose poll it was.
+    fn note<C: Core, F: FaultSet>(
+        &mut self,
+        session: &Session<C, F>,
+        call: &Call,
+        client: Option<usize>,
+        answer: Answer,
+    ) -> Result<(), String> {
+        let Call::Request { text, .. } = call else {
+            return Ok(());
+        };
+        let (reply, machine) = (&session.pair.reply, &session.machine);
+        self.windows.take(text, answer, reply);
+        self.polls.take(text, answer, reply, [machine.places(), machine.last()])?;
+        client.map_or(Ok(()), |client| self.clients[client].take(answer, reply, machine))
+    }
+
     /// What is checked and counted when the list is over.
     fn finish<C: Core, F: FaultSet>(
         &mut self,
         session: &Session<C, F>,
-        windows: &Windows,
         counts: &mut Counts,
     ) -> Result<(), String> {
         session.compare_contents()?;
-        counts.windows += windows.check(&mut self.rng, &session.pair, &session.machine)?;
+        counts.late_polls += self.polls.late;
+        counts.polls_in_time += self.polls.in_time;
+        counts.windows += self.windows.check(&mut self.rng, &session.pair, &session.machine)?;
         for client in &mut self.clients {
             client.finish(&session.machine)?;
             counts.windows += client.windows;

@@ -145,6 +145,7 @@ impl<'c, C: Core> Pair<'c, C> {
             host,
             &mut self.reply,
         );
+        Answer::Pair(got.0, got.1).in_use(self.core_reply.inner())?;
         if !self.records.holds(records) {
             return Err("the records were written to".into());
         }
@@ -235,6 +236,7 @@ impl<'c, C: Core> Pair<'c, C> {
     }
 
     fn compare(&self, got: Answer, expected: Answer) -> Result<Answer, String> {
+        got.in_use(&[])?;
         if got != expected {
             return Err(format!("answer {got:?}, expected {expected:?}"));
         }

@@ -151,10 +151,12 @@ fn count(rng: &mut Rng, scene: &Scene) -> u64 {
 
 fn sequence(rng: &mut Rng, scene: &Scene) -> u64 {
     let Scene { first, last, origin, .. } = *scene;
-    match rng.weighted(&[45, 40, 7, 8]) {
+    match rng.weighted(&[45, 20, 20, 7, 8]) {
         0 => rng.between(first, last),
-        1 => *rng.pick(&[first, first + 1, first - 1, last, last + 1, last + 2, last.max(1) - 1]),
-        2 => *rng.pick(&[0, 1, 2, origin, origin - 1, first + (1 << 32), first.max(1 << 32) - (1 << 32)]),
+        // Around both bounds of what may be asked for.
+        1 => rng.between(first.saturating_sub(2), first + 1),
+        2 => rng.between(last - 1, last + 3),
+        3 => *rng.pick(&[0, 1, 2, origin, origin - 1, first + (1 << 32), first.max(1 << 32) - (1 << 32)]),
         _ => *rng.pick(&[LARGEST, LARGEST + 1, LARGEST - 1, 10_000_000_000_000_000_000 - 1, u64::MAX]),
     }
 }

@@ -45,11 +45,26 @@ fn every_answer_is_met(counts: &Counts) {
     for refusal in [0, 7, 8, 9, 10, 11, 13, 15, 17, 18] {
         assert!(counts.requests[refusal] > 0, "request never answers {refusal}");
     }
+    late_and_early_are_met(counts);
+    for polls in [counts.late_polls, counts.polls_in_time] {
+        assert!(polls > counts.calls / RARELY, "{polls} polls from a next number: {counts}");
+    }
     assert!(counts.same > 0 && counts.bodies.iter().all(|&met| met > 0));
     assert!(counts.repeats > 0, "no discrete item repeats its value");
     // No list after an accepted start meets a damaged store.
     assert_eq!((counts.observes[2], counts.stores[2], counts.requests[2]), (0, 0, 0));
     assert_eq!((counts.batches[2], counts.records[2]), (0, 0));
+}
+
+/// One call in so many at least has to be of a kind that a list is about.
+const RARELY: u64 = 400;
+
+/// Numbers around both bounds are asked for often, not now and then.
+fn late_and_early_are_met(counts: &Counts) {
+    for refusal in [17, 18] {
+        let met = counts.requests[refusal];
+        assert!(met > counts.calls / RARELY, "request answers {refusal} only {met} times: {counts}");
+    }
 }
 
 #[test]
@@ -61,6 +76,7 @@ fn damaged_contents_get_the_same_answers() {
     for table in [&counts.observes, &counts.batches, &counts.stores, &counts.requests] {
         assert!(table[1] > 0 && table[2] > 0, "damage is never noticed");
     }
+    late_and_early_are_met(&counts);
     for refusal in [2, 6] {
         assert!(counts.amid[refusal] > 0, "no record is answered {refusal} behind a recorded one");
     }
