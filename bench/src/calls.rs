@@ -214,6 +214,16 @@ pub fn refused_text() -> Request {
     Request::new("a refused text", format!("/sample?path={PATH}&from=7&count=100&to=9"), 8, 0)
 }
 
+/// From the number that was overwritten last.
+pub fn late_sample(stage: &Stage) -> Request {
+    let from = stage.first() - 1;
+    Request::new("a late sample, with a path", format!("/sample?path={PATH}&from={from}&count=100"), 17, 0)
+}
+
+pub fn early_at(stage: &Stage) -> Request {
+    Request::new("an early current?at", format!("/current?at={}", stage.last() + 1), 18, 0)
+}
+
 impl Call for Request {
     fn name(&self) -> &str {
         &self.name

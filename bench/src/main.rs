@@ -77,6 +77,8 @@ fn calls_of_a_full_box(rounds: usize, wanted: &str) -> Vec<Row> {
     rows.add(&calls::named_assets(), &stage);
     rows.add(&calls::all_assets(), &stage);
     rows.add(&calls::refused_text(), &stage);
+    rows.add(&calls::late_sample(&stage), &stage);
+    rows.add(&calls::early_at(&stage), &stage);
     rows.add(&calls::replace(), &stage);
     rows.add(&calls::evict(), &stage);
     rows.add(&calls::append(), &stage);
