@@ -29,7 +29,6 @@ pub fn start_range(first: u64, last: u64, f: u64) -> Verdict
 
 // The range of a current's `at`: first to last.
 pub fn at_range(first: u64, last: u64, number: u64) -> Verdict
-    requires { ⌜ last ≤ maxNumber ⌝ }
     ensures { λ r. ⌜ r ≡ calls.inRange first last number ⌝ }
 {
     in_range(first, last, number)

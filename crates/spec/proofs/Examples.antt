@@ -26,7 +26,9 @@ use Rattle.spec.specs.declared.Value.{Value}
 use Rattle.spec.specs.declared.Value.the-variants.{Unavailable, Sample, Event, Condition}
 use Rattle.spec.specs.declared.Selection.{Selection}
 use Rattle.spec.specs.declared.Selection.the-variants.{Items, NotFound}
-use Rattle.spec.specs.declared.Refusal.the-variants.{Spent, Asset}
+use Rattle.spec.specs.declared.Refusal.the-variants.{Model, Store, Size, Item, Kind, Spent, InvalidUri}
+use Rattle.spec.specs.declared.Refusal.the-variants.{InvalidRequest, Unsupported, TooMany, InvalidXpath}
+use Rattle.spec.specs.declared.Refusal.the-variants.{AssetNotFound, Asset, Space, Batch, Late, Early}
 use Rattle.spec.specs.declared.ObserveAnswer.the-variants.{Recorded, Same, Refused as Unrecorded}
 use Rattle.spec.specs.declared.StoreAnswer.the-variants.{Stored, Refused as Unstored}
 use Rattle.spec.proofs.Opened.{opened}
@@ -50,6 +52,14 @@ abbrev values : List Value
 values =
     Unavailable ∷ Sample (pos 1) ∷ Event 1
     ∷ Condition Normal 0 ∷ Condition Normal 1 ∷ Condition Fault 16777215 ∷ Condition Fault 16777216 ∷ []
+
+-- each refusal's number; 12 is none's
+pub refusal-numbers :
+    map refusalNumber
+    (Model ∷ Store ∷ Size ∷ Item ∷ Kind ∷ Spent ∷ InvalidUri ∷ InvalidRequest ∷ Unsupported ∷ TooMany ∷ InvalidXpath
+    ∷ AssetNotFound ∷ Asset ∷ Space ∷ Batch ∷ Late ∷ Early ∷ [])
+    ≡ 1 ∷ 2 ∷ 3 ∷ 4 ∷ 5 ∷ 6 ∷ 7 ∷ 8 ∷ 9 ∷ 10 ∷ 11 ∷ 13 ∷ 14 ∷ 15 ∷ 16 ∷ 17 ∷ 18 ∷ []
+refusal-numbers = refl
 
 -- answers as words: number, Same, spent; cell, asset
 pub answer-words :

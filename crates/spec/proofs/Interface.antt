@@ -11,7 +11,8 @@ use Rattle.spec.specs.Polls.{Told}
 use Rattle.spec.specs.History.{Call, Typed, AllTyped, Start, History, begins, storesOutputs, referenceAfter}
 use Rattle.spec.proofs.Packing.{decode-fits}
 use Rattle.spec.proofs.History.{Sequence, history, sequence}
-use Rattle.spec.proofs.Never.{AllFree, never-store}
+use Rattle.spec.proofs.Free.{AllFree}
+use Rattle.spec.proofs.Never.{never-store}
 use Rattle.spec.proofs.Late.{late}
 
 -- a call of `mtcore`; the words of the reply or answer buffer at the call are part of it
@@ -52,7 +53,7 @@ module _ (a : Start) (p : State) (accepted : begins a ≡ begun p) (cs : List Ho
   host-sequence = sequence a p accepted (map made cs) (all-typed cs)
 
   -- no answer is 2
-  pub host-never-store : AllFree (storesOutputs a (map made cs))
+  pub host-never-store : AllFree 2 (storesOutputs a (map made cs))
   host-never-store = never-store a p accepted (map made cs) (all-typed cs)
 
   -- a client's next number is late once it is overwritten, and not before

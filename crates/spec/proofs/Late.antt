@@ -1,7 +1,7 @@
 -- A client's next number, document 02, Req 04: behind every list of calls a poll from one that has been overwritten is
 -- answered by 17, and a poll from one that hasn't by neither 17 nor 18; and worked lists of both.
 use mathlib.Core.Path.{_≡_, refl, sym, ap, _∙_, subst}
-use mathlib.Core.Logic.{_≢_}
+use mathlib.Core.Logic.{_≢_, _⊎_, inl, inr}
 use mathlib.Core.Bool.{true, false, false≢true}
 use Prim.Native.Nat.{ℕ, zero, suc, _+_, _^_, _≤_, _<_}
 use native.Mathlib.Nat.{not-suc-le-zero}
@@ -11,7 +11,7 @@ use mathlib.Core.Option.{Option, none, some, Option·none-ne-some, Option·some-
 use lib.Dec.{leb, ltb, lit<, lit≤}
 use lib.IntN.{pos}
 use lib.ListN.{length, getD, take, getElem?, replicate, length-append}
-use borrow.Author.Tests.{ltb-false, lt-ltb, le-ltb, ne-eqb}
+use borrow.Author.Tests.{le-ltb, ne-eqb}
 use Rattle.spec.specs.Bytes.{bytes}
 use Rattle.spec.specs.Text.{Request, Reading, readText}
 use Rattle.spec.specs.Text.Request.{sample, current, currentAt, assets, allAssets}
@@ -19,16 +19,17 @@ use Rattle.spec.specs.Text.Reading.{unread, asked}
 use Rattle.spec.specs.Path.{select}
 use Rattle.spec.specs.Reply.{Replied, refuse, observationWords, written, observationReply}
 use Rattle.spec.specs.Answers.{answerNumber}
-use Rattle.spec.specs.Calls.{first}
+use Rattle.spec.specs.Observations.{last, Head}
+use Rattle.spec.specs.Calls.{first, inRange, startOf}
 use Rattle.spec.specs.Reference
-use Rattle.spec.specs.Reference.{State, lastOf, firstOf, sampleStart, sampleEnd, sampleFor}
-use Rattle.spec.specs.Reference.{currentFor, atFor, selected, replyTo, replyReading}
+use Rattle.spec.specs.Reference.{State, lastOf, firstOf, sampleStart, currentFor}
+use Rattle.spec.specs.Reference.{replyTo, replyReading}
 use Rattle.spec.specs.Reference.Begun.{begun}
 use Rattle.spec.specs.History.{Call, AllTyped, Start, begins, storesBehind, referenceOutput, referenceNext}
 use Rattle.spec.specs.History.{referenceRun, referenceAfter}
 use Rattle.spec.specs.History.Call.{request}
 use Rattle.spec.specs.History.Output.{observed}
-use Rattle.spec.specs.Polls.{Asks, Gave, Polls, Told, givesNext, firstBefore}
+use Rattle.spec.specs.Polls.{Asks, Gave, Polls, Told, givesNext, stateBefore, pathOr, checkedOr}
 use Rattle.spec.specs.declared.Value.the-variants.{Sample}
 use Rattle.spec.specs.declared.Refusal.{Refusal}
 use Rattle.spec.specs.declared.Refusal.the-variants.{TooMany, InvalidXpath, Late, Early}
@@ -37,7 +38,9 @@ use Rattle.spec.specs.declared.Answer.the-variants.{Done, Refused}
 use Rattle.spec.specs.declared.ObserveAnswer.the-variants.{Recorded}
 use Rattle.spec.specs.declared.Selection.{Selection}
 use Rattle.spec.specs.declared.Selection.the-variants.{Items, NotFound}
+use Rattle.spec.specs.declared.Verdict.the-variants.{Fine}
 use Rattle.spec.proofs.Words.{by-cond}
+use Rattle.spec.proofs.Requests.{selected-cases, sample-cases, at-cases}
 use Rattle.spec.proofs.Print.{print, print-reads, plain-short}
 use Rattle.spec.proofs.Agree.{Good, last-is, store-last}
 use Rattle.spec.proofs.Windows.{Later, later-after}
@@ -94,30 +97,20 @@ module _ (p : State) where
       by-cond Next (leb (length (observationWords first last e rows)) (length reply)) _ _ (λ h k q. (lo, hi))
       (λ h. refuse-next _ reply)
 
-  selected-next : (s : Selection) (reply : List ℕ) (f : ℕ → Replied) → ((sel : ℕ) → Next (f sel))
-      → Next (selected s reply f)
-  selected-next NotFound reply f h = refuse-next _ reply
-  selected-next (Items sel) reply f h = h sel
-
   request-next : (model names reply : List ℕ) → p .B ≤ suc (lastOf p) → (q : Request) → givesNext (asked q) ≡ true
       → Next (replyTo model names p reply q)
-  unfolding replyTo sampleFor currentFor atFor
+  unfolding replyTo currentFor
   request-next model names reply l (sample path from count) g =
-      by-cond Next (ltb (p .N) count) _ _ (λ h. refuse-next _ reply)
-      (λ h. selected-next (select model names path) reply _
-      (λ s. by-cond Next (ltb (sampleStart p from) (firstOf p)) _ _ (λ u. refuse-next _ reply)
-      (λ u. by-cond Next (ltb (suc (lastOf p)) (sampleStart p from)) _ _ (λ v. refuse-next _ reply)
-      (λ v.
-      let lo : firstOf p ≤ sampleStart p from = ltb-false _ _ u in
-      let hi : sampleStart p from ≤ suc (lastOf p) = ltb-false _ _ v in
-      rows-next _ _ _ _ reply (omega arith) (omega arith)))))
+      sample-cases Next reply model names p path from count
+      (λ c. refuse-next _ reply) (λ c s. refuse-next _ reply)
+      (λ sel c s h. refuse-next _ reply) (λ sel c s h. refuse-next _ reply)
+      (λ sel c s lo hi. rows-next _ _ _ _ reply (omega arith) (omega arith))
   request-next model names reply l (current path) g =
-      selected-next (select model names path) reply _ (λ s. rows-next _ _ _ _ reply l (omega arith))
+      selected-cases Next reply (select model names path) _ (λ s. refuse-next _ reply)
+      (λ sel s. rows-next _ _ _ _ reply l (omega arith))
   request-next model names reply l (currentAt path number) g =
-      selected-next (select model names path) reply _
-      (λ s. by-cond Next (ltb number (firstOf p)) _ _ (λ u. refuse-next _ reply)
-      (λ u. by-cond Next (ltb (lastOf p) number) _ _ (λ v. refuse-next _ reply)
-      (λ v. rows-next _ _ _ _ reply l (omega arith))))
+      at-cases Next reply model names p path number (refuse-next _ reply) (refuse-next _ reply) (refuse-next _ reply)
+      (λ sel. rows-next _ _ _ _ reply l (omega arith))
   request-next model names reply l (assets ids) g = absurd (false≢true g)
   request-next model names reply l allAssets g = absurd (false≢true g)
 
@@ -128,69 +121,51 @@ module _ (p : State) where
   reading-next model names reply l (unread r) g = absurd (false≢true g)
   reading-next model names reply l (asked q) g = request-next model names reply l q g
 
-  -- ---- a poll from a number that isn't 0
+-- ---- a poll in a state, from a number that isn't 0
 
-  module _ (n : ℕ) (pos : 0 < n) where
-    starts : sampleStart p n ≡ n
-    starts = rw (ne-eqb n 0 (λ e. omega arith))
+module _ (a : Start) (p : State) (low : p .B ≤ suc (lastOf p)) (n : ℕ) (pos : 0 < n) (path : Option (List ℕ))
+    (count : ℕ) (reply : List ℕ) where
+  starts : sampleStart p n ≡ n
+  starts = rw (ne-eqb n 0 (λ e. omega arith))
 
-    abbrev IsLate : Replied → Type 0
-    IsLate r = answerNumber (r .answer) ≢ 10 → answerNumber (r .answer) ≢ 11 → answerNumber (r .answer) ≡ 17
+  poll : Replied
+  poll = replyTo (a .model) (a .names) p reply (sample path n count)
 
-    poll-late : (model names reply : List ℕ) (path : Option (List ℕ)) (count : ℕ) → n < firstOf p
-        → IsLate (replyTo model names p reply (sample path n count))
-    unfolding replyTo sampleFor
-    poll-late model names reply path count l =
-        by-cond IsLate (ltb (p .N) count) _ _ (λ h x y. absurd (x refl))
-        (λ h. go (select model names path))
-      where
-        go : (s : Selection)
-            → IsLate (selected s reply
-            (λ s. sampleFor p s (sampleStart p n) (sampleEnd p (sampleStart p n) count) reply))
-        go NotFound x y = absurd (y refl)
-        go (Items sel) x y = rw (starts, lt-ltb n (firstOf p) l)
+  abbrev Is : ℕ → Replied → Type 0
+  Is k r = answerNumber (r .answer) ≡ checkedOr a p path count k
 
-    abbrev InRange : Replied → Type 0
-    InRange r = (answerNumber (r .answer) ≢ 17) × (answerNumber (r .answer) ≢ 18)
+  poll-late : n < firstOf p → Is 17 poll
+  unfolding poll
+  poll-late l =
+      sample-cases (Is 17) reply (a .model) (a .names) p path n count
+      (λ c. rw c) (λ c s. rw (c, s)) (λ sel c s h. rw (c, s))
+      (λ sel c s h. absurd (omega (arith, starts))) (λ sel c s lo hi. absurd (omega (arith, starts)))
 
-    rows-in : (first last e : ℕ) (rows : List (List ℕ)) (reply : List ℕ)
-        → InRange (observationReply first last e rows reply)
-    unfolding observationReply written
-    rows-in first last e rows reply =
-        by-cond InRange (leb (length (observationWords first last e rows)) (length reply)) _ _
-        (λ h. (λ q. omega arith, λ q. omega arith)) (λ h. (λ q. omega arith, λ q. omega arith))
+  abbrev Fits : Replied → Type 0
+  Fits r = Is 0 r ⊎ Is 15 r
 
-    poll-in : (model names reply : List ℕ) (path : Option (List ℕ)) (count : ℕ) → firstOf p ≤ n → n ≤ suc (lastOf p)
-        → InRange (replyTo model names p reply (sample path n count))
-    unfolding replyTo sampleFor
-    poll-in model names reply path count lo hi =
-        by-cond InRange (ltb (p .N) count) _ _ (λ h. (λ q. omega arith, λ q. omega arith))
-        (λ h. go (select model names path))
-      where
-        go : (s : Selection)
-            → InRange (selected s reply
-            (λ s. sampleFor p s (sampleStart p n) (sampleEnd p (sampleStart p n) count) reply))
-        go NotFound = (λ q. omega arith, λ q. omega arith)
-        go (Items sel) =
-            rw (starts, le-ltb _ _ lo, le-ltb _ _ hi) (rows-in _ _ _ _ reply)
+  poll-in : firstOf p ≤ n → n ≤ suc (lastOf p) → Fits poll
+  unfolding poll observationReply written
+  poll-in lo hi =
+      sample-cases Fits reply (a .model) (a .names) p path n count
+      (λ c. inl (rw c)) (λ c s. inl (rw (c, s)))
+      (λ sel c s h. absurd (omega (arith, starts))) (λ sel c s h. absurd (omega (arith, starts)))
+      (λ sel c s lo hi. by-cond Fits (leb _ (length reply)) _ _ (λ f. inl (rw (c, s))) (λ f. inr (rw (c, s))))
 
 -- ---- every list of calls
 
 module _ (a : Start) (p : State) (accepted : begins a ≡ begun p) (cs : List Call) (typed : AllTyped cs) where
-  before : ℕ → State
-  before i = referenceAfter (a .model) (a .names) p (take i cs)
+  abbrev before : ℕ → State
+  before i = stateBefore a p cs i
 
   good : (i : ℕ) → Good (a .model) (a .names) (before i) (storesBehind a (take i cs) .observations)
-  unfolding before
   good i = behind-good a p accepted (take i cs) (typed-take cs i typed)
 
   -- first of the stores is that of the reference model
-  pub first-is : (i : ℕ) → first (storesBehind a (take i cs) .observations) ≡ firstBefore a p cs i
-  unfolding before
+  pub first-is : (i : ℕ) → first (storesBehind a (take i cs) .observations) ≡ firstOf (stateBefore a p cs i)
   first-is i = let G = good i in rw (G .rep .cap, G .rep .base, store-last (a .model) (a .names) (before i) _ G)
 
   base-is : (i : ℕ) → before i .B ≡ p .B
-  unfolding before
   base-is i = base-after (a .model) (a .names) (take i cs) p
 
   last-at : (i : ℕ) → suc (lastOf (before i)) ≡ p .B + length (before i .H)
@@ -199,7 +174,6 @@ module _ (a : Start) (p : State) (accepted : begins a ≡ begun p) (cs : List Ca
 
   -- last before an earlier call is no higher
   last-rises : (i j : ℕ) → i ≤ j → lastOf (before i) ≤ lastOf (before j)
-  unfolding before
   last-rises i j h =
       let g = later-between a cs p i j h in
       let e = ap length (g .1) ∙ length-append (before i .H) (g .0) in
@@ -211,7 +185,7 @@ module _ (a : Start) (p : State) (accepted : begins a ≡ begun p) (cs : List Ca
     told = replyReading (a .model) (a .names) (before i) (s .buffer) (readText text)
 
     asks-is : (x ≡ told .answer) × (words ≡ told .reply)
-    unfolding before Reference.reply
+    unfolding Reference.reply
     asks-is =
         let r = run-at (a .model) (a .names) cs p i (request text (s .buffer)) (s .call) in
         let o = ap (λ (os : _). getElem? os i) (calls-agree a p accepted cs typed) in
@@ -233,42 +207,100 @@ module _ (a : Start) (p : State) (accepted : begins a ≡ begun p) (cs : List Ca
   unfolding replyReading
   poll-is j n x q = rw (q .from) at (asks-is j (q .text) x (q .words) (q .asks) .0)
 
-  pub told-late : (i j n : ℕ) (x : Answer) → i < j → Gave a cs i n → Polls a cs j n x → n < firstBefore a p cs j
-      → answerNumber x ≢ 10 → answerNumber x ≢ 11 → answerNumber x ≡ 17
-  unfolding before
-  told-late i j n x h g q l y z =
-      let e = poll-is j n x q in
-      let b = next-given i n g in
-      let t = poll-late (before j) n (b .0) (a .model) (a .names) (q .asks .buffer) (q .path) (q .count) l in
-      subst (λ (v : Answer). answerNumber v ≢ 10 → answerNumber v ≢ 11 → answerNumber v ≡ 17) (sym e) t y z
+  base-low : (i : ℕ) → before i .B ≤ suc (lastOf (before i))
+  base-low i = omega (arith, last-at i, base-is i)
 
-  pub told-in : (i j n : ℕ) (x : Answer) → i < j → Gave a cs i n → Polls a cs j n x → firstBefore a p cs j ≤ n
-      → (answerNumber x ≢ 17) × (answerNumber x ≢ 18)
-  unfolding before
+  told-late : (i j n : ℕ) (x : Answer) → i < j → Gave a cs i n → (q : Polls a cs j n x)
+      → n < firstOf (stateBefore a p cs j)
+      → answerNumber x ≡ checkedOr a (stateBefore a p cs j) (q .path) (q .count) 17
+  unfolding poll
+  told-late i j n x h g q l =
+      ap answerNumber (poll-is j n x q)
+      ∙ poll-late a (before j) (base-low j) n (next-given i n g .0) (q .path) (q .count) (q .asks .buffer) l
+
+  told-in : (i j n : ℕ) (x : Answer) → i < j → Gave a cs i n → (q : Polls a cs j n x)
+      → firstOf (stateBefore a p cs j) ≤ n
+      → (answerNumber x ≡ checkedOr a (stateBefore a p cs j) (q .path) (q .count) 0)
+      ⊎ (answerNumber x ≡ checkedOr a (stateBefore a p cs j) (q .path) (q .count) 15)
+  unfolding poll
   told-in i j n x h g q l =
-      let e = poll-is j n x q in
       let b = next-given i n g in
       let hi : n ≤ suc (lastOf (before j)) = omega (arith, b .1, last-rises i j (omega arith)) in
-      let t = poll-in (before j) n (b .0) (a .model) (a .names) (q .asks .buffer) (q .path) (q .count) l hi in
-      subst (λ (v : Answer). (answerNumber v ≢ 17) × (answerNumber v ≢ 18)) (sym e) t
+      subst
+      (λ (v : Answer). (answerNumber v ≡ checkedOr a (before j) (q .path) (q .count) 0)
+      ⊎ (answerNumber v ≡ checkedOr a (before j) (q .path) (q .count) 15))
+      (sym (poll-is j n x q))
+      (poll-in a (before j) (base-low j) n (b .0) (q .path) (q .count) (q .asks .buffer) l hi)
 
 pub late : (a : Start) (p : State) → begins a ≡ begun p → (cs : List Call) → AllTyped cs → Told a p cs
 late a p e cs t = record { late = told-late a p e cs t; kept-up = told-in a p e cs t }
 
--- ---- the plainest poll, `/sample?from=n`: nothing is tested before its number
+-- ---- what follows
+
+-- a number behind the checks is 10, or 11, or that number
+by-three : (P : ℕ → Type 0) (a : Start) (s : State) (path : Option (List ℕ)) (count n : ℕ) → P 10 → P 11 → P n
+    → P (checkedOr a s path count n)
+by-three P a s path count n x y z =
+    by-cond P (ltb (s .N) count) _ _ (λ h. x) (λ h. go (select (a .model) (a .names) path))
+  where
+    go : (w : Selection) → P (pathOr w n)
+    go NotFound = y
+    go (Items sel) = z
+
+abbrev Neither : ℕ → Type 0
+Neither m = (m ≢ 17) × (m ≢ 18)
 
 module _ (a : Start) (p : State) (accepted : begins a ≡ begun p) (cs : List Call) (typed : AllTyped cs) where
+  polls : Told a p cs
+  polls = late a p accepted cs typed
+
+  module _ (i j n : ℕ) (x : Answer) (h : i < j) (g : Gave a cs i n) (q : Polls a cs j n x) where
+    -- 17, if neither 10 nor 11 refuses
+    pub late-unless : n < firstOf (stateBefore a p cs j) → answerNumber x ≢ 10 → answerNumber x ≢ 11
+        → answerNumber x ≡ 17
+    late-unless l =
+        subst (λ (m : ℕ). m ≢ 10 → m ≢ 11 → m ≡ 17) (sym (polls .late i j n x h g q l))
+        (by-three (λ m. m ≢ 10 → m ≢ 11 → m ≡ 17) a (stateBefore a p cs j) (q .path) (q .count) 17
+        (λ y z. absurd (y refl)) (λ y z. absurd (z refl)) (λ y z. refl))
+
+    -- neither 17 nor 18
+    pub kept-up-neither : firstOf (stateBefore a p cs j) ≤ n → Neither (answerNumber x)
+    kept-up-neither l = go (polls .kept-up i j n x h g q l)
+      where
+        from : (k : ℕ) → Neither k → answerNumber x ≡ checkedOr a (stateBefore a p cs j) (q .path) (q .count) k
+            → Neither (answerNumber x)
+        from k z e =
+            subst Neither (sym e)
+            (by-three Neither a (stateBefore a p cs j) (q .path) (q .count) k
+            (λ u. omega arith, λ u. omega arith) (λ u. omega arith, λ u. omega arith) z)
+
+        go : (answerNumber x ≡ checkedOr a (stateBefore a p cs j) (q .path) (q .count) 0)
+            ⊎ (answerNumber x ≡ checkedOr a (stateBefore a p cs j) (q .path) (q .count) 15)
+            → Neither (answerNumber x)
+        go (inl e) = from 0 (λ u. omega arith, λ u. omega arith) e
+        go (inr e) = from 15 (λ u. omega arith, λ u. omega arith) e
+
+  -- of the plainest poll, `/sample?from=n`, nothing is tested before its number
   pub late-plain : (i j n : ℕ) (x : Answer) (words : List ℕ) → i < j → Gave a cs i n
-      → Asks a cs j (print (sample none n 0)) x words → n < firstBefore a p cs j → x ≡ Refused Late
-  unfolding before replyReading replyTo sampleFor select
+      → Asks a cs j (print (sample none n 0)) x words → n < firstOf (stateBefore a p cs j) → answerNumber x ≡ 17
+  unfolding select
   late-plain i j n x words h g q l =
-      let b = next-given a p accepted cs typed i n g in
       let G = good a p accepted cs typed j in
       let top : n < 2 ^ 63 = omega (arith, last-is _ _ _ _ G, G .top) in
       let r = print-reads (sample none n 0) (record { fitting = (tt, top, lit< tt); short = plain-short n top }) in
-      let e = asks-is a p accepted cs typed j _ x words q .0 in
-      let s = before a p accepted cs typed j in
-      rw (r, le-ltb (s .N) 0 (omega arith), starts s n (b .0), lt-ltb n _ l) at e
+      rw (le-ltb (stateBefore a p cs j .N) 0 (omega arith)) at
+      (polls .late i j n x h g
+      (record { text = _; words = words; path = none; count = 0; asks = q; from = r }) l)
+
+-- `from` 0 or absent is never late nor early, whatever the store, if its head is right
+pub first-in-range : (m : ℕ) (st : List ℕ) → Head m st
+    → inRange (first st) (suc (last st)) (startOf (first st) 0) ≡ Fine
+unfolding inRange
+first-in-range m st h =
+    rw (
+      le-ltb (first st) (first st) (omega arith),
+      le-ltb (suc (last st)) (first st) (omega (arith, h .n-pos, h .b-last)),
+    )
 
 -- ---- a client that kept up, slept, and came back: N 4, B 1, first 1, 3 and 4
 
@@ -312,7 +344,7 @@ slept-gave =
 
 pub slept-late :
     Polls (toolStart 1) sleptCalls 7 3 (Refused Late)
-    × (3 < firstBefore (toolStart 1) (toolState 1) sleptCalls 7)
+    × (3 < firstOf (stateBefore (toolStart 1) (toolState 1) sleptCalls 7))
 unfolding opened
 slept-late = (
   record {
@@ -328,7 +360,7 @@ slept-late = (
 
 pub slept-kept :
     Polls (toolStart 1) sleptCalls 5 3 (Done 1)
-    × (firstBefore (toolStart 1) (toolState 1) sleptCalls 5 ≤ 3)
+    × (firstOf (stateBefore (toolStart 1) (toolState 1) sleptCalls 5) ≤ 3)
 unfolding opened
 slept-kept = (
   record {

@@ -16,11 +16,13 @@ pub mod Heads
 pub mod Admission
 pub mod Assets
 pub mod Reply
+pub mod Free
 pub mod Recorded
 pub mod Kept
 pub mod Rows
 pub mod Start
 pub mod Encoding
+pub mod Requests
 pub mod Agree
 pub mod Offers
 pub mod Begin

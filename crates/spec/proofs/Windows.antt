@@ -7,27 +7,25 @@ use native.Mathlib.Nat.{not-suc-le-zero}
 use native.Mathlib.Omega.{arith}
 use mathlib.Core.List.{List, [], _∷_, _++_, map, append-assoc, append-nil}
 use mathlib.Core.Option.{Option}
-use lib.Dec.{leb, ltb, eqb}
+use lib.Dec.{leb, eqb}
 use lib.ListN.{length, drop}
 use lib.Seq.{slice, take-append-le, drop-at}
-use borrow.Author.Tests.{ltb-false}
 use Rattle.spec.specs.Words.{bit}
 use Rattle.spec.specs.Model.{hasChange, modelOk}
 use Rattle.spec.specs.Text.{Reading, readText}
 use Rattle.spec.specs.Text.Request.{sample, current, currentAt, assets, allAssets}
 use Rattle.spec.specs.Text.Reading.{unread, asked}
-use Rattle.spec.specs.Path.{select}
 use Rattle.spec.specs.Reply.{Replied, refuse, numbers, pairs, observationWords, over, written, observationReply}
 use Rattle.spec.specs.Reply.{readRows, rowsOf}
 use Rattle.spec.specs.Reference.{State, Observation, keep, within, matching, triple, lastOf, firstOf}
 use Rattle.spec.specs.Reference.{Offer, observeAnswer, observeNext, offerNext, offersNext, storeAnswer, storeNext}
-use Rattle.spec.specs.Reference.{sampleStart, sampleEnd, sampleFor, selected, replyTo, replyReading}
+use Rattle.spec.specs.Reference.{sampleStart, sampleEnd, replyTo, replyReading}
 use Rattle.spec.specs.Reference
 use Rattle.spec.specs.History.{Call, Start, Window, windowOfReading, windowOfAnswer, windowsOfOutputs}
 use Rattle.spec.specs.History.{windowsOfCall, Meets, lastNext, joined, setSelected, selection, matchingRows}
 use Rattle.spec.specs.History.{offersOf, referenceOutput, referenceNext, referenceAfter}
 use Rattle.spec.specs.History.Call.{observe, batch, storeAsset, request, body}
-use Rattle.spec.specs.declared.Refusal.the-variants.{Space, TooMany, Late, Early}
+use Rattle.spec.specs.declared.Refusal.the-variants.{Space}
 use Rattle.spec.specs.declared.Answer.{Answer}
 use Rattle.spec.specs.declared.Answer.the-variants.{Done, Refused}
 use Rattle.spec.specs.declared.ObserveAnswer.{ObserveAnswer}
@@ -35,9 +33,10 @@ use Rattle.spec.specs.declared.ObserveAnswer.the-variants.{Recorded, Sam
 use Rattle.spec.specs.declared.StoreAnswer.{StoreAnswer}
 use Rattle.spec.specs.declared.StoreAnswer.the-variants.{Stored, Refused as Unstored}
 use Rattle.spec.specs.declared.Selection.{Selection}
-use Rattle.spec.specs.declared.Selection.the-variants.{Items, NotFound}
+use Rattle.spec.specs.declared.Selection.the-variants.{Items}
 use Rattle.spec.proofs.Recorded.{Numbered, within-slice}
 use Rattle.spec.proofs.Reply.{length-numbers}
+use Rattle.spec.proofs.Requests.{sample-cases}
 
 -- ---- parts of H
 
@@ -150,10 +149,12 @@ module _ (a : Start) where
       → Numbered (p .B) (p .H) → Numbered (p .B) (p .H ++ X) → suc (lastOf p) ≡ p .B + length (p .H) → (r : Replied)
       → r ≡ replyTo (a .model) (a .names) p reply (sample path from count)
       → AllTrue (p .H ++ X) (windowOfAnswer (r .answer) (asked (sample path from count)) (r .reply))
-  unfolding replyTo sampleFor
   sample-true path from count p X reply n n' l r hr =
-      subst (λ (x : Replied). AllTrue (p .H ++ X) (windowOfAnswer (x .answer) (asked (sample path from count)) (x .reply))) (sym hr)
-      (go (ltb (p .N) count) (select (a .model) (a .names) path) refl (ltb f (firstOf p)) (ltb (suc (lastOf p)) f) refl)
+      subst Goal (sym hr)
+      (sample-cases Goal reply (a .model) (a .names) p path from count
+      (λ c. tt) (λ c s. tt) (λ sel c s h. tt) (λ sel c s h. tt)
+      (λ sel c s lo hi. reply-true path (firstOf p) (lastOf p) from count e (p .B) (p .H) X reply
+      (omega arith) (omega (arith, l)) n n' (rows (Items sel)) (ap rows (sym s))))
     where
       f : ℕ
       f = sampleStart p from
@@ -161,27 +162,11 @@ module _ (a : Start) where
       e : ℕ
       e = sampleEnd p f count
 
-      rows : ℕ → Replied
-      rows sel = observationReply (firstOf p) (lastOf p) e (map triple (matching sel f e (p .H))) reply
-
-      out : Bool → Selection → Bool → Bool → Replied
-      out t s u v =
-          cond t (refuse TooMany reply)
-          (selected s reply (λ sel. cond u (refuse Late reply) (cond v (refuse Early reply) (rows sel))))
+      rows : Selection → Replied
+      rows s = observationReply (firstOf p) (lastOf p) e (map triple (matching (setSelected s) f e (p .H))) reply
 
       Goal : Replied → Type 0
       Goal x = AllTrue (p .H ++ X) (windowOfAnswer (x .answer) (asked (sample path from count)) (x .reply))
-
-      go : (t : Bool) (s : Selection) → select (a .model) (a .names) path ≡ s → (u v : Bool)
-          → ltb (suc (lastOf p)) f ≡ v → Goal (out t s u v)
-      go true s q u v w = tt
-      go false NotFound q u v w = tt
-      go false (Items sel) q true v w = tt
-      go false (Items sel) q false true w = tt
-      go false (Items sel) q false false w =
-          let h : f ≤ suc (lastOf p) = ltb-false (suc (lastOf p)) f w in
-          reply-true path (firstOf p) (lastOf p) from count e (p .B) (p .H) X reply (omega arith) (omega (arith, l)) n n' (rows sel)
-          (ap (λ (x : Selection). observationReply (firstOf p) (lastOf p) e (map triple (matching (setSelected x) f e (p .H))) reply) (sym q))
 
   -- ---- what the reference model records later
 

@@ -2,14 +2,16 @@
 -- start. The calls are counted from 0.
 use Prim.Native.Nat.{ℕ, _≤_, _<_}
 use mathlib.Core.Path.{_≡_}
-use mathlib.Core.Logic.{_≢_}
-use mathlib.Core.Bool.{Bool, true, false}
+use mathlib.Core.Logic.{_⊎_}
+use mathlib.Core.Bool.{Bool, true, false, cond}
 use mathlib.Core.List.{List, [], _∷_}
 use mathlib.Core.Option.{Option, some}
+use lib.Dec.{ltb}
 use lib.ListN.{getD, take, getElem?}
 use Rattle.spec.specs.Text.{Reading, readText}
 use Rattle.spec.specs.Text.Request.{sample, current, currentAt, assets, allAssets}
 use Rattle.spec.specs.Text.Reading.{unread, asked}
+use Rattle.spec.specs.Path.{select}
 use Rattle.spec.specs.Answers.{answerNumber}
 use Rattle.spec.specs.Reference.{State, firstOf}
 use Rattle.spec.specs.History.{Call, Start, callOutputs, referenceAfter}
@@ -17,6 +19,8 @@ use Rattle.spec.specs.History.Call.{request}
 use Rattle.spec.specs.History.Output.{replied}
 use Rattle.spec.specs.declared.Answer.{Answer}
 use Rattle.spec.specs.declared.Answer.the-variants.{Done}
+use Rattle.spec.specs.declared.Selection.{Selection}
+use Rattle.spec.specs.declared.Selection.the-variants.{Items, NotFound}
 
 -- call i of cs is a request with this text; it is answered x, and `words` is its buffer afterwards
 pub record Asks (a : Start) (cs : List Call) (i : ℕ) (text : List ℕ) (x : Answer) (words : List ℕ) : Type 0 where
@@ -51,18 +55,31 @@ pub record Polls (a : Start) (cs : List Call) (j n : ℕ) (x : Answer) : Type 0 
   pub asks : Asks a cs j text x words
   pub from : readText text ≡ asked (sample path n count)
 
--- 01's first before call j, from the reference model
-abbrev pub firstBefore : Start → State → List Call → ℕ → ℕ
-firstBefore a p cs j = firstOf (referenceAfter (a .model) (a .names) p (take j cs))
+-- the reference model's state before call j
+abbrev pub stateBefore : Start → State → List Call → ℕ → State
+stateBefore a p cs j = referenceAfter (a .model) (a .names) p (take j cs)
+
+-- what comes before a sample's number is looked at: 10 by its count, 11 by its path; n where both pass
+abbrev pub pathOr : Selection → ℕ → ℕ
+pathOr NotFound n = 11
+pathOr (Items selection) n = n
+
+abbrev pub checkedOr : Start → State → Option (List ℕ) → ℕ → ℕ → ℕ
+checkedOr a s path count n = cond (ltb (s .N) count) 10 (pathOr (select (a .model) (a .names) path) n)
 
 -- ---- the statement
 
 -- For a start whose reference model is in state p, and the calls cs behind it: call i gave the next number n, and
--- call j behind it polls from n. `late`: where n is below first by then, the answer is 17, but for 10 and 11, which
--- come before it; of the others that do, 7, 8 and 9 are out because the text was read, 1 and 2 because the start was
--- accepted. `kept-up`: where n is not below first, the answer is neither 17 nor 18.
+-- call j behind it polls from n, in state s. `late`: where n is below first by then, the answer is 17, but for 10 and
+-- 11, which come before it; of the others that do, 7, 8 and 9 are out because the text was read, 1 and 2 because the
+-- start was accepted. `kept-up`: where n is not below first, the poll is accepted or has too small a buffer, again but
+-- for 10 and 11; so it is neither late nor early.
 pub record Told (a : Start) (p : State) (cs : List Call) : Type 0 where
-  pub late : (i j n : ℕ) (x : Answer) → i < j → Gave a cs i n → Polls a cs j n x → n < firstBefore a p cs j
-      → answerNumber x ≢ 10 → answerNumber x ≢ 11 → answerNumber x ≡ 17
-  pub kept-up : (i j n : ℕ) (x : Answer) → i < j → Gave a cs i n → Polls a cs j n x → firstBefore a p cs j ≤ n
-      → (answerNumber x ≢ 17) × (answerNumber x ≢ 18)
+  pub late : (i j n : ℕ) (x : Answer) → i < j → Gave a cs i n → (q : Polls a cs j n x)
+      → let s = stateBefore a p cs j in
+      n < firstOf s → answerNumber x ≡ checkedOr a s (q .path) (q .count) 17
+  pub kept-up : (i j n : ℕ) (x : Answer) → i < j → Gave a cs i n → (q : Polls a cs j n x)
+      → let s = stateBefore a p cs j in
+      firstOf s ≤ n
+      → (answerNumber x ≡ checkedOr a s (q .path) (q .count) 0)
+      ⊎ (answerNumber x ≡ checkedOr a s (q .path) (q .count) 15)
