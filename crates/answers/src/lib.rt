@@ -31,6 +31,7 @@ fn refusal_place(refusal: Refusal) -> u64
         Refusal::Batch => 15,
         Refusal::Late => 16,
         Refusal::Early => 17,
+        Refusal::Crowded => 18,
     }
 }
 

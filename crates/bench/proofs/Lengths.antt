@@ -7,12 +7,12 @@ use native.Mathlib.Omega.{arith}
 use lib.Dec.{leb, ltb, eqb}
 use lib.ListN.{length, length-append}
 use borrow.Author.Tests.{leb-true, eqb-false, eq-eqb, ne-eqb}
-use Rattle.spec.specs.Model.{items, modelOk}
+use Rattle.spec.specs.Model.{items, category, modelOk}
 use Rattle.spec.specs.Text.{Request, Reading, readText}
 use Rattle.spec.specs.Text.Request.{sample, current, currentAt, assets, allAssets}
 use Rattle.spec.specs.Text.Reading.{unread, asked}
 use Rattle.spec.specs.Path.{select}
-use Rattle.spec.specs.Observations.{ringSize, base, last, headOk, ringOk, sampleRows, atRows}
+use Rattle.spec.specs.Observations.{ringSize, base, last, headOk, ringOk, sampleRows, currentOk, currentRows, atOk, atRows}
 use Rattle.spec.specs.Assets.{capacity, used, assetHeadOk, lengthAt, lengthOk}
 use Rattle.spec.specs.Reply.{Replied, refuse, numbers, pairs, lengths, observationWords, assetWords, written}
 use Rattle.spec.specs.Reply.{observationReply, assetReply}
@@ -90,23 +90,29 @@ module _ (m : ℕ) (st b : List ℕ) where
       (end-pos f count (last st)))
       (none Store b))
 
-  current-within : (s : Selection) → Within b (currentReply m st b s)
+  current-within : (cat : ℕ → ℕ) (s : Selection) → Within b (currentReply cat m st b s)
   unfolding currentReply
-  current-within NotFound = none _ b
-  current-within (Items selection) = observations-within _ _ _ _ b (omega arith)
+  current-within cat NotFound = none _ b
+  current-within cat (Items selection) =
+      choice
+      (currentOk cat (ringSize st) m st selection)
+      (observations-within (first st) (last st) (suc (last st)) (currentRows cat (ringSize st) m st selection) b
+      (omega arith))
+      (none Store b)
 
-  at-within : (number : ℕ) (s : Selection) → Within b (atReply m st number b s)
+  at-within : (cat : ℕ → ℕ) (number : ℕ) (s : Selection) → Within b (atReply cat m st number b s)
   unfolding atReply currentUpTo
-  at-within number NotFound = none _ b
-  at-within number (Items selection) =
+  at-within cat number NotFound = none _ b
+  at-within cat number (Items selection) =
       let k = suc number - first st in
       unless-within
       (inRange (first st) (last st) number)
       b
       (choice
-      (ringOk (ringSize st) m (base st) st k (first st))
+      (ringOk (ringSize st) m (base st) st k (first st)
+      && atOk cat (ringSize st) m (base st) st selection k (first st))
       (observations-within (first st) (last st) (suc (last st))
-      (atRows (ringSize st) m (base st) st selection k (first st)) b (omega arith))
+      (atRows cat (ringSize st) m (base st) st selection k (first st)) b (omega arith))
       (none Store b))
 
 cells-within : (bs cells b : List ℕ) → Within b (cellsReply bs cells b)
@@ -121,8 +127,8 @@ module _ (model names st bs b : List ℕ) where
   asked-within (sample path from count) =
       choice (ltb (ringSize st) count) (none TooMany b)
       (sample-within (items model) st b from count (select model names path))
-  asked-within (current path) = current-within (items model) st b (select model names path)
-  asked-within (currentAt path number) = at-within (items model) st b number (select model names path)
+  asked-within (current path) = current-within (items model) st b (category model) (select model names path)
+  asked-within (currentAt path number) = at-within (items model) st b (category model) number (select model names path)
   asked-within (assets ids) =
       choice (allCells (λ i. ltb i (used bs)) (findAll bs ids)) (cells-within bs (findAll bs ids) b)
       (none AssetNotFound b)

@@ -8,7 +8,7 @@ use spec::Answer;
 use spec::Value;
 
 // Its stores: the words for a ring of 3 and 2 items, and the bytes for 1 asset.
-const STORE_WORDS: usize = 22;
+const STORE_WORDS: usize = 106;
 
 const STORE_BYTES: usize = 546;
 

@@ -2,27 +2,27 @@
 -- time.
 use Prim.Native.Nat.{ℕ, suc, _+_, _-_, _*_, _^_, _≤_, _<_}
 use mathlib.Core.Path.{_≡_, sym, ap, _∙_}
-use mathlib.Core.Bool.{Bool, true, false}
+use mathlib.Core.Bool.{Bool, true, false, _&&_}
 use mathlib.Core.List.{List, _++_}
 use native.Mathlib.Numerals.{add-one}
 use native.Mathlib.Omega.{arith}
 use lib.Count.{ones}
 use lib.ListN.{length, take, drop}
-use Rattle.spec.specs.Words.{bit, pickRows}
-use Rattle.spec.specs.Model.{maxItems}
-use Rattle.spec.specs.Observations.{Head, maxRing, ringSize, base, last, currentRows, atRows}
+use Rattle.spec.specs.Observations.{Head, maxRing, ringSize, base, last, ringOk, currentRows, atOk, atRows}
 use Rattle.spec.specs.Reply.{refuse, numbers, pairs, observationWords, observationReply}
 use Rattle.spec.specs.Calls.{first, sampleBetween, currentReply, currentUpTo}
 use Rattle.spec.specs.declared.Refusal.the-variants.{Store, Space}
 use Rattle.spec.specs.declared.Answer.the-variants.{Done, Refused}
 use Rattle.spec.specs.declared.Selection.the-variants.{Items}
-use Rattle.rows.specs.Rows.{itemsOk, sampled, counted, rowsInto}
+use Rattle.rows.specs.Rows.{sampled, counted, rowsInto}
 use Rattle.rows.specs.declared.Counted.the-variants.{Count, Broken}
-use Rattle.snapshots.specs.Snapshots.{seenFrom, noNumbers, heldFrom, heldRows, presentIn}
+use Rattle.latest.specs.Latest.{extraIn}
+use Rattle.snapshots.specs.Snapshots.{heldBy, heldCount}
 use Rattle.reply.specs.Fitted.{Fitted}
 use Rattle.spec.proofs.Reply.{length-numbers, length-pairs}
 use Rattle.rows.proofs.Laws.{counted-count, counted-few, counted-broken}
-use Rattle.snapshots.proofs.Laws.{current-count, at-rows}
+use Rattle.latest.proofs.Laws.{extra-broken, extra-ok, extra-many}
+use Rattle.snapshots.proofs.Places.{held-length}
 use Rattle.reply.proofs.Laws.{short, whole}
 
 -- the numbers from f up to e are at most a ring of them
@@ -80,69 +80,78 @@ module _ (m : ℕ) (st : List ℕ) (selection f e : ℕ) (reply : List ℕ) wher
         let g = counted-count m st selection f e count in
         rw (g .0, ← is, ← il) (rows-whole w (sampled st selection f e) (g .1) y h i)
 
--- ---- current
+-- ---- current: x rows beyond the first of each selected item
 
-module _ (m : ℕ) (st : List ℕ) (selection : ℕ) (reply : List ℕ) {k f l : ℕ} {t : Bool} {x : List ℕ}
-    (few : selection < 2 ^ m) (many : k ≡ ones selection) (is : f ≡ first st)
-    (il : l ≡ last st) (w : Fitted reply (3 * k) k f l (l + 1) t x) where
-  pub current-many : k ≡ length (currentRows (ringSize st) m st selection)
-  current-many = many ∙ current-count (ringSize st) m st selection few
-
-  current-reply : currentReply m st reply (Items selection)
-      ≡ observationReply f l (l + 1) (currentRows (ringSize st) m st selection) reply
+module _ (cat : ℕ → ℕ) (m : ℕ) (st : List ℕ) (selection : ℕ) (reply : List ℕ) where
+  pub current-broken : Broken ≡ extraIn cat m st selection
+      → currentReply cat m st reply (Items selection) ≡ refuse Store reply
   unfolding currentReply
-  current-reply = rw (is, il, add-one (last st))
+  current-broken e = rw (extra-broken cat m st selection e)
 
-  pub current-short : t ≡ false
-      → currentReply m st reply (Items selection) ≡ record { answer = Refused Space; reply = x }
-  current-short h = current-reply ∙ rows-short w (currentRows (ringSize st) m st selection) current-many h
+  module _ {x o : ℕ} (count : Count x ≡ extraIn cat m st selection) (few : selection < 2 ^ m)
+      (is : o ≡ ones selection) where
+    pub current-many : o + x ≡ length (currentRows cat (ringSize st) m st selection)
+    current-many = rw is (extra-many cat m st selection count few)
 
-  pub current-whole : (y : List ℕ) → t ≡ true
-      → y ≡ rowsInto (take (length x - 4) (drop 4 x)) k (currentRows (ringSize st) m st selection)
-      → currentReply m st reply (Items selection)
-      ≡ record { answer = Done k; reply = take 4 x ++ (y ++ drop (length x - 4) (drop 4 x)) }
-  current-whole y h e = current-reply ∙ rows-whole w (currentRows (ringSize st) m st selection) current-many y h e
+    module _ {f l : ℕ} {t : Bool} {y : List ℕ} (ef : f ≡ first st) (el : l ≡ last st)
+        (w : Fitted reply (3 * (o + x)) (o + x) f l (l + 1) t y) where
+      current-reply : currentReply cat m st reply (Items selection)
+          ≡ observationReply f l (l + 1) (currentRows cat (ringSize st) m st selection) reply
+      unfolding currentReply
+      current-reply = rw (extra-ok cat m st selection count, ef, el, add-one (last st))
 
--- ---- current with at: f is first, and `seen` has each item's newest number up to `number`
+      pub current-short : t ≡ false
+          → currentReply cat m st reply (Items selection) ≡ record { answer = Refused Space; reply = y }
+      current-short h = current-reply ∙ rows-short w (currentRows cat (ringSize st) m st selection) current-many h
 
-module _ (m : ℕ) (st : List ℕ) (selection number f : ℕ) (reply : List ℕ) (is : f ≡ first st) {r : Bool}
-    (ok : r ≡ itemsOk m st f (number + 1)) where
-  pub at-broken : r ≡ false → currentUpTo m st selection number reply ≡ refuse Store reply
+      pub current-whole : (z : List ℕ) → t ≡ true
+          → z ≡ rowsInto (take (length y - 4) (drop 4 y)) (o + x) (currentRows cat (ringSize st) m st selection)
+          → currentReply cat m st reply (Items selection)
+          ≡ record { answer = Done (o + x); reply = take 4 y ++ (z ++ drop (length y - 4) (drop 4 y)) }
+      current-whole z h e =
+          current-reply ∙ rows-whole w (currentRows cat (ringSize st) m st selection) current-many z h e
+
+-- ---- current with at: f is first, and `held` are the rows of the numbers from there up to `number`
+
+-- refusal 2's test, and the rows
+abbrev pub upToOk : (ℕ → ℕ) → ℕ → List ℕ → ℕ → ℕ → ℕ → Bool
+upToOk cat m st selection f e =
+    ringOk (ringSize st) m (base st) st (e - f) f && atOk cat (ringSize st) m (base st) st selection (e - f) f
+
+abbrev pub upTo : (ℕ → ℕ) → ℕ → List ℕ → ℕ → ℕ → ℕ → List (List ℕ)
+upTo cat m st selection f e = atRows cat (ringSize st) m (base st) st selection (e - f) f
+
+module _ (cat : ℕ → ℕ) (m : ℕ) (st : List ℕ) (selection number f : ℕ) (reply : List ℕ) (is : f ≡ first st) {r : Bool}
+    (ok : r ≡ upToOk cat m st selection f (number + 1)) where
+  pub at-broken : r ≡ false → currentUpTo cat m st selection number reply ≡ refuse Store reply
   unfolding currentUpTo
   at-broken h = let e = rw (is, add-one number) at (sym ok ∙ h) in rw e
 
   module _ (right : r ≡ true) where
-    at-reply : (l : ℕ) → l ≡ last st → currentUpTo m st selection number reply
-        ≡ observationReply f l (l + 1)
-        (atRows (ringSize st) m (base st) st selection (number + 1 - f) f) reply
+    at-reply : (l : ℕ) → l ≡ last st → currentUpTo cat m st selection number reply
+        ≡ observationReply f l (l + 1) (upTo cat m st selection f (number + 1)) reply
     unfolding currentUpTo
-    at-reply l il =
-        let e = rw (is, add-one number) at (sym ok ∙ right) in rw (is, il, add-one number, add-one (last st), e)
+    at-reply l el =
+        let e = rw (is, add-one number) at (sym ok ∙ right) in rw (is, el, add-one number, add-one (last st), e)
 
-    module _ {seen : List ℕ} {chosen k : ℕ} (items : m ≤ maxItems) (b : 1 ≤ base st) (low : base st ≤ f)
-        (s : r ≡ true → seen ≡ seenFrom st f (number + 1) noNumbers) (c : chosen ≡ presentIn m st seen selection)
-        (many : k ≡ ones chosen) where
-      at-have :
-          (heldRows m st seen chosen ≡ atRows (ringSize st) m (base st) st selection (number + 1 - f) f)
-          × (k ≡ length (atRows (ringSize st) m (base st) st selection (number + 1 - f) f))
-      at-have = at-rows m st selection f (number + 1) items b low seen chosen k (s right) c many
+    module _ {held : List (List ℕ)} {k l : ℕ} {t : Bool} {y : List ℕ}
+        (rows : r ≡ true → held ≡ upTo cat m st selection f (number + 1)) (many : k ≡ length held) (el : l ≡ last st)
+        (w : Fitted reply (3 * k) k f l (l + 1) t y) where
+      as-many : k ≡ length (upTo cat m st selection f (number + 1))
+      as-many = many ∙ ap length (rows right)
 
-      pub at-many : k ≡ length (pickRows (bit chosen) (heldFrom m st seen) m 0)
-      at-many = at-have .1 ∙ ap length (sym (at-have .0))
+      pub at-short : t ≡ false
+          → currentUpTo cat m st selection number reply ≡ record { answer = Refused Space; reply = y }
+      at-short h = at-reply l el ∙ rows-short w (upTo cat m st selection f (number + 1)) as-many h
 
-      module _ {t : Bool} {l : ℕ} {x : List ℕ} (il : l ≡ last st)
-          (w : Fitted reply (3 * k) k f l (l + 1) t x) where
-        pub at-short : t ≡ false
-            → currentUpTo m st selection number reply ≡ record { answer = Refused Space; reply = x }
-        at-short h =
-            at-reply l il
-            ∙ rows-short w (atRows (ringSize st) m (base st) st selection (number + 1 - f) f) (at-have .1) h
+      pub at-whole : (z : List ℕ) → t ≡ true → z ≡ rowsInto (take (length y - 4) (drop 4 y)) k held
+          → currentUpTo cat m st selection number reply
+          ≡ record { answer = Done k; reply = take 4 y ++ (z ++ drop (length y - 4) (drop 4 y)) }
+      at-whole z h e =
+          at-reply l el
+          ∙ rows-whole w (upTo cat m st selection f (number + 1)) as-many z h (rw (rows right) at e)
 
-        pub at-whole : (y : List ℕ) → t ≡ true
-            → y ≡ rowsInto (take (length x - 4) (drop 4 x)) k (pickRows (bit chosen) (heldFrom m st seen) m 0)
-            → currentUpTo m st selection number reply
-            ≡ record { answer = Done k; reply = take 4 x ++ (y ++ drop (length x - 4) (drop 4 x)) }
-        at-whole y h e =
-            at-reply l il
-            ∙ rows-whole w (atRows (ringSize st) m (base st) st selection (number + 1 - f) f) (at-have .1) y h
-            (rw (at-have .0) at e)
+-- as many as the marks hold, where m is the number of items
+module _ {m n : ℕ} (em : m ≡ n) (st : List ℕ) (f : ℕ) (l : List ℕ) (selection k : ℕ) where
+  pub held-many : k ≡ heldCount selection l m 0 → k ≡ length (heldBy n st f l selection)
+  held-many e = rw (← em) (e ∙ sym (held-length m st f l selection))

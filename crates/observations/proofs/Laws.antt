@@ -27,5 +27,5 @@ pub blank-words : (n m b k : ℕ) → k ≡ storeWords n m
     → set (set (set (set (replicate k 0) 0 n) 1 m) 2 b) 3 (b - 1) ≡ blank n m b
 unfolding blank
 blank-words n m b k e =
-    let f : k ≡ suc (suc (suc (suc (2 * n + 6 * m)))) = omega arith in
+    let f : k ≡ suc (suc (suc (suc (2 * n + 48 * m)))) = omega arith in
     rw f

@@ -6,7 +6,7 @@ ghost use lib.ListN.{length, getD, set, replicate};
 ghost use Rattle.spec.specs.Words.{row, put};
 ghost use Rattle.spec.specs.Model.{maxItems};
 ghost use Rattle.spec.specs.Observations.{maxRing, maxNumber, ringSize, base, last, lastAt, ringAt};
-ghost use Rattle.spec.specs.Observations.{latestAt, checkpointAt, latestRow, storeWords, place};
+ghost use Rattle.spec.specs.Observations.{latestAt, checkpointAt, itemRow, storeWords, place};
 ghost use Rattle.spec.specs.Observations.{headOk, Head, blank};
 ghost use Rattle.spec.specs.Calls.{first};
 ghost use Rattle.observations.specs.Ring.{ringTime, ringWord};
@@ -24,6 +24,9 @@ const HEAD_WORDS: usize = 4;
 
 const RING_AT: u64 = HEAD_WORDS as u64;
 
+// A table's words for each item: number, time and packed word of each entry.
+const TABLE_WORDS: u64 = 3 * spec::ENTRIES;
+
 // An observation's number, time and packed word.
 pub struct Row {
     pub number: u64,
@@ -36,7 +39,7 @@ pub fn words_for(n: u64, m: u64) -> u64
     requires { ⌜ (n ≤ maxRing) × (m ≤ maxItems) ⌝ }
     ensures { λ r. ⌜ r ≡ storeWords n m ⌝ }
 {
-    checkpoint_at(n, m) + 3 * m
+    checkpoint_at(n, m) + TABLE_WORDS * m
 }
 
 // Where the latest table begins.
@@ -52,7 +55,7 @@ pub fn checkpoint_at(n: u64, m: u64) -> u64
     requires { ⌜ (n ≤ maxRing) × (m ≤ maxItems) ⌝ }
     ensures { λ r. ⌜ r ≡ checkpointAt n m ⌝ }
 {
-    latest_at(n) + 3 * m
+    latest_at(n) + TABLE_WORDS * m
 }
 
 // How many observations the ring holds at most.
@@ -156,25 +159,30 @@ pub fn ring_word(st: &[u64], n: u64, p: u64) -> u64
     st[(RING_AT + n + p) as usize]
 }
 
-// Item i's row of the table of m items that begins at word t.
-pub fn row_at(st: &[u64], m: u64, t: u64, i: u64) -> Row
-    requires { ⌜ (i < m) × (t + 3 * m ≤ length (now st)) ⌝ }
-    ensures { λ r. ⌜ row (now (st .entry)) t m i 3 ≡ r .number ∷ r .time ∷ r .packed ∷ [] ⌝ }
+// Row k of the table of w rows that begins at word t.
+pub fn row_at(st: &[u64], w: u64, t: u64, k: u64) -> Row
+    requires { ⌜ (k < w) × (t + 3 * w ≤ length (now st)) ⌝ }
+    ensures { λ r. ⌜ row (now (st .entry)) t w k 3 ≡ r .number ∷ r .time ∷ r .packed ∷ [] ⌝ }
 {
     Row {
-        number: st[(t + i) as usize],
-        time: st[(t + m + i) as usize],
-        packed: st[(t + m + m + i) as usize],
+        number: st[(t + k) as usize],
+        time: st[(t + w + k) as usize],
+        packed: st[(t + w + w + k) as usize],
     }
 }
 
-// The packed word of an item's latest observation.
+// The packed word of an item's first latest entry.
 pub fn latest_word(st: &[u64], m: u64, item: u64) -> u64
     requires { ⌜ Head m (now st) ⌝ }
     requires { ⌜ (m ≤ maxItems) × (item < m) ⌝ }
-    ensures { λ r. ⌜ r ≡ getD (latestRow (ringSize (now (st .entry))) m (now (st .entry)) item) 2 0 ⌝ }
+    ensures { λ r. ⌜ r ≡ getD (itemRow (now (st .entry)) (latestAt (ringSize (now (st .entry)))) m item) 2 0 ⌝ }
 {
-    let latest = row_at(st, m, latest_at(ring_size(st, m)), item);
+    let latest = row_at(
+        st,
+        spec::ENTRIES * m,
+        latest_at(ring_size(st, m)),
+        spec::ENTRIES * item,
+    );
     latest.packed
 }
 
@@ -206,12 +214,12 @@ pub fn put_ring(st: &mut [u64], n: u64, p: u64, time: u64, word: u64)
     put_two(st, HEAD_WORDS, n as usize, p as usize, time, word);
 }
 
-// Item i's row of the table of m items that begins at word t takes an observation.
-pub fn put_row(st: &mut [u64], m: u64, t: u64, i: u64, number: u64, time: u64, packed: u64)
-    requires { ⌜ (i < m) × (t + 3 * m ≤ length (now st)) ⌝ }
-    ensures { λ r. ⌜ now (st .exit) ≡ put (now (st .entry)) t m i (number ∷ time ∷ packed ∷ []) ⌝ }
+// Row k of the table of w rows that begins at word t takes an observation.
+pub fn put_row(st: &mut [u64], w: u64, t: u64, k: u64, number: u64, time: u64, packed: u64)
+    requires { ⌜ (k < w) × (t + 3 * w ≤ length (now st)) ⌝ }
+    ensures { λ r. ⌜ now (st .exit) ≡ put (now (st .entry)) t w k (number ∷ time ∷ packed ∷ []) ⌝ }
 {
-    put_three(st, t as usize, m as usize, i as usize, number, time, packed);
+    put_three(st, t as usize, w as usize, k as usize, number, time, packed);
 }
 
 // The newest number becomes s.

@@ -1,20 +1,26 @@
--- Whether an item is asked for Same, and one law to each way out of observing it.
-use Prim.Native.Nat.{ℕ, _≤_, _<_}
-use mathlib.Core.Path.{_≡_, subst}
+-- Whether an item is asked for Same, what is found in an item's latest, and one law to each way out of observing it.
+use Prim.Native.Nat.{ℕ, _*_, _≤_, _<_}
+use mathlib.Core.Path.{_≡_}
 use mathlib.Core.Logic.{_≢_}
 use mathlib.Core.Bool.{Bool, true, false}
 use mathlib.Core.List.{List}
+use native.Mathlib.Omega.{arith}
 use lib.Dec.{eqb}
 use lib.ListN.{getD}
 use borrow.Author.Tests.{lt-ltb, le-ltb, eq-eqb, ne-eqb}
 use Rattle.spec.specs.Model.{items, category, discrete}
 use Rattle.spec.specs.Value.{takes, repeats, pack}
-use Rattle.spec.specs.Observations.{ringSize, latestRow}
-use Rattle.spec.specs.Calls.{roomFor, notObserved, observeBy, observeItem}
+use Rattle.spec.specs.Blocks.{tableRows}
+use Rattle.spec.specs.Observations.{ringSize, latestAt, itemRow, latestOk, repeatsAt, crowdedAt}
+use Rattle.spec.specs.Calls.{Observed, roomFor, notObserved, observeBy, observeItem}
 use Rattle.spec.specs.declared.Value.{Value}
-use Rattle.spec.specs.declared.Refusal.the-variants.{Item, Kind}
+use Rattle.spec.specs.declared.Refusal.the-variants.{Item, Kind, Store, Crowded as Ninth}
 use Rattle.spec.specs.declared.ObserveAnswer.the-variants.{Same}
-use Rattle.spec.proofs.Words.{told}
+use Rattle.spec.proofs.Words.{told, by-test}
+use Rattle.entries.specs.Forms.{judged}
+use Rattle.entries.specs.declared.Judged.{Judged}
+use Rattle.entries.specs.declared.Judged.the-variants.{Broken, Repeated, Crowded, New}
+use Rattle.observing.specs.Found.{found}
 
 module _ (k l w : ℕ) where
   pub asked : k ≢ discrete → {x : ℕ} → x ≡ l → eqb x w ≡ repeats k l w
@@ -24,6 +30,42 @@ module _ (k l w : ℕ) where
   pub not-asked : k ≡ discrete → false ≡ repeats k l w
   unfolding repeats
   not-asked h = rw (eq-eqb _ _ h)
+
+-- ---- what is found
+
+module _ (cat : ℕ → ℕ) (n m : ℕ) (st : List ℕ) (item word : ℕ) where
+  -- a condition item's entries, by the numbers that the accessors gave
+  pub found-entries : {r : Judged} (k t : ℕ) → k ≡ m → t ≡ latestAt n → cat item ≡ 2
+      → r ≡ judged item (tableRows st t (8 * k) 8 (8 * item)) word → r ≡ found cat n m st item word
+  unfolding found judged latestOk repeatsAt crowdedAt
+  found-entries k t ek et c e = rw (e, et, ek, eq-eqb (cat item) 2 c)
+
+  -- another's one word
+  module _ (c : cat item ≢ 2) {s : Bool}
+      (es : s ≡ repeats (cat item) (getD (itemRow st (latestAt n) m item) 2 0) word) where
+    pub found-same : s ≡ true → Repeated ≡ found cat n m st item word
+    unfolding found latestOk repeatsAt crowdedAt
+    found-same g = rw (ne-eqb (cat item) 2 c, told es g)
+
+    pub found-new : s ≡ false → New ≡ found cat n m st item word
+    unfolding found latestOk repeatsAt crowdedAt
+    found-new g = rw (ne-eqb (cat item) 2 c, told es g)
+
+  -- what is new has a latest in its form
+  pub new-latest : found cat n m st item word ≡ New → latestOk cat n m st item ≡ true
+  unfolding found
+  new-latest e =
+      by-test (latestOk cat n m st item) (λ t. t)
+      (λ t. absurd (let b : Broken ≡ New = rw t at e in let z : _≡_ {A = ℕ} 0 1 = (cc) in omega arith))
+
+-- what observe gives for it
+abbrev pub foundGives : Judged → Observed → List ℕ → Observed
+foundGives Broken new st = notObserved Store st
+foundGives Repeated new st = record { answer = Same; observations = st }
+foundGives Crowded new st = notObserved Ninth st
+foundGives New new st = new
+
+-- ---- the ways out
 
 module _ (model st : List ℕ) (item time : ℕ) (v : Value) (m : ℕ) (em : m ≡ items model) where
   pub item-refused : m ≤ item → observeItem model st item time v ≡ notObserved Item st
@@ -38,18 +80,29 @@ module _ (model st : List ℕ) (item time : ℕ) (v : Value) (m : ℕ) (em : m �
     unfolding observeItem
     kind-refused f = rw (← em, lt-ltb _ _ h, kind-told f)
 
-    module _ (f : t ≡ true) (w : ℕ) (ew : w ≡ pack item v)
-        {s : Bool} (es : s ≡ repeats k (getD (latestRow (ringSize st) m st item) 2 0) w) where
-      same-told : {b : Bool} → s ≡ b
-          → repeats (category model item) (getD (latestRow (ringSize st) m st item) 2 0) (pack item v) ≡ b
-      same-told {b} g =
-          subst (λ (x : ℕ). repeats x (getD (latestRow (ringSize st) m st item) 2 0) (pack item v) ≡ b) ek
-          (rw (← ew) (told es g))
+    -- behind the two, what is found decides
+    module _ (f : t ≡ true) where
+      whole : observeItem model st item time v
+          ≡ foundGives (found (category model) (ringSize st) (items model) st item (pack item v))
+          (observeBy (roomFor (category model) (items model) st) (category model) (items model) st item time
+          (pack item v))
+          st
+      unfolding observeItem found
+      whole =
+          rw (lt-ltb item (items model) (omega (arith, em)), kind-told f)
+          (by-test (latestOk (category model) (ringSize st) (items model) st item)
+          (λ a.
+          by-test (repeatsAt (category model) (ringSize st) (items model) st item (pack item v))
+          (λ b. rw (a, b))
+          (λ b.
+          by-test (crowdedAt (category model) (ringSize st) (items model) st item (pack item v))
+          (λ d. rw (a, b, d))
+          (λ d. rw (a, b, d))))
+          (λ a. rw a))
 
-      pub same-answered : s ≡ true → observeItem model st item time v ≡ record { answer = Same; observations = st }
-      unfolding observeItem
-      same-answered g = rw (← em, lt-ltb _ _ h, kind-told f, same-told g)
-
-      pub number-needed : s ≡ false → observeItem model st item time v ≡ observeBy (roomFor m st) m st item time w
-      unfolding observeItem
-      number-needed g = rw (← em, lt-ltb _ _ h, kind-told f, same-told g, ← ew)
+      pub by-found : {r j : Judged} (w : ℕ) → w ≡ pack item v
+          → r ≡ found (category model) (ringSize st) (items model) st item w → r ≡ j
+          → observeItem model st item time v
+          ≡ foundGives j
+          (observeBy (roomFor (category model) (items model) st) (category model) (items model) st item time w) st
+      by-found w ew er g = rw (← told er g, ew) whole

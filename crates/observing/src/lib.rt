@@ -2,11 +2,14 @@
 // latest, or are recorded.
 ghost use mathlib.Core.Path.{_≡_};
 ghost use Prim.Native.Nat.{_≤_, _<_};
+ghost use mathlib.Core.Bool.{true};
 ghost use lib.ListN.{getD};
 ghost use Rattle.spec.specs.Value.{repeats};
-ghost use Rattle.spec.specs.Model.{Sizes, maxItems, items};
-ghost use Rattle.spec.specs.Observations.{Head, ringSize, latestRow};
+ghost use Rattle.spec.specs.Model.{Sizes, maxItems, items, category};
+ghost use Rattle.spec.specs.Observations.{Head, ringSize, latestAt, itemRow, latestOk};
 ghost use Rattle.spec.specs.Calls.{timeOr, roomFor, observeBy, observeItem};
+ghost use Rattle.observing.specs.Found.{found};
+use entries::Judged;
 use spec::ObserveAnswer;
 use spec::Refusal;
 use spec::Value;
@@ -26,7 +29,7 @@ fn repeats(observations: &[u64], m: u64, category: u64, item: u64, word: u64) ->
     requires { ⌜ item < m ⌝ }
     ensures { λ r. ⌜
         (let st = now (observations .entry) in
-        r ≡ repeats category (getD (latestRow (ringSize st) m st item) 2 0) word)
+        r ≡ repeats category (getD (itemRow st (latestAt (ringSize st)) m item) 2 0) word)
         ⌝ }
 {
     if category == spec::DISCRETE {
@@ -35,23 +38,52 @@ fn repeats(observations: &[u64], m: u64, category: u64, item: u64, word: u64) ->
     observations::latest_word(observations, m, item) == word
 }
 
-// One observation more as last + 1, where a number is left and the entry that it overwrites has an item of the model.
-fn record(observations: &mut [u64], m: u64, item: u64, time: u64, word: u64) -> ObserveAnswer
-    requires { ⌜ Head m (now observations) ⌝ }
-    requires { ⌜ m ≤ maxItems ⌝ }
-    requires { ⌜ item < m ⌝ }
+// What stands in the item's latest: a condition item's entries are judged, another's one word is compared.
+fn find(model: &[u32], observations: &[u64], item: u64, word: u64) -> Judged
+    requires { ⌜ Sizes (now model) ⌝ }
+    requires { ⌜ Head (items (now model)) (now observations) ⌝ }
+    requires { ⌜ item < items (now model) ⌝ }
     ensures { λ r. ⌜
         (let st = now (observations .entry) in
-        let x = observeBy (roomFor m st) m st item time word in
+        r ≡ found (category (now (model .entry))) (ringSize st) (items (now (model .entry))) st item word)
+        ⌝ }
+{
+    let m = model::items(model);
+    let category = model::category(model, item);
+    if category == spec::CONDITION {
+        let t = observations::latest_at(observations::ring_size(observations, m));
+        let k = spec::ENTRIES * item;
+        return entries::judge(observations, spec::ENTRIES * m, t, k, item, word);
+    }
+    if repeats(observations, m, category, item, word) {
+        return Judged::Repeated;
+    }
+    Judged::New
+}
+
+// One observation more as last + 1, where a number is left and the entry that it overwrites may go.
+fn record(model: &[u32], observations: &mut [u64], item: u64, time: u64, word: u64) -> ObserveAnswer
+    requires { ⌜ Sizes (now model) ⌝ }
+    requires { ⌜ Head (items (now model)) (now observations) ⌝ }
+    requires { ⌜ item < items (now model) ⌝ }
+    requires { ⌜
+        (let st = now observations in
+        latestOk (category (now model)) (ringSize st) (items (now model)) st item ≡ true)
+        ⌝ }
+    ensures { λ r. ⌜
+        (let st = now (observations .entry) in
+        let cat = category (now (model .entry)) in
+        let m = items (now (model .entry)) in
+        let x = observeBy (roomFor cat m st) cat m st item time word in
         (r ≡ x .answer) × (now (observations .exit) ≡ x .observations))
         ⌝ }
 {
-    let verdict = recording::room_for(observations, m);
+    let verdict = recording::room_for(model, observations);
     match verdict {
         Verdict::Refused(refusal) => ObserveAnswer::Refused(refusal),
         Verdict::Fine => {
-            let number = observations::last(observations, m) + 1;
-            recording::add(observations, m, item, time, word);
+            let number = observations::last(observations, model::items(model)) + 1;
+            recording::add(model, observations, item, time, word);
             ObserveAnswer::Recorded(number)
         }
     }
@@ -72,17 +104,17 @@ pub fn observe_item(
         (r ≡ x .answer) × (now (observations .exit) ≡ x .observations))
         ⌝ }
 {
-    let m = model::items(model);
-    if m <= item {
+    if model::items(model) <= item {
         return ObserveAnswer::Refused(Refusal::Item);
     }
-    let category = model::category(model, item);
-    if !value::takes(category, value) {
+    if !value::takes(model::category(model, item), value) {
         return ObserveAnswer::Refused(Refusal::Kind);
     }
     let word = value::pack(item, value);
-    if repeats(observations, m, category, item, word) {
-        return ObserveAnswer::Same;
+    match find(model, observations, item, word) {
+        Judged::Broken => ObserveAnswer::Refused(Refusal::Store),
+        Judged::Repeated => ObserveAnswer::Same,
+        Judged::Crowded => ObserveAnswer::Refused(Refusal::Crowded),
+        Judged::New => record(model, observations, item, time, word),
     }
-    record(observations, m, item, time, word)
 }

@@ -1,51 +1,131 @@
--- One law to each branch of the room for a number; eviction and addition by their writes; start's turns.
-use Prim.Native.Nat.{ℕ, suc, _+_, _-_, _≤_, _<_}
-use mathlib.Core.Path.{_≡_, refl, _∙_}
-use mathlib.Core.Bool.{true, false, cond}
+-- A table that takes an observation; the entry about to be overwritten, by its packed word, and one law to each branch
+-- of the room for a number; eviction and addition by their writes; start's turns.
+use Prim.Native.Nat.{ℕ, suc, _+_, _-_, _*_, _^_, _≤_, _<_}
+use mathlib.Core.Path.{_≡_, refl, sym, _∙_}
+use mathlib.Core.Logic.{_≢_, inl, inr}
+use mathlib.Core.Bool.{Bool, true, false, cond}
 use mathlib.Core.List.{List, [], _∷_, _++_}
 use native.Mathlib.Omega.{arith}
 use native.Mathlib.Nat.{sub-zero, add-zero}
 use native.Mathlib.Numerals.{add-one}
 use lib.Dec.{leb, ltb}
 use lib.ListN.{length, set, length-append}
-use borrow.Author.Tests.{le-leb, lt-leb, ltb-true}
+use borrow.Author.Tests.{le-leb, lt-leb, lt-ltb, le-ltb, eq-eqb, ne-eqb}
 use Rattle.spec.specs.Words.{row, put}
 use Rattle.spec.specs.Model.{maxItems}
 use Rattle.spec.specs.Value.{itemOf, pack}
+use Rattle.spec.specs.Blocks.{tableRows, putRows, padded}
+use Rattle.spec.specs.Entries.{step, usedRows, formOk}
 use Rattle.spec.specs.Observations.{maxNumber, ringSize, base, last, lastAt, ringAt, latestAt, checkpointAt, place}
-use Rattle.spec.specs.Observations.{Head, itemAt, evict, evictOk, add, blank, addAll, startStore}
+use Rattle.spec.specs.Observations.{Head, itemAt, itemRows, isCondition, overwrites, overwritten, setNewest, evict}
+use Rattle.spec.specs.Observations.{evictOk, add, blank, addAll, startStore, latestOk}
 use Rattle.spec.specs.Calls.{roomFor}
 use Rattle.spec.specs.Reference.{Observation}
 use Rattle.spec.specs.declared.Refusal.the-variants.{Spent, Store}
 use Rattle.spec.specs.declared.Value.the-variants.{Unavailable}
 use Rattle.spec.specs.declared.Verdict.the-variants.{Fine, Refused}
+use Rattle.spec.proofs.Words.{and-left, and-right, by-cond}
+use Rattle.spec.proofs.Tables.{length-put, row-put-apart}
+use Rattle.spec.proofs.Blocks.{table-rows-ext, table-rows-apart}
+use Rattle.spec.proofs.Steps.{step-length-word, form-less}
+use Rattle.spec.proofs.Added.{rowsFor, rows-for-three, rows-for-few, length-evict, evict-item}
 use Rattle.spec.proofs.Heads.{room-for}
-use Rattle.spec.proofs.Kept.{Rep, next, evict-ok, add-rep}
+use Rattle.spec.proofs.Kept.{Rep, next, right, few-all, add-rep}
+use Rattle.spec.proofs.Rows.{form-ok, evict-ok}
 use Rattle.spec.proofs.Start.{blank-rep}
 use Rattle.observations.specs.Ring.{ringTime, ringWord}
-use Rattle.recording.specs.Writing.{Overwriting, Sizes}
+use Rattle.entries.specs.Forms.{Table, takesOne}
+use Rattle.recording.specs.Writing.{Overwriting, InTable, Starting, overwritable}
 
--- ---- the entry about to be overwritten, at place p with packed word w and item i, and the room for a number
+-- ---- a table that takes an observation; k is the number of items that the code has
 
-module _ (n m b s p w i : ℕ) (st : List ℕ) (hp : p ≡ place n b s) (hw : w ≡ ringWord st n p) (hi : i ≡ itemOf w) where
-  pub item-there : i ≡ itemAt n b st s
-  item-there = rw (hi, hw, hp)
+module _ (cat : ℕ → ℕ) (st : List ℕ) (t m k item : ℕ) (em : k ≡ m) where
+  -- what the step of a condition item's entries asks
+  pub step-fits : InTable cat m t item st → m ≤ maxItems → cat item ≡ 2
+      → Table (8 * k) t (8 * item) (length st)
+      × ((item < 2 ^ 24) × (formOk item 0 (tableRows st t (8 * k) 8 (8 * item)) ≡ true))
+  step-fits i h c =
+      rw em (
+        record { inside = omega (arith, i .low); room = omega (arith, i .room) },
+        (omega (arith, i .low), i .form (eq-eqb (cat item) 2 c)),
+      )
 
-  pub item-below : evictOk n m b s st ≡ true → n ≤ s - b → i < m
-  unfolding evictOk
-  item-below ok u = rw item-there (ltb-true _ _ (rw (le-leb _ _ u) at ok))
+  module _ (r e : List ℕ) where
+    pub newest-entries : cat item ≡ 2
+        → e ≡ putRows st t (8 * k) (8 * item) (padded 8 (step item (usedRows (tableRows st t (8 * k) 8 (8 * item))) r))
+        → e ≡ setNewest cat st t m item r
+    newest-entries c q = rw (eq-eqb (cat item) 2 c, ← em) q
 
-  pub evicted : (e : List ℕ) (t : ℕ) → n ≤ s - b → t ≡ ringTime st n p
-      → e ≡ put st (checkpointAt n m) m i ((s - n) ∷ t ∷ w ∷ []) → e ≡ evict n m b s st
-  unfolding evict row
-  evicted e t u ht q = rw (le-leb _ _ u, q, ht, hi, hw, hp)
+    pub newest-row : cat item ≢ 2 → e ≡ put st t (8 * k) (8 * item) r → e ≡ setNewest cat st t m item r
+    unfolding putRows
+    newest-row c q = rw (ne-eqb (cat item) 2 c, ← em) q
 
-pub not-evicted : (n m b s : ℕ) (st : List ℕ) → s - b < n → st ≡ evict n m b s st
+-- ---- the test of a packed word
+
+module _ (cat : ℕ → ℕ) (n m : ℕ) (st : List ℕ) (word i : ℕ) (hi : i ≡ itemOf word) where
+  pub over-none : m ≤ i → false ≡ overwritable cat n m st word
+  unfolding overwritable
+  over-none h = rw (← hi, le-ltb i m h)
+
+  module _ (l : i < m) where
+    pub over-plain : cat i ≢ 2 → true ≡ overwritable cat n m st word
+    unfolding overwritable
+    over-plain h = rw (← hi, lt-ltb i m l, ne-eqb (cat i) 2 h)
+
+    pub over-entries : {r : Bool} (k t : ℕ) → k ≡ m → t ≡ checkpointAt n k → cat i ≡ 2
+        → r ≡ takesOne i (tableRows st t (8 * k) 8 (8 * i)) word → r ≡ overwritable cat n m st word
+    unfolding overwritable takesOne
+    over-entries k t ek et h e = rw (e, et, ek, ← hi, lt-ltb i m l, eq-eqb (cat i) 2 h)
+
+  -- what it says of a condition item's checkpoint
+  pub over-form : overwritable cat n m st word ≡ true → isCondition cat i ≡ true
+      → formOk i 0 (itemRows st (checkpointAt n m) m i) ≡ true
+  unfolding overwritable
+  over-form ok c =
+      let a = and-right (ltb i m) _ (rw (← hi) at ok) in
+      and-left (formOk i 0 (itemRows st (checkpointAt n m) m i)) _ (rw c at a)
+
+-- ---- the entry about to be overwritten, at place p with packed word w
+
+module _ (cat : ℕ → ℕ) (n m b s p w : ℕ) (st : List ℕ) (hp : p ≡ place n b s) (hw : w ≡ ringWord st n p) where
+  -- its packed word decides
+  pub by-word : n ≤ s - b → evictOk cat n m b s st ≡ overwritable cat n m st w
+  unfolding evictOk overwritable row
+  by-word u =
+      rw (
+        le-leb _ _ u,
+        step-length-word (itemAt n b st s) (overwritten n b st s) (0 ∷ 0 ∷ w ∷ []) (rw (hw, hp))
+            (usedRows (itemRows st (checkpointAt n m) m (itemAt n b st s))),
+        hw,
+        hp,
+      )
+
+  module _ (i : ℕ) (hi : i ≡ itemOf w) (u : n ≤ s - b) where
+    item-there : i ≡ itemAt n b st s
+    item-there = rw (hi, hw, hp)
+
+    -- what its item's checkpoint asks
+    pub goes-in : Overwriting cat n m b s st → m ≤ maxItems → InTable cat m (checkpointAt n m) i st
+    goes-in o k =
+        record {
+          low = rw item-there (evict-item cat n m b s st (o .ok) (le-leb _ _ u));
+          room = omega (arith, o .len);
+          form = over-form cat n m st w i hi (sym (by-word u) ∙ o .ok);
+        }
+
+    pub evicted : (e : List ℕ) (t : ℕ) → t ≡ ringTime st n p
+        → e ≡ setNewest cat st (checkpointAt n m) m i ((s - n) ∷ t ∷ w ∷ []) → e ≡ evict cat n m b s st
+    unfolding evict row
+    evicted e t ht q = rw (le-leb _ _ u, q, ht, hi, hw, hp)
+
+pub not-evicted : (cat : ℕ → ℕ) (n m b s : ℕ) (st : List ℕ) → s - b < n → st ≡ evict cat n m b s st
 unfolding evict
-not-evicted n m b s st u = rw (lt-leb _ _ u)
+not-evicted cat n m b s st u = rw (lt-leb _ _ u)
 
-module _ (st : List ℕ) (m n b l : ℕ) (hn : n ≡ ringSize st) (hb : b ≡ base st) (hl : l ≡ last st) where
-  pub room-spent : maxNumber ≤ l → Refused Spent ≡ roomFor m st
+-- ---- the room for a number
+
+module _ (cat : ℕ → ℕ) (st : List ℕ) (m n b l : ℕ) (hn : n ≡ ringSize st) (hb : b ≡ base st) (hl : l ≡ last st) where
+  pub room-spent : maxNumber ≤ l → Refused Spent ≡ roomFor cat m st
   unfolding roomFor
   room-spent h = rw (le-leb maxNumber (last st) (omega arith))
 
@@ -53,105 +133,154 @@ module _ (st : List ℕ) (m n b l : ℕ) (hn : n ≡ ringSize st) (hb : b ≡ ba
     left : leb maxNumber (last st) ≡ false
     left = lt-leb maxNumber (last st) (omega arith)
 
-    pub room-unused : l + 1 - b < n → Fine ≡ roomFor m st
+    pub room-unused : l + 1 - b < n → Fine ≡ roomFor cat m st
     unfolding roomFor evictOk
     room-unused u = rw (left, lt-leb (ringSize st) (suc (last st) - base st) (omega arith))
 
-    module _ (p w i : ℕ) (u : n ≤ l + 1 - b) (hp : p ≡ place n b (l + 1)) (hw : w ≡ ringWord st n p)
-        (hi : i ≡ itemOf w) where
-      there : i ≡ itemAt (ringSize st) (base st) st (suc (last st))
-      there = rw (hn, hb, hl, add-one (last st)) at (item-there n m b (l + 1) p w i st hp hw hi)
-
-      over : leb (ringSize st) (suc (last st) - base st) ≡ true
-      over = le-leb (ringSize st) (suc (last st) - base st) (omega arith)
-
-      -- its item decides
-      pub room-entry : cond (ltb i m) Fine (Refused Store) ≡ roomFor m st
-      unfolding roomFor evictOk
-      room-entry = rw (left, over, there)
+    -- where the number overwrites an entry, that entry's packed word decides
+    pub room-entry : (p w : ℕ) → n ≤ l + 1 - b → p ≡ place n b (l + 1) → w ≡ ringWord st n p
+        → cond (overwritable cat n m st w) Fine (Refused Store) ≡ roomFor cat m st
+    unfolding roomFor
+    room-entry p w u hp hw =
+        let e = by-word cat n m b (l + 1) p w st hp hw u in
+        rw (left, ← e, hn, hb, hl, add-one (last st))
 
 -- ---- adding
 
 -- a head with room for a number: the next one may be written
-pub next-fits : {m n b l : ℕ} {st : List ℕ} → n ≡ ringSize st → b ≡ base st → l ≡ last st → m ≤ maxItems → Head m st
-    → roomFor m st ≡ Fine → Overwriting n m b (l + 1) st
-next-fits {m} {n} {b} {l} {st} en eb el k h e =
+pub next-fits : {cat : ℕ → ℕ} {m n b l : ℕ} {st : List ℕ} → n ≡ ringSize st → b ≡ base st → l ≡ last st → Head m st
+    → roomFor cat m st ≡ Fine → Overwriting cat n m b (l + 1) st
+next-fits {cat} {m} {n} {b} {l} {st} en eb el h e =
     record {
       n-pos = omega (arith, h .n-pos);
       n-max = omega (arith, h .n-max);
-      m-max = k;
       b-s = omega (arith, h .b-last);
       len = rw en (h .len);
-      ok = rw (en, eb, el, add-one (last st)) (room-for m st e .1);
+      ok = rw (en, eb, el, add-one (last st)) (room-for cat m st e .1);
     }
 
+-- an item whose latest has its form
+pub latest-form : (cat : ℕ → ℕ) (n m : ℕ) (st : List ℕ) (i : ℕ) → latestOk cat n m st i ≡ true
+    → isCondition cat i ≡ true → formOk i 0 (itemRows st (latestAt n) m i) ≡ true
+unfolding latestOk
+latest-form cat n m st i ok c = form-less i (itemRows st (latestAt n) m i) (rw c at ok)
+
+module _ {cat : ℕ → ℕ} {n m b s item : ℕ} {st : List ℕ} (o : Overwriting cat n m b s st) (k : m ≤ maxItems) where
+  pub latest-in : item < m → (isCondition cat item ≡ true → formOk item 0 (itemRows st (latestAt n) m item) ≡ true)
+      → InTable cat m (latestAt n) item st
+  latest-in l f = record { low = l; room = omega (arith, o .len); form = f }
+
+-- the latest stays through the eviction and the ring's entry
+module _ (cat : ℕ → ℕ) (n m b s : ℕ) (st : List ℕ) (o : Overwriting cat n m b s st) where
+  evict-latest : (i : ℕ) → i < m
+      → itemRows (evict cat n m b s st) (latestAt n) m i ≡ itemRows st (latestAt n) m i
+  unfolding evict row
+  evict-latest i l =
+      by-cond (λ (x : List ℕ). itemRows x (latestAt n) m i ≡ itemRows st (latestAt n) m i) (overwrites n b s) _ _
+      (λ e.
+      let j = itemAt n b st s in
+      let r = overwritten n b st s in
+      let low = evict-item cat n m b s st (o .ok) e in
+      table-rows-apart (rowsFor cat st (checkpointAt n m) m j r) st (checkpointAt n m) (8 * m) (8 * j)
+      (rows-for-three cat st (checkpointAt n m) m j r refl)
+      (omega (arith, rows-for-few cat st (checkpointAt n m) m j r))
+      (latestAt n) (8 * m) 8 (8 * i) (omega arith) (inl (omega arith)))
+      (λ e. refl)
+
+  put-latest : (x : List ℕ) (p time word i : ℕ) → p < n → i < m
+      → itemRows (put x ringAt n p (time ∷ word ∷ [])) (latestAt n) m i ≡ itemRows x (latestAt n) m i
+  put-latest x p time word i h l =
+      table-rows-ext _ x (latestAt n) (8 * m) 8 (8 * i)
+      (λ j f g.
+      row-put-apart (time ∷ word ∷ []) x ringAt n p (latestAt n) (8 * m) j 3 h (omega arith) (inr (omega arith)))
+
+  pub still-in : (p time word item t : ℕ) (x y : List ℕ) → x ≡ evict cat n m b s st → p < n
+      → y ≡ put x ringAt n p (time ∷ word ∷ []) → t ≡ latestAt n → InTable cat m (latestAt n) item st
+      → InTable cat m t item y
+  still-in p time word item t x y ex hp ey et i =
+      let len : length y ≡ length st = rw (ey, ex) (length-put _ _ ringAt n p ∙ length-evict cat n m b s st) in
+      rw et
+      (record {
+        low = i .low;
+        room = omega (arith, len, i .room);
+        form =
+            λ c.
+            rw (ey, put-latest x p time word item hp (i .low), ex, evict-latest item (i .low)) (i .form c);
+      })
+
 -- the writes behind an eviction are an addition
-pub written : (n m b s item time word p t : ℕ) (st x y z v : List ℕ) → x ≡ evict n m b s st → p ≡ place n b s
-    → y ≡ put x ringAt n p (time ∷ word ∷ []) → t ≡ latestAt n → z ≡ put y t m item (s ∷ time ∷ word ∷ [])
-    → v ≡ set z lastAt s → v ≡ add n m b s item time word st
+pub written : (cat : ℕ → ℕ) (n m b s item time word p t : ℕ) (st x y z v : List ℕ) → x ≡ evict cat n m b s st
+    → p ≡ place n b s → y ≡ put x ringAt n p (time ∷ word ∷ []) → t ≡ latestAt n
+    → z ≡ setNewest cat y t m item (s ∷ time ∷ word ∷ []) → v ≡ set z lastAt s → v ≡ add cat n m b s item time word st
 unfolding add
-written n m b s item time word p t st x y z v ex ep ey et ez ev = rw (ev, ez, et, ey, ex, ep)
+written cat n m b s item time word p t st x y z v ex ep ey et ez ev = rw (ev, ez, et, ey, ex, ep)
 
 -- ---- start
 
 -- start's loop: k items are added, as the reference model holds them, and the rest makes the whole
-pub record Filling (n m b host k : ℕ) (st : List ℕ) : Type 0 where
+pub record Filling (cat : ℕ → ℕ) (n m b host k : ℕ) (st : List ℕ) : Type 0 where
   pub below : k ≤ m
   pub held : List Observation
   pub count : length held ≡ k
-  pub rep : Rep n m b held st
-  pub rest : addAll n m b host (m - k) (b + k) k st ≡ startStore n m b host
+  pub rep : Rep cat n m b held st
+  pub rest : addAll cat n m b host (m - k) (b + k) k st ≡ startStore cat n m b host
 
-pub filling-none : (n m b host : ℕ) → Sizes n m b → Filling n m b host 0 (blank n m b)
+pub filling-none : (cat : ℕ → ℕ) (n m b host : ℕ) → Starting n m b → Filling cat n m b host 0 (blank n m b)
 unfolding startStore
-filling-none n m b host s =
+filling-none cat n m b host s =
     record {
       below = omega arith;
       held = [];
       count = refl;
-      rep = blank-rep n m b (s .n-pos) (s .b-pos);
+      rep = blank-rep cat n m b (s .n-pos) (s .b-pos);
       rest = rw (sub-zero, add-zero b);
     }
 
-one-more : (n m b host k : ℕ) (st : List ℕ) → k < m
-    → addAll n m b host (m - (k + 1)) (b + (k + 1)) (k + 1) (add n m b (b + k) k host (pack k Unavailable) st)
-    ≡ addAll n m b host (m - k) (b + k) k st
+one-more : (cat : ℕ → ℕ) (n m b host k : ℕ) (st : List ℕ) → k < m
+    → addAll cat n m b host (m - (k + 1)) (b + (k + 1)) (k + 1) (add cat n m b (b + k) k host (pack k Unavailable) st)
+    ≡ addAll cat n m b host (m - k) (b + k) k st
 unfolding addAll
-one-more n m b host k st l =
+one-more cat n m b host k st l =
     let e : m - k ≡ suc (m - (k + 1)) = omega arith in
     let f : b + (k + 1) ≡ suc (b + k) = omega arith in
     rw (e, f, add-one k)
 
-module _ {n m b host k : ℕ} {st : List ℕ} (f : Filling n m b host k st) where
-  at-count : evictOk n m b (b + length (f .held)) st ≡ true
-  at-count = evict-ok n m b (f .held) st (f .rep)
+module _ {cat : ℕ → ℕ} {n m b host k : ℕ} {st : List ℕ} (f : Filling cat n m b host k st) where
+  at-count : evictOk cat n m b (b + length (f .held)) st ≡ true
+  at-count = evict-ok cat n m b (f .held) st (f .rep)
 
   -- what a turn's number asks, and what it gives
-  pub filling-fits : Sizes n m b → k < m → Overwriting n m b (b + k) st
-  filling-fits s l =
+  pub filling-fits : Starting n m b → Overwriting cat n m b (b + k) st
+  filling-fits s =
       record {
         n-pos = s .n-pos;
         n-max = s .n-max;
-        m-max = s .m-max;
         b-s = omega arith;
         len = f .rep .words;
         ok = rw (f .count) at at-count;
       }
 
-  pub filling-more : {e : List ℕ} {w : ℕ} → k < m → w ≡ pack k Unavailable → e ≡ add n m b (b + k) k host w st
-      → Filling n m b host (k + 1) e
+  pub filling-in : Starting n m b → m ≤ maxItems → k < m → InTable cat m (latestAt n) k st
+  filling-in s h l =
+      latest-in (filling-fits s) h l
+      (λ c.
+      form-ok cat (latestAt n) m (f .held) st (f .rep .latest) (right cat n m b (f .held) st (f .rep)) k l c
+      (few-all cat n m b (f .held) st (f .rep) k c) 0 (omega arith))
+
+  pub filling-more : {e : List ℕ} {w : ℕ} → k < m → w ≡ pack k Unavailable → e ≡ add cat n m b (b + k) k host w st
+      → Filling cat n m b host (k + 1) e
   filling-more {e} {w} l ew q =
-      let a : e ≡ add n m b (b + length (f .held)) k host (pack k Unavailable) st = q ∙ rw (ew, f .count) in
+      let a : e ≡ add cat n m b (b + length (f .held)) k host (pack k Unavailable) st = q ∙ rw (ew, f .count) in
       let o = next b (f .held) k host Unavailable in
       record {
         below = omega arith;
         held = f .held ++ (o ∷ []);
         count = length-append (f .held) (o ∷ []) ∙ omega (arith, f .count);
-        rep = rw a (add-rep n m b (f .held) st k host Unavailable (f .rep) l tt);
-        rest = rw (a, f .count) (one-more n m b host k st l ∙ f .rest);
+        rep = rw a (add-rep cat n m b (f .held) st k host Unavailable (f .rep) l tt (λ c. refl));
+        rest = rw (a, f .count) (one-more cat n m b host k st l ∙ f .rest);
       }
 
-  pub filling-all : m ≤ k → st ≡ startStore n m b host
+  pub filling-all : m ≤ k → st ≡ startStore cat n m b host
   unfolding addAll
   filling-all l =
       let e : m - k ≡ 0 = omega (arith, f .below) in

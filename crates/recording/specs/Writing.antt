@@ -1,26 +1,41 @@
--- What a number that is written and a start need of the store.
-use Prim.Native.Nat.{ℕ, suc, _+_, _≤_}
+-- What a number that is written, a table that takes an observation and a start need of the store.
+use Prim.Native.Nat.{ℕ, suc, _+_, _*_, _≤_, _<_}
 use mathlib.Core.Path.{_≡_}
-use mathlib.Core.Bool.{true}
-use mathlib.Core.List.{List}
+use mathlib.Core.Bool.{Bool, true, _&&_, _||_, not}
+use mathlib.Core.List.{List, [], _∷_}
+use lib.Dec.{leb, ltb}
 use lib.ListN.{length}
-use Rattle.spec.specs.Model.{maxItems}
-use Rattle.spec.specs.Observations.{maxRing, maxNumber, storeWords, evictOk}
+use Rattle.spec.specs.Value.{itemOf}
+use Rattle.spec.specs.Entries.{formOk}
+use Rattle.spec.specs.Observations.{maxRing, maxNumber, storeWords, checkpointAt, itemRows, isCondition, stepped}
+use Rattle.spec.specs.Observations.{evictOk}
 
--- number s may be added: what it overwrites, if anything, has an item below m
-pub record Overwriting (n m b s : ℕ) (st : List ℕ) : Type 0 where
+-- number s may be added: what it overwrites, if anything, has an item below m whose checkpoint takes it
+pub record Overwriting (cat : ℕ → ℕ) (n m b s : ℕ) (st : List ℕ) : Type 0 where
   pub n-pos : 1 ≤ n
   pub n-max : n ≤ maxRing
-  pub m-max : m ≤ maxItems
   pub b-s : b ≤ s
   pub len : length st ≡ storeWords n m
-  pub ok : evictOk n m b s st ≡ true
+  pub ok : evictOk cat n m b s st ≡ true
+
+-- an item's rows of the table at word t: a condition item's have their written form
+pub record InTable (cat : ℕ → ℕ) (m t item : ℕ) (st : List ℕ) : Type 0 where
+  pub low : item < m
+  pub room : t + 24 * m ≤ length st
+  pub form : isCondition cat item ≡ true → formOk item 0 (itemRows st t m item) ≡ true
+
+-- refusal 2's test of the entry about to be overwritten, by its packed word
+unfoldable pub overwritable : (ℕ → ℕ) → ℕ → ℕ → List ℕ → ℕ → Bool
+overwritable cat n m st word =
+    let i = itemOf word in
+    ltb i m
+    && (not (isCondition cat i)
+    || (formOk i 0 (itemRows st (checkpointAt n m) m i)
+    && leb (length (stepped st (checkpointAt n m) m i (0 ∷ 0 ∷ word ∷ []))) 8))
 
 -- the sizes and the first number that start accepts
-pub record Sizes (n m b : ℕ) : Type 0 where
+pub record Starting (n m b : ℕ) : Type 0 where
   pub n-pos : 1 ≤ n
   pub n-max : n ≤ maxRing
-  pub m-pos : 1 ≤ m
-  pub m-max : m ≤ maxItems
   pub b-pos : 1 ≤ b
   pub b-max : b + m ≤ suc maxNumber

@@ -117,11 +117,11 @@ module _ {st : List ℕ} {m selection f e c s q : ℕ} (v : Counting st m select
 -- ---- counting in two parts
 
 -- what a count says, where t is whether all items are of the model and n the number of rows
-count-is : (t : Bool) (c n : ℕ) → Count c ≡ cond t (Count n) Broken → (t ≡ true) × (c ≡ n)
+pub count-is : (t : Bool) (c n : ℕ) → Count c ≡ cond t (Count n) Broken → (t ≡ true) × (c ≡ n)
 count-is true c n e = (refl, cc)
 count-is false c n e = absurd (let z : _≡_ {A = ℕ} 0 1 = (cc) in omega arith)
 
-broken-is : (t : Bool) (n : ℕ) → Broken ≡ cond t (Count n) Broken → t ≡ false
+pub broken-is : (t : Bool) (n : ℕ) → Broken ≡ cond t (Count n) Broken → t ≡ false
 broken-is true n e = absurd (let z : _≡_ {A = ℕ} 0 1 = (cc) in omega arith)
 broken-is false n e = refl
 

@@ -1,3 +1,4 @@
 pub mod Ranges
 pub mod Writing
+pub mod Flat
 pub mod Laws

@@ -15,7 +15,7 @@ use Rattle.spec.proofs.Reply.{length-numbers}
 use Rattle.reply.proofs.Laws.{sets-set}
 
 -- the words of one row, then the others
-rows-more : (l : List ℕ) (c a : ℕ) (r : List ℕ) (rs : List (List ℕ)) → c + 1 + length rs ≤ a
+pub rows-more : (l : List ℕ) (c a : ℕ) (r : List ℕ) (rs : List (List ℕ)) → c + 1 + length rs ≤ a
     → rowsAt l c a (r ∷ rs) ≡ rowsAt (set (set (set l c (getD r 0 0)) a (getD r 1 0)) (a + 1) (getD r 2 0)) (c + 1) (a + 2) rs
 unfolding numbers pairs
 rows-more l c a r rs h =

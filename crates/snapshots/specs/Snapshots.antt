@@ -1,49 +1,114 @@
--- Each item's newest observation from a list of numbers, by item, and the set of the items that have a row.
-use Prim.Native.Nat.{ℕ, zero, suc, _-_}
-use mathlib.Core.Bool.{Bool, cond, _&&_, not}
-use mathlib.Core.List.{List}
+-- Marks of every item, eight side by side, through one pass over the ring, and the rows that they hold.
+use Prim.Native.Nat.{ℕ, zero, suc, _+_, _-_, _*_}
+use mathlib.Core.Bool.{Bool, true, cond, _&&_, _||_, not}
+use mathlib.Core.List.{List, [], _∷_, map}
 use lib.Dec.{ltb, eqb}
-use lib.ListN.{getD, set, replicate}
-use Rattle.spec.specs.Words.{bit, pickRows, row, setOf}
-use Rattle.spec.specs.Model.{maxItems}
-use Rattle.spec.specs.Observations.{ringSize, base, itemAt, numbered, checkpointAt}
+use lib.ListN.{length, getD, set, replicate}
+use lib.Seq.{sets}
+use Rattle.spec.specs.Words.{bit, setOf, every, row}
+use Rattle.spec.specs.Value.{itemOf}
+use Rattle.spec.specs.Blocks.{flatRows}
+use Rattle.spec.specs.Entries.{formOk}
+use Rattle.spec.specs.Observations.{ringSize, base, entry, numbered, checkpointAt, itemRows, itemRow, isCondition}
+use Rattle.marks.specs.Marks.{markOf, placeIn, keyOf, eightAt, changeFor, changed}
+use Rattle.marks.specs.Marked.{isFull}
+use Rattle.entries.specs.Forms.{marksOf}
 
--- each item's newest among k numbers from s on; what l has where there is none
-unfoldable pub newestNumbers : ℕ → ℕ → List ℕ → ℕ → ℕ → List ℕ → List ℕ
-newestNumbers N B st zero s l = l
-newestNumbers N B st (suc k) s l = newestNumbers N B st k (suc s) (set l (itemAt N B st s) s)
+-- the selected condition items
+abbrev pub stepsOf : (ℕ → ℕ) → ℕ → ℕ → ℕ
+stepsOf cat selection m = setOf (λ i. bit selection i && isCondition cat i) m
 
--- the same of the numbers from f up to e
-abbrev pub seenFrom : List ℕ → ℕ → ℕ → List ℕ → List ℕ
-seenFrom st f e l = newestNumbers (ringSize st) (base st) st (e - f) f l
+-- ---- the marks that the checkpoints give
 
--- no number for any item: 0 is no number
-abbrev pub noNumbers : List ℕ
-noNumbers = replicate {A = ℕ} maxItems 0
+-- of an item that is no condition item: its first entry's, if it is used
+abbrev pub plainMarks : List ℕ → List ℕ
+plainMarks r = cond (eqb (getD r 0 0) 0) 0 (markOf 1 0) ∷ replicate 7 0
 
--- item i's row: number x of the ring, or the row of the table at word t where x is no number of the store
+-- item i's eight, from the table at word t
+abbrev pub firstMarks : Bool → List ℕ → ℕ → ℕ → ℕ → List ℕ
+firstMarks condition st t m i = cond condition (marksOf i 1 (itemRows st t m i)) (plainMarks (itemRow st t m i))
+
+-- refusal 2: a condition item's checkpoint is in its written form
+abbrev pub firstOk : Bool → List ℕ → ℕ → ℕ → ℕ → Bool
+firstOk condition st t m i = not condition || formOk i 0 (itemRows st t m i)
+
+-- the marks of the selected ones of k items from i on
+unfoldable pub begun : ℕ → ℕ → ℕ → List ℕ → ℕ → ℕ → List ℕ → List ℕ
+begun selection steps m st zero i l = l
+begun selection steps m st (suc k) i l =
+    begun selection steps m st k (suc i)
+    (cond (bit selection i) (sets l (8 * i) (firstMarks (bit steps i) st (checkpointAt (ringSize st) m) m i)) l)
+
+-- refusal 2 of the selected items
+unfoldable pub formsOk : ℕ → ℕ → ℕ → List ℕ → Bool
+formsOk selection steps m st =
+    every (λ i. not (bit selection i) || firstOk (bit steps i) st (checkpointAt (ringSize st) m) m i) m 0
+
+-- ---- the pass
+
+-- an item's eight behind an entry of its own at a place, by its packed word
+unfoldable pub steppedEight : ℕ → ℕ → ℕ → ℕ → List ℕ → List ℕ
+steppedEight steps i place word ms =
+    cond (bit steps i)
+    (changed 0 (changeFor i ms word) (markOf place (keyOf i word)) ms)
+    (set ms 0 (markOf place 0))
+
+abbrev pub stepped : ℕ → ℕ → ℕ → ℕ → List ℕ → List ℕ
+stepped steps i place word l = sets l (8 * i) (steppedEight steps i place word (eightAt l (8 * i)))
+
+-- the entry is no ninth
+unfoldable pub steppedOk : ℕ → ℕ → ℕ → List ℕ → Bool
+steppedOk steps i word l = not (bit steps i) || not (isFull (changeFor i (eightAt l (8 * i)) word))
+
+-- the packed word of number s
+abbrev pub wordOf : List ℕ → ℕ → ℕ
+wordOf st s = getD (entry (ringSize st) (base st) st s) 1 0
+
+-- the marks behind number s, f being the pass's first
+abbrev pub numberStepped : ℕ → List ℕ → ℕ → ℕ → List ℕ → List ℕ
+numberStepped steps st f s l = stepped steps (itemOf (wordOf st s)) (s - f + 9) (wordOf st s) l
+
+-- behind k numbers from s on; refusal 2: each has an item of the model and is no ninth entry
+unfoldable pub passMarks : ℕ → List ℕ → ℕ → ℕ → ℕ → List ℕ → List ℕ
+passMarks steps st f zero s l = l
+passMarks steps st f (suc k) s l = passMarks steps st f k (suc s) (numberStepped steps st f s l)
+
+unfoldable pub passOk : ℕ → ℕ → List ℕ → ℕ → ℕ → ℕ → List ℕ → Bool
+passOk steps m st f zero s l = true
+passOk steps m st f (suc k) s l =
+    ltb (itemOf (wordOf st s)) m
+    && (steppedOk steps (itemOf (wordOf st s)) (wordOf st s) l && passOk steps m st f k (suc s) (numberStepped steps st f s l))
+
+-- ---- the rows
+
+-- item i's entry at a place: of its checkpoint up to 8, of the ring behind them
 abbrev pub rowOf : ℕ → List ℕ → ℕ → ℕ → ℕ → List ℕ
-rowOf m st t x i = cond (ltb x (base st)) (row st t m i 3) (numbered (ringSize st) (base st) st x)
+rowOf m st f i place =
+    cond (ltb place 9)
+    (row st (checkpointAt (ringSize st) m) (8 * m) (8 * i + (place - 1)) 3)
+    (numbered (ringSize st) (base st) st (f + (place - 9)))
 
-abbrev pub rowFrom : ℕ → List ℕ → ℕ → List ℕ → ℕ → List ℕ
-rowFrom m st t seen i = rowOf m st t (getD seen i 0) i
+-- the places of the used marks
+unfoldable pub usedPlaces : List ℕ → List ℕ
+usedPlaces [] = []
+usedPlaces (x ∷ xs) =
+    let u = usedPlaces xs in
+    cond (eqb (placeIn x) 0) [] (placeIn x ∷ u)
 
--- the rows of the chosen items
-abbrev pub chosenRows : ℕ → List ℕ → ℕ → List ℕ → ℕ → List (List ℕ)
-chosenRows m st t seen chosen = pickRows (bit chosen) (rowFrom m st t seen) m 0
+-- of item i
+abbrev pub itemPlaces : List ℕ → ℕ → List ℕ
+itemPlaces l i = usedPlaces (eightAt l (8 * i))
 
--- item i is selected, and r is an observation and not three zeros
-unfoldable pub hasRow : ℕ → ℕ → List ℕ → Bool
-hasRow selection i r = bit selection i && not (eqb (getD r 0 0) 0)
+abbrev pub markedRows : ℕ → List ℕ → ℕ → List ℕ → ℕ → List (List ℕ)
+markedRows m st f l i = map (rowOf m st f i) (itemPlaces l i)
 
--- current with at: an item's number in `seen`, else its checkpoint; the rows of the chosen items; and the selected
--- items
--- that have one
-abbrev pub heldFrom : ℕ → List ℕ → List ℕ → ℕ → List ℕ
-heldFrom m st seen i = rowFrom m st (checkpointAt (ringSize st) m) seen i
+-- of the selected items
+unfoldable pub heldBy : ℕ → List ℕ → ℕ → List ℕ → ℕ → List (List ℕ)
+heldBy m st f l selection = flatRows (bit selection) (markedRows m st f l) m 0
 
-abbrev pub heldRows : ℕ → List ℕ → List ℕ → ℕ → List (List ℕ)
-heldRows m st seen chosen = chosenRows m st (checkpointAt (ringSize st) m) seen chosen
-
-abbrev pub presentIn : ℕ → List ℕ → List ℕ → ℕ → ℕ
-presentIn m st seen selection = setOf (λ i. hasRow selection i (heldFrom m st seen i)) m
+-- how many marks the selected ones of k items from i on use
+unfoldable pub heldCount : ℕ → List ℕ → ℕ → ℕ → ℕ
+heldCount selection l zero i = 0
+heldCount selection l (suc k) i =
+    let r = heldCount selection l k (suc i) in
+    cond (bit selection i) (length (itemPlaces l i) + r) r

@@ -9,26 +9,27 @@ use mathlib.Core.List.{List, [], _∷_, _++_, map}
 use lib.Dec.{leb, ltb, eqb}
 use lib.ListN.{length, getD, length-append, List·getD-eq-default}
 use borrow.Author.Tests.{ltb-true, ltb-false, leb-true, eqb-true, eqb-false, lt-ltb, le-leb, lt-leb}
-use Rattle.spec.specs.Words.{pickRows, bit, row}
+use Rattle.spec.specs.Words.{bit}
 use Rattle.spec.specs.Value.{takes, repeats, pack, Fits}
 use Rattle.spec.specs.Model.{items, category, changeItem, hasChange, modelOk}
 use Rattle.spec.specs.Text.{Request, Reading, readText}
 use Rattle.spec.specs.Text.Request.{sample, current, currentAt, assets, allAssets}
 use Rattle.spec.specs.Text.Reading.{unread, asked}
 use Rattle.spec.specs.Path.{select}
-use Rattle.spec.specs.Observations.{maxRing, ringSize, base, last, storeWords, latestAt, headOk, add, evictOk}
-use Rattle.spec.specs.Observations.{ringOk, sampleRows, heldRow, currentRows, atRows}
+use Rattle.spec.specs.Observations.{maxRing, base, last, storeWords, latestAt, headOk, add, itemRow, isCondition}
+use Rattle.spec.specs.Observations.{evictOk, latestOk, repeatsAt, crowdedAt, ringOk, sampleRows, atOk, atRows}
 use Rattle.spec.specs.Assets.{maxBody, used, assetHeadOk, assetOk, idOk, bodyOk, cellFor, storeCells, lengthAt}
 use Rattle.spec.specs.Assets.{lengthOk, bodyStart, bodyPlace, part}
 use Rattle.spec.specs.Reply.{Replied, refuse, assetReply}
 use Rattle.spec.specs.Calls.{Observed, Kept, roomFor, observeBy, timeOr, observeItem, keepBy, keepAsset, unless}
 use Rattle.spec.specs.Calls.{inRange, sampleBetween, sampleReply, currentReply, currentUpTo, atReply, cellRows}
-use Rattle.spec.specs.Calls.{allCells, cellsReply, namedReply, downFrom, answerRequest, answerReading, added}
+use Rattle.spec.specs.Calls.{allCells, cellsReply, namedReply, downFrom, answerRequest, answerReading}
 use Rattle.spec.specs.Calls
+use Rattle.spec.specs.Standing.{standing, entriesRows, crowdedStanding}
 use Rattle.spec.specs.Reference.{State, Observation, Held, nothing, newestOr, newest, lastOf, firstOf, within}
-use Rattle.spec.specs.Reference.{keep, triple, sameValue, spent, observeAnswer, observeNext, withOne}
-use Rattle.spec.specs.Reference.{place, holds, assetsAfter, storeAnswer, storeNext, sampleStart, sampleEnd}
-use Rattle.spec.specs.Reference.{sampleFor, currentFor, foundRows, atFor, selected, contentAt, heldRows, allHeld}
+use Rattle.spec.specs.Reference.{keep, triple, eqValue, sameValue, crowdedValue, spent, observeAnswer}
+use Rattle.spec.specs.Reference.{observeNext, withOne, place, assetsAfter, storeAnswer, storeNext, sampleStart}
+use Rattle.spec.specs.Reference.{sampleEnd, sampleFor, currentFor, atFor, selected, contentAt, heldRows, allHeld}
 use Rattle.spec.specs.Reference.{placesOf, newestFirst, replyTo, replyReading, bodyOf}
 use Rattle.spec.specs.Reference
 use Rattle.spec.specs.declared.Value.{Value}
@@ -42,13 +43,14 @@ use Rattle.spec.specs.declared.StoreAnswer.the-variants.{Stored, Refused
 use Rattle.spec.specs.declared.Verdict.the-variants.{Fine, Refused as Against}
 use Rattle.spec.specs.declared.Selection.{Selection}
 use Rattle.spec.specs.declared.Selection.the-variants.{Items, NotFound}
-use Rattle.spec.proofs.Words.{and-left, and-right, and-both, rows-ext, leb-not}
+use Rattle.spec.proofs.Words.{and-left, and-right, and-both, by-cond, leb-not, by-test}
 use Rattle.spec.proofs.Packing.{Coded, taken-coded, compare-coded}
 use Rattle.spec.proofs.Model.{checked}
 use Rattle.spec.proofs.Observations.{head-ok}
-use Rattle.spec.proofs.Recorded.{lastOr-some, newestOr-append, newestOr-item, within-slice}
-use Rattle.spec.proofs.Kept.{Rep, next, evict-ok, add-rep}
-use Rattle.spec.proofs.Rows.{ring-rows, held-at, ring-ok}
+use Rattle.spec.proofs.Recorded.{lastOr-some, newestOr-append, newestOr-item, newest-snoc, within-slice}
+use Rattle.spec.proofs.Kept.{Rep, right, next, add-rep}
+use Rattle.spec.proofs.Rows.{ring-rows, ring-ok, evict-ok, at-rows, at-ok, current-rows, current-ok, latest-ok}
+use Rattle.spec.proofs.Rows.{first-row, same-is, crowded-is}
 use Rattle.spec.proofs.Encoding.{Ok, AllOk, Stands, encode, find-is, find-all, store-cells, cell-is, length-at}
 use Rattle.spec.proofs.Encoding.{length-ok, part-is, asset-heads}
 
@@ -57,8 +59,9 @@ use Rattle.spec.proofs.Encoding.{length-ok, part-is, asset-heads}
 -- the stores stand for p: st its H, and the bytes below its T
 pub record Good (model names : List ℕ) (p : State) (st : List ℕ) : Type 0 where
   pub right : modelOk model names ≡ true
-  pub rep : Rep (p .N) (items model) (p .B) (p .H) st
+  pub rep : Rep (category model) (p .N) (items model) (p .B) (p .H) st
   pub each : (i : ℕ) → i < items model → newest i (p .H) .item ≡ i
+  pub given : (i : ℕ) → i < items model → 0 < newest i (p .H) .number
   pub size : p .N ≤ maxRing
   pub all : items model ≤ length (p .H)
   pub top : p .B + length (p .H) ≤ 9223372036854775808
@@ -103,26 +106,6 @@ newest-of P (o ∷ H) d i hd h = newest-of P H (cond (eqb (o .item) i) o d) i (g
     go true = h 0 (omega arith)
     go false = hd
 
--- ---- rows of items, from tables and from H
-
-module _ (N m B : ℕ) (H : List Observation) (st : List ℕ) (R : Rep N m B H st) where
-  current-rows : (sel : ℕ) → currentRows N m st sel ≡ pickRows (bit sel) (λ i. triple (newest i H)) m 0
-  unfolding currentRows
-  current-rows sel = rows-ext (bit sel) (bit sel) _ _ m 0 (λ j l h. (refl, R .latest j (omega arith)))
-
-  module _ (sel first a : ℕ) (e : first ≡ B + (length H - N)) (lo : first ≤ a) (hi : a < B + length H) where
-    held-row : (i : ℕ) → i < m → heldRow N m B st (suc a - first) first i ≡ triple (newest i (within 0 (suc a) H))
-    held-row i h =
-        let z : 0 - B ≡ 0 = omega arith in
-        let q : suc a - (B + (length H - N)) ≡ (suc a - B) - (length H - N) = omega arith in
-        rw (within-slice H B 0 (suc a) (R .numbered), z, e, q) (held-at N m B H st R i (length H - N) (suc a - B) h refl (omega arith) (omega arith))
-
-    at-rows : atRows N m B st sel (suc a - first) first ≡ foundRows m sel (within 0 (suc a) H)
-    unfolding atRows foundRows
-    at-rows =
-        rows-ext _ _ _ _ m 0
-        (λ j l h. (ap (λ (r : List ℕ). bit sel j && not (eqb (getD r 0 0) 0)) (held-row j (omega arith)), held-row j (omega arith)))
-
 -- ---- replies agree where they are in range
 
 range-agree : (low high n : ℕ) (reply : List ℕ) (r r' : Replied) → (low ≤ n → n ≤ high → r ≡ r')
@@ -164,11 +147,11 @@ module _ (model names : List ℕ) (p : State) (st : List ℕ) (G : Good model na
   right-assets = asset-heads (p .A) (p .T) (G .A-low) (G .A-high) (G .room) (G .held)
 
   -- the entry about to be overwritten is one of H
-  entry-right : evictOk (p .N) (items model) (p .B) (suc (lastOf p)) st ≡ true
-  entry-right = rw last-is (evict-ok (p .N) (items model) (p .B) (p .H) st (G .rep))
+  entry-right : evictOk (category model) (p .N) (items model) (p .B) (suc (lastOf p)) st ≡ true
+  entry-right = rw last-is (evict-ok (category model) (p .N) (items model) (p .B) (p .H) st (G .rep))
 
   -- 6 is the only refusal of a number
-  room-is : roomFor (items model) st ≡ cond (spent p) (Against Spent) Fine
+  room-is : roomFor (category model) (items model) st ≡ cond (spent p) (Against Spent) Fine
   unfolding roomFor
   room-is =
       rw (G .rep .cap, G .rep .base, store-last, entry-right)
@@ -183,10 +166,12 @@ module _ (model names : List ℕ) (p : State) (st : List ℕ) (G : Good model na
   -- ---- what a call leaves
 
   -- an observation is added, and the assets become T'
-  grown : (item time : ℕ) (v : Value) (T' : List Held) → item < items model → Coded v → spent p ≡ false → length T' ≤ p .A → AllOk T'
+  grown : (item time : ℕ) (v : Value) (T' : List Held) → item < items model → Coded v
+      → (isCondition (category model) item ≡ true → crowdedStanding (standing item (p .H)) v ≡ false) → spent p ≡ false
+      → length T' ≤ p .A → AllOk T'
       → Good model names (record { N = p .N; A = p .A; B = p .B; H = withOne p (suc (lastOf p)) item time v; T = T' })
-      (add (p .N) (items model) (p .B) (suc (lastOf p)) item time (pack item v) st)
-  grown item time v T' hi hv hs hA hT =
+      (add (category model) (p .N) (items model) (p .B) (suc (lastOf p)) item time (pack item v) st)
+  grown item time v T' hi hv hc hs hA hT =
       let o : Observation = next (p .B) (p .H) item time v in
       let len : length (p .H ++ (o ∷ [])) ≡ suc (length (p .H)) = omega (arith, length-append (p .H) (o ∷ [])) in
       let n : lastOf p ≢ 9223372036854775807 = eqb-false (lastOf p) 9223372036854775807 hs in
@@ -194,8 +179,12 @@ module _ (model names : List ℕ) (p : State) (st : List ℕ) (G : Good model na
       rw last-is
       (record {
         right = G .right;
-        rep = add-rep (p .N) (items model) (p .B) (p .H) st item time v (G .rep) hi hv;
+        rep = add-rep (category model) (p .N) (items model) (p .B) (p .H) st item time v (G .rep) hi hv hc;
         each = λ i h. rw (newestOr-append (p .H) (o ∷ []) nothing i) (newestOr-item (o ∷ []) (newest i (p .H)) i (G .each i h));
+        given =
+            λ i h.
+            rw (newest-snoc (p .H) o i)
+            (by-cond (λ x. 0 < x .number) (eqb item i) o _ (λ e. omega (arith, G .rep .B-pos)) (λ e. G .given i h));
         size = G .size;
         all = omega (arith, len, G .all);
         top = omega (arith, len);
@@ -212,6 +201,7 @@ module _ (model names : List ℕ) (p : State) (st : List ℕ) (G : Good model na
         right = G .right;
         rep = G .rep;
         each = G .each;
+        given = G .given;
         size = G .size;
         all = G .all;
         top = G .top;
@@ -230,23 +220,70 @@ module _ (model names : List ℕ) (p : State) (st : List ℕ) (G : Good model na
   newest-coded : (i : ℕ) → Coded (newest i (p .H) .value)
   newest-coded i = newest-of (λ o. Coded (o .value)) (p .H) nothing i tt (λ k l. G .rep .fits k l .1)
 
-  same-is : (k item : ℕ) (v : Value) → item < items model → Coded v
-      → repeats k (getD (row st (latestAt (p .N)) (items model) item 3) 2 0) (pack item v)
-      ≡ sameValue k (newest item (p .H) .value) v
+  -- Same, of an item that is no condition item
+  same-plain : (k item : ℕ) (v : Value) → item < items model → Coded v → isCondition (category model) item ≡ false
+      → repeats k (getD (itemRow st (latestAt (p .N)) (items model) item) 2 0) (pack item v)
+      ≡ cond (eqb k 4) false (eqValue (newest item (p .H) .value) v)
   unfolding repeats
-  same-is k item v h hv =
+  same-plain k item v h hv c =
       rw (
-        G .rep .latest item h,
+        first-row (category model) (latestAt (p .N)) (items model) (p .H) st (G .rep .latest)
+            (right (category model) (p .N) (items model) (p .B) (p .H) st (G .rep)) item h c,
         G .each item h,
         compare-coded item (newest item (p .H) .value) v (newest-coded item) hv,
       ) (unless-is (eqb k 4) _)
 
-  record-agree : (item time host : ℕ) (v : Value) → item < items model → Coded v → (t : Bool) → spent p ≡ t
-      → ObserveAgree item time host v (observeBy (cond t (Against Spent) Fine) (items model) st item (timeOr time host) (pack item v))
+  module _ (item : ℕ) (v : Value) (h : item < items model) (hv : Coded v)
+      (t : takes (category model item) v ≡ true) where
+    -- the form of a latest is never in the way
+    form-right : latestOk (category model) (p .N) (items model) st item ≡ true
+    unfolding latestOk
+    form-right =
+        by-test (isCondition (category model) item)
+        (λ c. rw (c, latest-ok (category model) (p .N) (items model) (p .B) (p .H) st (G .rep) (G .given) item h c))
+        (λ c. rw c)
+
+    taken : isCondition (category model) item ≡ true → takes 2 v ≡ true
+    taken c = rw (eqb-true (category model item) 2 c) at t
+
+    -- a condition item is not discrete
+    not-four : isCondition (category model) item ≡ true → eqb (category model item) 4 ≡ false
+    not-four c = rw (eqb-true (category model item) 2 c)
+
+    same-value :
+        repeatsAt (category model) (p .N) (items model) st item (pack item v)
+        ≡ sameValue (category model item) item (p .H) v
+    unfolding repeatsAt
+    same-value =
+        by-test (isCondition (category model) item)
+        (λ c.
+        rw (
+          c,
+          not-four c,
+          same-is (category model) (p .N) (items model) (p .B) (p .H) st (G .rep) (G .given) item h c v hv (taken c),
+        ))
+        (λ c. rw (c, same-plain (category model item) item v h hv c))
+
+    crowded-value :
+        crowdedAt (category model) (p .N) (items model) st item (pack item v)
+        ≡ crowdedValue (category model item) item (p .H) v
+    unfolding crowdedAt
+    crowded-value =
+        by-test (isCondition (category model) item)
+        (λ c.
+        rw (c, crowded-is (category model) (p .N) (items model) (p .B) (p .H) st (G .rep) (G .given) item h c v hv))
+        (λ c. rw c)
+
+  record-agree : (item time host : ℕ) (v : Value) → item < items model → Coded v
+      → (isCondition (category model) item ≡ true → crowdedStanding (standing item (p .H)) v ≡ false)
+      → (t : Bool) → spent p ≡ t
+      → ObserveAgree item time host v
+      (observeBy (cond t (Against Spent) Fine) (category model) (items model) st item (timeOr time host) (pack item v))
       (cond t (Unrecorded Spent) (Recorded (suc (lastOf p))))
-  record-agree item time host v h hv true e = (refl, G)
-  record-agree item time host v h hv false e =
-      rw (G .rep .cap, G .rep .base, store-last) (refl, grown item (timeOr time host) v (p .T) h hv e (G .room) (G .held))
+  record-agree item time host v h hv hc true e = (refl, G)
+  record-agree item time host v h hv hc false e =
+      rw (G .rep .cap, G .rep .base, store-last)
+      (refl, grown item (timeOr time host) v (p .T) h hv hc e (G .room) (G .held))
 
   pub observe-agree : (item time host : ℕ) (v : Value) → Fits v
       → ObserveAgree item time host v (Calls.observe model names st item time host v) (observeAnswer model names p item v)
@@ -259,12 +296,17 @@ module _ (model names : List ℕ) (p : State) (st : List ℕ) (G : Good model na
       (λ t.
       let hi : item < items model = ltb-true item (items model) h in
       let hv : Coded v = taken-coded (category model item) v t fv in
-      same-test (ObserveAgree item time host v)
-      (repeats (category model item) (getD (row st (latestAt (ringSize st)) (items model) item 3) 2 0) (pack item v))
-      (sameValue (category model item) (newest item (p .H) .value) v)
-      (rw (G .rep .cap) (same-is (category model item) item v hi hv))
+      rw (G .rep .cap, form-right item v hi hv t)
+      (same-test (ObserveAgree item time host v)
+      (repeatsAt (category model) (p .N) (items model) st item (pack item v))
+      (sameValue (category model item) item (p .H) v) (same-value item v hi hv t)
       (λ e. (refl, G))
-      (λ e. record-agree item time host v hi hv (spent p) refl))
+      (λ e.
+      same-test (ObserveAgree item time host v) (crowdedAt (category model) (p .N) (items model) st item (pack item v))
+      (crowdedValue (category model item) item (p .H) v) (crowded-value item v hi hv t)
+      (λ f. (refl, G))
+      (λ f. record-agree item time host v hi hv (λ c. rw c at (sym (crowded-value item v hi hv t) ∙ f))
+      (spent p) refl))))
       (λ t. (refl, G)))
       (λ h. (refl, G)))
 
@@ -310,7 +352,7 @@ module _ (model names : List ℕ) (p : State) (st : List ℕ) (G : Good model na
         rw (cell-of, c, G .rep .cap, G .rep .base, store-last) (
           refl,
           grown (changeItem model) host (Event (length (assetsAfter p id content) - 1)) (assetsAfter p id content)
-              (ltb-true (changeItem model) (items model) c) code-ok e (stands .1) (stands .2),
+              (ltb-true (changeItem model) (items model) c) code-ok (λ k. refl) e (stands .1) (stands .2),
           stands .0,
         )
 
@@ -341,9 +383,10 @@ module _ (model names : List ℕ) (p : State) (st : List ℕ) (G : Good model na
       let q' : (f - p .B) + (e - f) ≡ e - p .B = omega arith in
       let h : (f - p .B) + (e - f) ≤ length (p .H) = omega (arith, last-is) in
       let l : length (p .H) ≤ (f - p .B) + p .N = omega (arith, last-is) in (
-        rw q at (ring-ok (p .N) (items model) (p .B) (p .H) st (G .rep) (e - f) (f - p .B) h l),
+        rw q at (ring-ok (category model) (p .N) (items model) (p .B) (p .H) st (G .rep) (e - f) (f - p .B) h l),
         rw (within-slice (p .H) (p .B) f e (G .rep .numbered), sym q')
-            (rw q at (ring-rows (p .N) (items model) (p .B) (p .H) st (G .rep) sel (e - f) (f - p .B) h l)),
+            (rw q at (ring-rows (category model) (p .N) (items model) (p .B) (p .H) st (G .rep) sel (e - f)
+            (f - p .B) h l)),
       )
 
   sample-agree : (sel from count : ℕ) (reply : List ℕ)
@@ -358,23 +401,41 @@ module _ (model names : List ℕ) (p : State) (st : List ℕ) (G : Good model na
 
   found-rows : (sel a : ℕ) → firstOf p ≤ a → a ≤ lastOf p
       → (ringOk (p .N) (items model) (p .B) st (suc a - firstOf p) (firstOf p) ≡ true)
-      × (atRows (p .N) (items model) (p .B) st sel (suc a - firstOf p) (firstOf p) ≡ foundRows (items model) sel (within 0 (suc a) (p .H)))
+      × (atOk (category model) (p .N) (items model) (p .B) st sel (suc a - firstOf p) (firstOf p) ≡ true)
+      × (atRows (category model) (p .N) (items model) (p .B) st sel (suc a - firstOf p) (firstOf p)
+      ≡ entriesRows (category model) (items model) sel (within 0 (suc a) (p .H)))
   found-rows sel a lo hi =
       let e : firstOf p ≡ p .B + (length (p .H) - p .N) = omega (arith, last-is) in (
-        rw e (ring-ok (p .N) (items model) (p .B) (p .H) st (G .rep) (suc a - (p .B + (length (p .H) - p .N))) (length (p .H) - p .N) (omega (arith, last-is)) (omega arith)),
-        at-rows (p .N) (items model) (p .B) (p .H) st (G .rep) sel (firstOf p) a e lo (omega (arith, last-is)),
+        rw e
+            (ring-ok (category model) (p .N) (items model) (p .B) (p .H) st (G .rep)
+            (suc a - (p .B + (length (p .H) - p .N))) (length (p .H) - p .N) (omega (arith, last-is)) (omega arith)),
+        at-ok (category model) (p .N) (items model) (p .B) (p .H) st (G .rep) sel (firstOf p) a e lo
+            (omega (arith, last-is)),
+        at-rows (category model) (p .N) (items model) (p .B) (p .H) st (G .rep) sel (firstOf p) a e lo
+            (omega (arith, last-is)),
       )
 
-  at-agree : (sel number : ℕ) (reply : List ℕ) → atReply (items model) st number reply (Items sel) ≡ atFor (items model) p sel number reply
+  at-agree : (sel number : ℕ) (reply : List ℕ)
+      → atReply (category model) (items model) st number reply (Items sel)
+      ≡ atFor (category model) (items model) p sel number reply
   unfolding atReply currentUpTo atFor
   at-agree sel number reply =
       rw (G .rep .cap, G .rep .base, store-last)
-      (range-agree (firstOf p) (lastOf p) number reply _ _ (λ lo hi. let g = found-rows sel number lo hi in rw (g .0, g .1)))
+      (range-agree (firstOf p) (lastOf p) number reply _ _
+      (λ lo hi. let g = found-rows sel number lo hi in rw (g .0, g .1, g .2)))
 
-  current-agree : (sel : ℕ) (reply : List ℕ) → currentReply (items model) st reply (Items sel) ≡ currentFor (items model) p sel reply
+  current-agree : (sel : ℕ) (reply : List ℕ)
+      → currentReply (category model) (items model) st reply (Items sel)
+      ≡ currentFor (category model) (items model) p sel reply
   unfolding currentReply currentFor
   current-agree sel reply =
-      rw (G .rep .cap, G .rep .base, store-last, current-rows (p .N) (items model) (p .B) (p .H) st (G .rep) sel)
+      rw (
+        G .rep .cap,
+        G .rep .base,
+        store-last,
+        current-ok (category model) (p .N) (items model) (p .B) (p .H) st (G .rep) (G .given) sel,
+        current-rows (category model) (p .N) (items model) (p .B) (p .H) st (G .rep) (G .given) sel,
+      )
 
   -- ---- assets
 
@@ -441,9 +502,11 @@ module _ (model names : List ℕ) (p : State) (st : List ℕ) (G : Good model na
       (ap (λ (r : Replied). cond (ltb (p .N) count) (refuse TooMany reply) r)
       (selected-agree (select model names path) reply (sampleReply (items model) st from count reply) _ refl (λ sel. sample-agree sel from count reply)))
   request-agree' reply (current path) =
-      selected-agree (select model names path) reply (currentReply (items model) st reply) _ refl (λ sel. current-agree sel reply)
+      selected-agree (select model names path) reply (currentReply (category model) (items model) st reply) _ refl
+      (λ sel. current-agree sel reply)
   request-agree' reply (currentAt path number) =
-      selected-agree (select model names path) reply (atReply (items model) st number reply) _ refl (λ sel. at-agree sel number reply)
+      selected-agree (select model names path) reply (atReply (category model) (items model) st number reply) _ refl
+      (λ sel. at-agree sel number reply)
   request-agree' reply (assets ids) = named-agree ids reply
   request-agree' reply allAssets = rw (used-bytes) (all-agree reply)
 

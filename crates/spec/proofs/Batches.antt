@@ -107,7 +107,7 @@ batch-ring-one = (refl, refl)
 
 -- N 2 and full; number 2's word has item 1, which the model doesn't have
 abbrev wrongSecond : List ℕ
-wrongSecond = 2 ∷ 1 ∷ 1 ∷ 2 ∷ 0 ∷ 0 ∷ 0 ∷ 1099511627776 ∷ replicate 6 0
+wrongSecond = 2 ∷ 1 ∷ 1 ∷ 2 ∷ 0 ∷ 0 ∷ 0 ∷ 1099511627776 ∷ replicate 48 0
 
 -- number 3 overwrites number 1, so the first record is added; each that needs number 4 meets the bad entry, which stays
 pub batch-entry :

@@ -9,7 +9,7 @@ use mathlib.Core.List.{[]}
 use lib.Dec.{leb, ltb, eqb}
 use lib.ListN.{length}
 use borrow.Author.Tests.{ltb-true, ltb-false, leb-true, eqb-true, eqb-false, le-leb, lt-leb}
-use Rattle.spec.specs.Model.{maxItems, items, modelOk}
+use Rattle.spec.specs.Model.{maxItems, items, category, modelOk}
 use Rattle.spec.specs.Observations.{maxRing, storeWords, startStore}
 use Rattle.spec.specs.Assets.{maxAssets, storeBytes, startAssets}
 use Rattle.spec.specs.Calls.{startOk}
@@ -21,7 +21,7 @@ use Rattle.spec.specs.declared.Answer.the-variants.{Done, Refused}
 use Rattle.spec.specs.declared.Refusal.{Refusal}
 use Rattle.spec.specs.declared.Refusal.the-variants.{Model, Size}
 use Rattle.spec.specs.declared.Value.the-variants.{Unavailable}
-use Rattle.spec.proofs.Words.{and-left, and-right, leb-not}
+use Rattle.spec.proofs.Words.{and-left, and-right, by-cond, leb-not}
 use Rattle.spec.proofs.Model.{checked}
 use Rattle.spec.proofs.Recorded.{newestOr-item}
 use Rattle.spec.proofs.Start.{start-rep}
@@ -84,7 +84,12 @@ start-answers a = go (modelOk (a .model) (a .names)) refl
     wrong = sizeWrong m (a .N) (a .A) (a .B) (length (a .observations)) (length (a .assets))
 
     yes : Calls.Started
-    yes = record { answer = Done 0; observations = startStore (a .N) m (a .B) (a .host); assets = startAssets (a .A) }
+    yes =
+        record {
+          answer = Done 0;
+          observations = startStore (category (a .model)) (a .N) m (a .B) (a .host);
+          assets = startAssets (a .A);
+        }
 
     no : Refusal → Calls.Started
     no r = record { answer = Refused r; observations = a .observations; assets = a .assets }
@@ -134,6 +139,25 @@ held-start (suc k) n item host i d lo hi = go (eqb item i) refl (λ h. held-star
         → newestOr (cond t o d) i (unavailable k (suc n) (suc item) host) .item ≡ i
     go true e ih = newestOr-item (unavailable k (suc n) (suc item) host) o i (eqb-true item i e)
     go false e ih = ih (let z : item ≢ i = eqb-false item i e in omega arith)
+
+given-or : (k n item host i : ℕ) (d : Observation) → 0 < n → 0 < d .number
+    → 0 < newestOr d i (unavailable k n item host) .number
+unfolding newestOr unavailable
+given-or zero n item host i d p g = g
+given-or (suc k) n item host i d p g =
+    given-or k (suc n) (suc item) host i _ (omega arith)
+    (by-cond (λ x. 0 < x .number) (eqb item i) _ d (λ e. p) (λ e. g))
+
+given-start : (k n item host i : ℕ) (d : Observation) → item ≤ i → i < item + k → 0 < n
+    → 0 < newestOr d i (unavailable k n item host) .number
+unfolding newestOr unavailable
+given-start zero n item host i d lo hi p = absurd (omega arith)
+given-start (suc k) n item host i d lo hi p =
+    let o : Observation = record { number = n; item = item; time = host; value = Unavailable } in
+    by-cond (λ x. 0 < newestOr x i (unavailable k (suc n) (suc item) host) .number) (eqb item i) o d
+    (λ e. given-or k (suc n) (suc item) host i o (omega arith) p)
+    (λ e. let z : item ≢ i = eqb-false item i e in given-start k (suc n) (suc item) host i d (omega arith)
+    (omega arith) (omega arith))
 
 length-unavailable : (k n item host : ℕ) → length (unavailable k n item host) ≡ k
 unfolding unavailable
@@ -198,8 +222,9 @@ start-good a p e =
           rw (right, ok)
           (record {
             right = right;
-            rep = start-rep (a .N) m (a .B) (a .host) (S .N-low) (S .B-low);
+            rep = start-rep (category (a .model)) (a .N) m (a .B) (a .host) (S .N-low) (S .B-low);
             each = λ i h. held-start m (a .B) 0 (a .host) i nothing (omega arith) (omega arith);
+            given = λ i h. given-start m (a .B) 0 (a .host) i nothing (omega arith) (omega arith) (S .B-low);
             size = S .N-high;
             all = omega (arith, length-unavailable m (a .B) 0 (a .host));
             top = omega (arith, length-unavailable m (a .B) 0 (a .host), S .B-high);

@@ -20,15 +20,15 @@ abbrev answers : List (List Output)
 answers =
     (started (Done 0) ∷ []) ∷ (observed (Recorded 3) ∷ []) ∷ (observed Same ∷ []) ∷ (observed (Recorded 4) ∷ []) ∷ []
 
-abbrev start22 : Start
-start22 = benchStart (replicate 22 0) (replicate 546 0)
+abbrev start106 : Start
+start106 = benchStart (replicate 106 0) (replicate 546 0)
 
 -- the reference model's state behind the start
 pub benchState : State
 unfolding unavailable
 benchState = record { N = 3; A = 1; B = 1; H = unavailable 2 1 0 1000; T = [] }
 
-pub bench-begins : begins start22 ≡ begun benchState
+pub bench-begins : begins start106 ≡ begun benchState
 unfolding benchState opened
 bench-begins = refl
 
@@ -39,9 +39,9 @@ known = referenceAfter benchModel benchNames benchState benchObserves
 -- the answers of start and observes, and each case's answer and whole reply: of the stores' calls, and of the
 -- reference model
 pub record Bench : Type 0 where
-  pub outputs : storesOutputs start22 benchObserves ≡ answers
+  pub outputs : storesOutputs start106 benchObserves ≡ answers
   pub stores : map (λ c. benchRequest (c .text) filled) cases ≡ map expected cases
-  pub outputs-reference : referenceOutputs start22 benchState benchObserves ≡ answers
+  pub outputs-reference : referenceOutputs start106 benchState benchObserves ≡ answers
   pub reference : map (λ c. reply benchModel benchNames known (c .text) filled) cases ≡ map expected cases
 
 pub bench : Bench
@@ -49,5 +49,5 @@ unfolding benchState opened
 bench = record { outputs = refl; stores = refl; outputs-reference = refl; reference = refl }
 
 -- the history theorem's hypothesis is met: here it is for every list behind the bench case's start
-pub bench-history : (cs : List Call) → AllTyped cs → History start22 benchState cs
-bench-history cs t = history start22 benchState bench-begins cs t
+pub bench-history : (cs : List Call) → AllTyped cs → History start106 benchState cs
+bench-history cs t = history start106 benchState bench-begins cs t

@@ -21,20 +21,19 @@ use Rattle.spec.specs.declared.StoreAnswer.the-variants.{Stored, Refused
 use Rattle.spec.specs.declared.Refusal.the-variants.{Size, Store, Spent, InvalidRequest, TooMany, Late, Early}
 use Rattle.spec.specs.declared.Refusal.the-variants.{AssetNotFound, Asset, Space}
 use Rattle.spec.proofs.Opened.{opened}
-use Rattle.spec.proofs.Fixtures.{Step, shows, refuses, refusesIn, stores}
-use Rattle.spec.proofs.Fixtures.{StoresGive, PlainGives, ToolsGive, BenchGives}
-use Rattle.spec.proofs.Fixtures.{plainModel, plainNames, noAssets, plainStore}
+use Rattle.spec.proofs.Fixtures.{Step, shows, refuses, refusesIn, stores, StoresGive, PlainGives, ToolsGive}
+use Rattle.spec.proofs.Fixtures.{BenchGives, plainModel, plainNames, noAssets, plainStore}
 use Rattle.spec.proofs.Fixtures.Step.{_gives_}
 
--- ---- start, refusal 3: N 1..131,072; A 1..128; B 1..2^63 - m; 4 + 2N + 6m words and 2 + 544A bytes
+-- ---- start, refusal 3: N 1..131,072; A 1..128; B 1..2^63 - m; 4 + 2N + 48m words and 2 + 544A bytes
 
 -- the tests of both layers
 pub sizes-tested :
-    ((Calls.startOk 1 131072 1 1 262154 546 ∷ Calls.startOk 1 131073 1 1 262156 546
-    ∷ Calls.startOk 1 1 128 1 12 69634 ∷ Calls.startOk 1 1 129 1 12 70178 ∷ [])
+    ((Calls.startOk 1 131072 1 1 262196 546 ∷ Calls.startOk 1 131073 1 1 262198 546
+    ∷ Calls.startOk 1 1 128 1 54 69634 ∷ Calls.startOk 1 1 129 1 54 70178 ∷ [])
     ≡ true ∷ false ∷ true ∷ false ∷ [])
-    × ((Reference.sizeWrong 1 131072 1 1 262154 546 ∷ Reference.sizeWrong 1 131073 1 1 262156 546
-    ∷ Reference.sizeWrong 1 1 128 1 12 69634 ∷ Reference.sizeWrong 1 1 129 1 12 70178 ∷ [])
+    × ((Reference.sizeWrong 1 131072 1 1 262196 546 ∷ Reference.sizeWrong 1 131073 1 1 262198 546
+    ∷ Reference.sizeWrong 1 1 128 1 54 69634 ∷ Reference.sizeWrong 1 1 129 1 54 70178 ∷ [])
     ≡ false ∷ true ∷ false ∷ true ∷ [])
 unfolding opened
 sizes-tested = (refl, refl)
@@ -52,10 +51,10 @@ abbrev TooLarge : ℕ → ℕ → ℕ → ℕ → ℕ → Type 0
 TooLarge = Starts plainModel plainNames (Refused Size)
 
 pub ring-sizes :
-    Accepted 1 1 1 12 546
-    × Accepted 131072 1 1 262154 546
-    × TooLarge 0 1 1 10 546
-    × TooLarge 131073 1 1 262156 546
+    Accepted 1 1 1 54 546
+    × Accepted 131072 1 1 262196 546
+    × TooLarge 0 1 1 52 546
+    × TooLarge 131073 1 1 262198 546
 unfolding opened
 ring-sizes = (
   (λ st bs h k. rw (h, k), refl),
@@ -66,10 +65,10 @@ ring-sizes = (
 
 -- 257 is not taken for 1
 pub asset-capacities :
-    Accepted 1 128 1 12 69634
-    × TooLarge 1 0 1 12 2
-    × TooLarge 1 129 1 12 70178
-    × TooLarge 1 257 1 12 546
+    Accepted 1 128 1 54 69634
+    × TooLarge 1 0 1 54 2
+    × TooLarge 1 129 1 54 70178
+    × TooLarge 1 257 1 54 546
 unfolding opened
 asset-capacities = (
   (λ st bs h k. rw (h, k), refl),
@@ -80,11 +79,11 @@ asset-capacities = (
 
 -- of one item and of two
 pub first-numbers :
-    Accepted 1 1 9223372036854775807 12 546
-    × TooLarge 1 1 0 12 546
-    × TooLarge 1 1 9223372036854775808 12 546
-    × Starts benchModel benchNames (Done 0) 3 1 9223372036854775806 22 546
-    × Starts benchModel benchNames (Refused Size) 3 1 9223372036854775807 22 546
+    Accepted 1 1 9223372036854775807 54 546
+    × TooLarge 1 1 0 54 546
+    × TooLarge 1 1 9223372036854775808 54 546
+    × Starts benchModel benchNames (Done 0) 3 1 9223372036854775806 106 546
+    × Starts benchModel benchNames (Refused Size) 3 1 9223372036854775807 106 546
 unfolding opened
 first-numbers = (
   (λ st bs h k. rw (h, k), refl),
@@ -95,10 +94,10 @@ first-numbers = (
 )
 
 pub store-lengths :
-    TooLarge 1 1 1 11 546
-    × TooLarge 1 1 1 13 546
-    × TooLarge 1 1 1 12 545
-    × TooLarge 1 1 1 12 547
+    TooLarge 1 1 1 53 546
+    × TooLarge 1 1 1 55 546
+    × TooLarge 1 1 1 54 545
+    × TooLarge 1 1 1 54 547
 unfolding opened
 store-lengths = (
   (λ st bs h k. rw h, refl),
@@ -123,17 +122,17 @@ Wrong = refuses "/current?path=//Spare" Store
 
 -- N; the model's m; B at least 1 and B + m - 1 at most last, over the integers; last at most 2^63 - 1; the length
 pub heads :
-    Heads (Fine 1 1 2) 131072 1 1 1 262150
-    × Heads (Fine 9223372036854775807 9223372036854775807 9223372036854775808) 1 1 1 9223372036854775807 8
-    × Heads Wrong 0 1 1 1 6
-    × Heads Wrong 131073 1 1 1 262152
-    × Heads Wrong 1 2 1 2 14
-    × Heads Wrong 1 1 0 1 8
-    × Heads Wrong 1 1 2 1 8
-    × Heads Wrong 1 1 18446744073709551615 1 8
-    × Heads Wrong 1 1 1 9223372036854775808 8
-    × Heads Wrong 1 1 1 1 7
-    × Heads Wrong 1 1 1 1 9
+    Heads (Fine 1 1 2) 131072 1 1 1 262192
+    × Heads (Fine 9223372036854775807 9223372036854775807 9223372036854775808) 1 1 1 9223372036854775807 50
+    × Heads Wrong 0 1 1 1 48
+    × Heads Wrong 131073 1 1 1 262194
+    × Heads Wrong 1 2 1 2 98
+    × Heads Wrong 1 1 0 1 50
+    × Heads Wrong 1 1 2 1 50
+    × Heads Wrong 1 1 18446744073709551615 1 50
+    × Heads Wrong 1 1 1 9223372036854775808 50
+    × Heads Wrong 1 1 1 1 49
+    × Heads Wrong 1 1 1 1 51
 unfolding opened
 heads = (
   λ rest h. rw h,

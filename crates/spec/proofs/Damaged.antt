@@ -16,8 +16,8 @@ use Rattle.spec.specs.declared.ObserveAnswer.the-variants.{Recorded, Sam
 use Rattle.spec.specs.declared.StoreAnswer.the-variants.{Stored, Refused as Unstored}
 use Rattle.spec.specs.declared.Refusal.the-variants.{Store, AssetNotFound}
 use Rattle.spec.proofs.Opened.{opened}
-use Rattle.spec.proofs.Fixtures.{Step, shows, refuses, stores, StoresGive}
-use Rattle.spec.proofs.Fixtures.{noAssets, toolModel, toolNames, toolStart, benchWith, benchStore}
+use Rattle.spec.proofs.Fixtures.{Step, shows, refuses, stores, StoresGive, firsts, noAssets, toolModel}
+use Rattle.spec.proofs.Fixtures.{toolNames, toolStart, benchWith, benchStore}
 use Rattle.spec.proofs.Fixtures.Step.{_gives_}
 
 -- ---- what start leaves, whatever stood in the stores
@@ -28,8 +28,7 @@ pub started-observations :
     ≡ 4 ∷ 2 ∷ 1 ∷ 2
     ∷ 1000 ∷ 1000 ∷ 0 ∷ 0
     ∷ 0 ∷ 1099511627776 ∷ 0 ∷ 0
-    ∷ 1 ∷ 2 ∷ 1000 ∷ 1000 ∷ 0 ∷ 1099511627776
-    ∷ 0 ∷ 0 ∷ 0 ∷ 0 ∷ 0 ∷ 0 ∷ []
+    ∷ (firsts (1 ∷ 2 ∷ 1000 ∷ 1000 ∷ 0 ∷ 1099511627776 ∷ []) ++ replicate 48 0)
 unfolding opened
 started-observations = refl
 
@@ -39,13 +38,12 @@ started-assets = refl
 
 -- N 1 is below m 2: number 5 of item 0 is overwritten at once and stands in the checkpoint
 pub started-below :
-    Calls.start benchModel benchNames (replicate 18 99) (replicate 546 99) 1 1 5 1000
+    Calls.start benchModel benchNames (replicate 102 99) (replicate 546 99) 1 1 5 1000
     ≡ record {
       answer = Done 0;
       observations = 1 ∷ 2 ∷ 5 ∷ 6
           ∷ 1000 ∷ 1099511627776
-          ∷ 5 ∷ 6 ∷ 1000 ∷ 1000 ∷ 0 ∷ 1099511627776
-          ∷ 5 ∷ 0 ∷ 1000 ∷ 0 ∷ 0 ∷ 0 ∷ [];
+          ∷ firsts (5 ∷ 6 ∷ 1000 ∷ 1000 ∷ 0 ∷ 1099511627776 ∷ 5 ∷ 0 ∷ 1000 ∷ 0 ∷ 0 ∷ 0 ∷ []);
       assets = 1 ∷ 0 ∷ replicate 544 0;
     }
 unfolding opened
@@ -106,8 +104,7 @@ pub overwritten-right :
       observations = 3 ∷ 2 ∷ 1 ∷ 5
           ∷ 1030 ∷ 10 ∷ 1010
           ∷ 1108101562367 ∷ 1103806595079 ∷ 1103806600072
-          ∷ 1 ∷ 5 ∷ 1000 ∷ 10 ∷ 0 ∷ 1103806595079
-          ∷ 1 ∷ 2 ∷ 1000 ∷ 1000 ∷ 0 ∷ 2199023255551 ∷ [];
+          ∷ firsts (1 ∷ 5 ∷ 1000 ∷ 10 ∷ 0 ∷ 1103806595079 ∷ 1 ∷ 2 ∷ 1000 ∷ 1000 ∷ 0 ∷ 2199023255551 ∷ []);
     }
 unfolding opened
 overwritten-right = refl
@@ -127,8 +124,7 @@ pub unused-places :
       observations = 4 ∷ 2 ∷ 1 ∷ 2
           ∷ 0 ∷ 0 ∷ 0 ∷ 0
           ∷ 0 ∷ 1099511627776 ∷ 108851651149824 ∷ 108851651149824
-          ∷ 1 ∷ 2 ∷ 0 ∷ 0 ∷ 0 ∷ 1099511627776
-          ∷ replicate 6 0;
+          ∷ (firsts (1 ∷ 2 ∷ 0 ∷ 0 ∷ 0 ∷ 1099511627776 ∷ []) ++ replicate 48 0);
       assets = noAssets;
     })
     (shows "/sample" (2 ∷ 1 ∷ 2 ∷ 3 ∷ 1 ∷ 2 ∷ 0 ∷ 0 ∷ 0 ∷ 1099511627776 ∷ [])
@@ -142,7 +138,7 @@ unused-places = refl
 -- store-asset's event overwrites too; with 2 nothing is stored. A model without an asset change item adds no event
 pub overwritten-by-event :
     StoresGive toolModel toolNames
-    (record { observations = 1 ∷ 2 ∷ 1 ∷ 2 ∷ 0 ∷ 2199023255552 ∷ replicate 12 0; assets = noAssets })
+    (record { observations = 1 ∷ 2 ∷ 1 ∷ 2 ∷ 0 ∷ 2199023255552 ∷ replicate 96 0; assets = noAssets })
     (stores (bytes "a") (5 ∷ []) (Unstored Store)
     ∷ Call.body (bytes "a") gives returned [] ∷ [])
     × Ring 2199023255552 1103806600072 1108101562367
@@ -151,7 +147,7 @@ pub overwritten-by-event :
 unfolding opened
 overwritten-by-event = (refl, refl)
 
--- ---- checkpoint and latest words are not tested
+-- ---- checkpoint and latest words are not tested, but for a condition item's form (Conditions)
 
 -- the bench case with other words for item 0: latest number, time, packed word; checkpoint number, time, packed word
 abbrev rowsWith : ℕ → ℕ → ℕ → ℕ → ℕ → ℕ → List ℕ
@@ -159,8 +155,7 @@ rowsWith a b c x y z =
     3 ∷ 2 ∷ 1 ∷ 4
     ∷ 1030 ∷ 1000 ∷ 1010
     ∷ 1108101562367 ∷ 1099511627776 ∷ 1103806600072
-    ∷ a ∷ 4 ∷ b ∷ 1030 ∷ c ∷ 1108101562367
-    ∷ x ∷ 0 ∷ y ∷ 0 ∷ z ∷ 0 ∷ []
+    ∷ firsts (a ∷ 4 ∷ b ∷ 1030 ∷ c ∷ 1108101562367 ∷ x ∷ 0 ∷ y ∷ 0 ∷ z ∷ 0 ∷ [])
 
 abbrev RowsGive : List ℕ → List Step → Type 0
 RowsGive st = StoresGive benchModel benchNames (record { observations = st; assets = noAssets })

@@ -4,7 +4,7 @@ use Prim.Native.Nat.{ℕ, zero, suc, _+_, _≤_, _<_}
 use native.Mathlib.Omega.{arith}
 use mathlib.Core.Path.{_≡_, refl, sym, ap, _∙_}
 use mathlib.Core.Bool.{true, cond}
-use mathlib.Core.List.{List, [], _∷_, map}
+use mathlib.Core.List.{List, [], _∷_, _++_, map}
 use lib.Dec.{ltb}
 use lib.IntN.{pos}
 use lib.ListN.{length, replicate}
@@ -12,7 +12,7 @@ use borrow.Author.Tests.{lt-leb, ne-eqb}
 use Rattle.spec.specs.Bytes.{bytes}
 use Rattle.spec.specs.Value.{takes, repeats, pack, Fits}
 use Rattle.spec.specs.Model.{discrete, items, category, modelOk}
-use Rattle.spec.specs.Observations.{maxNumber, last}
+use Rattle.spec.specs.Observations.{maxNumber, last, latestOk, repeatsAt, crowdedAt}
 use Rattle.spec.specs.Calls
 use Rattle.spec.specs.Calls.{observeItem, observeBy, notObserved, roomFor}
 use Rattle.spec.specs.Reference.{State, Offer, observeAnswer, offerNext, offersAnswers, lastOf}
@@ -31,7 +31,7 @@ use Rattle.spec.proofs.Agree.{observe-agree, store-last}
 use Rattle.spec.proofs.History.{behind-good}
 use Rattle.spec.proofs.Opened.{opened}
 use Rattle.spec.proofs.Fixtures.{Step, shows, stores, at, gives-in, StoresGive, StartGives, cellsOf}
-use Rattle.spec.proofs.Fixtures.{blankAt, noAssets}
+use Rattle.spec.proofs.Fixtures.{blankAt, firsts, noAssets}
 use Rattle.spec.proofs.Fixtures.Step.{_gives_}
 
 -- ---- every value, every store
@@ -48,10 +48,10 @@ pub discrete-order : (model st : List ℕ) (item time : ℕ) (v : Value) → cat
     → observeItem model st item time v
     ≡ cond (ltb item (items model))
     (cond (takes 1 v)
-    (observeBy (roomFor (items model) st) (items model) st item time (pack item v))
+    (observeBy (roomFor (category model) (items model) st) (category model) (items model) st item time (pack item v))
     (notObserved Kind st))
     (notObserved Item st)
-unfolding observeItem repeats
+unfolding observeItem latestOk repeatsAt crowdedAt repeats
 discrete-order model st item time v e = rw (e, discrete-takes v)
 
 -- ---- every list of calls
@@ -121,7 +121,7 @@ pulseStart B =
     record {
       model = pulseModel;
       names = pulseNames;
-      observations = replicate 36 99;
+      observations = replicate 204 99;
       assets = replicate 546 99;
       N = 4;
       A = 1;
@@ -230,7 +230,7 @@ pulse = record { item = 0; time = 10; host = 77; value = Event 7 }
 -- 256 equal events in one delivery: the stores by computation, the reference model by what holds of every such list
 pub discrete-most :
     StoresGive oneModel oneName
-    (record { observations = 1 ∷ 1 ∷ 1 ∷ 1 ∷ 1000 ∷ 0 ∷ 1 ∷ 1000 ∷ 0 ∷ 0 ∷ 0 ∷ 0 ∷ []; assets = noAssets })
+    (record { observations = 1 ∷ 1 ∷ 1 ∷ 1 ∷ 1000 ∷ 0 ∷ firsts (1 ∷ 1000 ∷ 0 ∷ 0 ∷ 0 ∷ 0 ∷ []); assets = noAssets })
     (gives-in (replicate 256 (at 0 10 8589934599)) 256 (Done 256) (rising 256 2)
     ∷ shows "/sample" (1 ∷ 257 ∷ 257 ∷ 258 ∷ 257 ∷ 10 ∷ 8589934599 ∷ []) ∷ [])
     × (offersAnswers oneModel oneName oneState (replicate 256 pulse) ≡ map Recorded (rising 256 2))
@@ -248,8 +248,7 @@ abbrev pulseStore : ℕ → ℕ → ℕ → ℕ → List ℕ
 pulseStore l e x y =
     4 ∷ 4 ∷ 1 ∷ l
     ∷ 0 ∷ 0 ∷ 0 ∷ 0 ∷ e ∷ e ∷ e ∷ e
-    ∷ 1 ∷ 2 ∷ 3 ∷ 4 ∷ 0 ∷ 0 ∷ 0 ∷ 0 ∷ x ∷ y ∷ 2199023255552 ∷ 3298534883328
-    ∷ replicate 12 0
+    ∷ (firsts (1 ∷ 2 ∷ 3 ∷ 4 ∷ 0 ∷ 0 ∷ 0 ∷ 0 ∷ x ∷ y ∷ 2199023255552 ∷ 3298534883328 ∷ []) ++ replicate 96 0)
 
 abbrev Latest : ℕ → ℕ → List Step → Type 0
 Latest x y = StoresGive pulseModel pulseNames (record { observations = pulseStore 4 0 x y; assets = noAssets })

@@ -17,8 +17,7 @@ use Rattle.spec.specs.Text.Request.{sample, current, currentAt, assets, 
 use Rattle.spec.specs.Text.Reading.{unread, asked}
 use Rattle.spec.specs.Path.{select}
 use Rattle.spec.specs.Answers.{refusalNumber, observeWord, storeWord}
-use Rattle.spec.specs.History.{Call, Stores, Start, Window, storesBehind, callOutputs, windowsOf}
-use Rattle.spec.specs.History.{Meets}
+use Rattle.spec.specs.History.{Call, Stores, Start, Window, storesBehind, callOutputs, windowsOf, Meets}
 use Rattle.spec.specs.History.Output.{observed, stored, returned}
 use Rattle.spec.specs.Bench.{benchStart, benchObserves, benchStores}
 use Rattle.spec.specs.declared.Level.the-variants.{Normal, Warning, Fault}
@@ -28,12 +27,11 @@ use Rattle.spec.specs.declared.Selection.{Selection}
 use Rattle.spec.specs.declared.Selection.the-variants.{Items, NotFound}
 use Rattle.spec.specs.declared.Refusal.the-variants.{Model, Store, Size, Item, Kind, Spent, InvalidUri}
 use Rattle.spec.specs.declared.Refusal.the-variants.{InvalidRequest, Unsupported, TooMany, InvalidXpath}
-use Rattle.spec.specs.declared.Refusal.the-variants.{AssetNotFound, Asset, Space, Batch, Late, Early}
+use Rattle.spec.specs.declared.Refusal.the-variants.{AssetNotFound, Asset, Space, Batch, Late, Early, Crowded}
 use Rattle.spec.specs.declared.ObserveAnswer.the-variants.{Recorded, Same, Refused as Unrecorded}
 use Rattle.spec.specs.declared.StoreAnswer.the-variants.{Stored, Refused as Unstored}
 use Rattle.spec.proofs.Opened.{opened}
-use Rattle.spec.proofs.Fixtures.{Step, callOf, shows, ToolsGive, cellsOf, toolStart}
-use Rattle.spec.proofs.Fixtures.{benchStore}
+use Rattle.spec.proofs.Fixtures.{Step, callOf, shows, ToolsGive, cellsOf, toolStart, benchStore}
 use Rattle.spec.proofs.Fixtures.Step.{_gives_}
 
 -- ---- values
@@ -47,18 +45,19 @@ pub packed-words :
     ∷ 2211908157440 ∷ 2211924934661 ∷ 2211958489087 ∷ []
 packed-words = refl
 
--- Unavailable, a sample, an event, Normal 0, Normal 1, Fault 2^24 - 1, Fault 2^24
+-- Unavailable, a sample, an event; Normal 0 and 1; Normal, Warning and Fault of 2^24 - 1, and of 2^24
 abbrev values : List Value
 values =
-    Unavailable ∷ Sample (pos 1) ∷ Event 1
-    ∷ Condition Normal 0 ∷ Condition Normal 1 ∷ Condition Fault 16777215 ∷ Condition Fault 16777216 ∷ []
+    Unavailable ∷ Sample (pos 1) ∷ Event 1 ∷ Condition Normal 0 ∷ Condition Normal 1
+    ∷ Condition Normal 16777215 ∷ Condition Warning 16777215 ∷ Condition Fault 16777215
+    ∷ Condition Normal 16777216 ∷ Condition Warning 16777216 ∷ Condition Fault 16777216 ∷ []
 
 -- each refusal's number; 12 is none's
 pub refusal-numbers :
     map refusalNumber
     (Model ∷ Store ∷ Size ∷ Item ∷ Kind ∷ Spent ∷ InvalidUri ∷ InvalidRequest ∷ Unsupported ∷ TooMany ∷ InvalidXpath
-    ∷ AssetNotFound ∷ Asset ∷ Space ∷ Batch ∷ Late ∷ Early ∷ [])
-    ≡ 1 ∷ 2 ∷ 3 ∷ 4 ∷ 5 ∷ 6 ∷ 7 ∷ 8 ∷ 9 ∷ 10 ∷ 11 ∷ 13 ∷ 14 ∷ 15 ∷ 16 ∷ 17 ∷ 18 ∷ []
+    ∷ AssetNotFound ∷ Asset ∷ Space ∷ Batch ∷ Late ∷ Early ∷ Crowded ∷ [])
+    ≡ 1 ∷ 2 ∷ 3 ∷ 4 ∷ 5 ∷ 6 ∷ 7 ∷ 8 ∷ 9 ∷ 10 ∷ 11 ∷ 13 ∷ 14 ∷ 15 ∷ 16 ∷ 17 ∷ 18 ∷ 19 ∷ []
 refusal-numbers = refl
 
 -- answers as words: number, Same, spent; cell, asset
@@ -72,29 +71,30 @@ answer-words = refl
 pub values-taken :
     (map (takes 0) values ∷ map (takes 1) values ∷ map (takes 2) values ∷ map (takes 3) values ∷ map (takes 4) values
     ∷ [])
-    ≡ (true ∷ true ∷ false ∷ false ∷ false ∷ false ∷ false ∷ [])
-    ∷ (true ∷ false ∷ true ∷ false ∷ false ∷ false ∷ false ∷ [])
-    ∷ (true ∷ false ∷ false ∷ true ∷ false ∷ true ∷ false ∷ [])
-    ∷ (false ∷ false ∷ false ∷ false ∷ false ∷ false ∷ false ∷ [])
-    ∷ (true ∷ false ∷ true ∷ false ∷ false ∷ false ∷ false ∷ []) ∷ []
+    ≡ (true ∷ true ∷ false ∷ replicate 8 false)
+    ∷ (true ∷ false ∷ true ∷ replicate 8 false)
+    ∷ (true ∷ false ∷ false ∷ true ∷ true ∷ true ∷ true ∷ true ∷ false ∷ false ∷ false ∷ [])
+    ∷ replicate 11 false
+    ∷ (true ∷ false ∷ true ∷ replicate 8 false) ∷ []
 values-taken = refl
 
 -- a value's word back: the lowest and the highest of each kind
 pub words-decoded :
     map decode
     (0 ∷ 4294967296 ∷ 6442450943 ∷ 6442450944 ∷ 8589934591 ∷ 8589934592 ∷ 12884901887
-    ∷ 12884901888 ∷ 12901679104 ∷ 12935233535 ∷ [])
+    ∷ 12884901888 ∷ 12884901889 ∷ 12901679103 ∷ 12901679104 ∷ 12918456319 ∷ 12918456320 ∷ 12935233535 ∷ [])
     ≡ Unavailable ∷ Sample (pos 0) ∷ Sample (pos 2147483647) ∷ Sample (negsuc 2147483647) ∷ Sample (negsuc 0)
     ∷ Event 0 ∷ Event 4294967295
-    ∷ Condition Normal 0 ∷ Condition Warning 0 ∷ Condition Fault 16777215 ∷ []
+    ∷ Condition Normal 0 ∷ Condition Normal 1 ∷ Condition Normal 16777215
+    ∷ Condition Warning 0 ∷ Condition Warning 16777215 ∷ Condition Fault 0 ∷ Condition Fault 16777215 ∷ []
 unfolding opened
 words-decoded = refl
 
 -- the words beside them are no value's, and no item takes what they give
 pub words-refused :
     map (λ w. map (λ c. takes c (decode w)) (0 ∷ 1 ∷ 2 ∷ 3 ∷ 4 ∷ []))
-    (1 ∷ 4294967295 ∷ 12884901889 ∷ 12935233536 ∷ 17179869183 ∷ 17179869184 ∷ 18446744073709551615 ∷ [])
-    ≡ replicate 7 (replicate 5 false)
+    (1 ∷ 4294967295 ∷ 12935233536 ∷ 17179869183 ∷ 17179869184 ∷ 18446744073709551615 ∷ [])
+    ≡ replicate 6 (replicate 5 false)
 unfolding opened
 words-refused = refl
 
@@ -325,7 +325,7 @@ tool-bytes = refl
 
 -- the bench case; a sample, one that is refused, an observe, and a sample that goes on where the first ended
 abbrev clientStart : Start
-clientStart = benchStart (replicate 22 0) (replicate 546 0)
+clientStart = benchStart (replicate 106 0) (replicate 546 0)
 
 abbrev clientCalls : List Call
 clientCalls =

@@ -72,6 +72,17 @@ StartGives a p ss =
     (storesOutputs a (map callOf ss) ≡ (started (Done 0) ∷ []) ∷ map outputOf ss)
     × (referenceOutputs a p (map callOf ss) ≡ (started (Done 0) ∷ []) ∷ map outputOf ss)
 
+-- ---- tables
+
+-- a table's columns whose items have these words in their first entry and nothing behind it
+abbrev pub firsts : List ℕ → List ℕ
+firsts [] = []
+firsts (x ∷ xs) = (x ∷ replicate 7 0) ++ firsts xs
+
+-- one item's table: eight numbers, times and packed words; zeros behind those given
+abbrev pub tableOf : List ℕ → List ℕ → List ℕ → List ℕ
+tableOf ns ts ws = pad 8 ns ++ (pad 8 ts ++ pad 8 ws)
+
 -- ---- names
 
 abbrev pub cellsOf : List (List ℕ) → List ℕ
@@ -92,7 +103,7 @@ noAssets = 1 ∷ 0 ∷ replicate 544 0
 
 -- numbers 1 to l, each item 0 Unavailable at time 0
 abbrev pub plainStore : ℕ → ℕ → List ℕ
-plainStore N l = N ∷ 1 ∷ 1 ∷ l ∷ replicate (2 * N + 6) 0
+plainStore N l = N ∷ 1 ∷ 1 ∷ l ∷ replicate (2 * N + 48) 0
 
 abbrev pub plainRun : ℕ → ℕ → List Observation
 plainRun zero n = []
@@ -116,7 +127,7 @@ toolStart B =
     record {
       model = toolModel;
       names = toolNames;
-      observations = replicate 24 99;
+      observations = replicate 108 99;
       assets = replicate 1090 99;
       N = 4;
       A = 2;
@@ -137,6 +148,30 @@ toolState B =
 abbrev pub ToolsGive : ℕ → List Step → Type 0
 ToolsGive B = StartGives (toolStart B) (toolState B)
 
+-- ---- one condition item
+
+abbrev pub alarmModel : List ℕ
+alarmModel = 1 ∷ 1 ∷ 0 ∷ 131073 ∷ []
+
+abbrev pub alarmNames : List ℕ
+alarmNames = cellsOf (bytes "A" ∷ bytes "B" ∷ [])
+
+-- words of item 0: Normal, Warning and Fault of code c
+abbrev pub z : ℕ → ℕ
+z c = 12884901888 + c
+
+abbrev pub w : ℕ → ℕ
+w c = 12901679104 + c
+
+abbrev pub f : ℕ → ℕ
+f c = 12918456320 + c
+
+-- Warning of the codes 1 to 8, numbered 2 to 9, at times 20 to 90
+abbrev pub eightWarnings : List ℕ
+eightWarnings =
+    tableOf (2 ∷ 3 ∷ 4 ∷ 5 ∷ 6 ∷ 7 ∷ 8 ∷ 9 ∷ []) (20 ∷ 30 ∷ 40 ∷ 50 ∷ 60 ∷ 70 ∷ 80 ∷ 90 ∷ [])
+    (w 1 ∷ w 2 ∷ w 3 ∷ w 4 ∷ w 5 ∷ w 6 ∷ w 7 ∷ w 8 ∷ [])
+
 -- ---- the bench case behind its observes: N 3, first 2, last 4
 
 -- the store with these packed words for the numbers 2, 3 and 4, which are at the ring's places 1, 2 and 0
@@ -145,8 +180,7 @@ benchWith x y z =
     3 ∷ 2 ∷ 1 ∷ 4
     ∷ 1030 ∷ 1000 ∷ 1010
     ∷ z ∷ x ∷ y
-    ∷ 1 ∷ 4 ∷ 1000 ∷ 1030 ∷ 0 ∷ 1108101562367
-    ∷ 1 ∷ 0 ∷ 1000 ∷ 0 ∷ 0 ∷ 0 ∷ []
+    ∷ (firsts (1 ∷ 4 ∷ 1000 ∷ 1030 ∷ 0 ∷ 1108101562367 ∷ []) ++ firsts (1 ∷ 0 ∷ 1000 ∷ 0 ∷ 0 ∷ 0 ∷ []))
 
 abbrev pub benchStore : List ℕ
 benchStore = benchWith 1099511627776 1103806600072 1108101562367

@@ -1,6 +1,7 @@
 -- What is proved of the definitions.
 pub mod Words
 pub mod Tables
+pub mod Blocks
 pub mod Bits
 pub mod Bytes
 pub mod Packing
@@ -18,6 +19,10 @@ pub mod Assets
 pub mod Reply
 pub mod Free
 pub mod Recorded
+pub mod Standing
+pub mod Entries
+pub mod Steps
+pub mod Pass
 pub mod Kept
 pub mod Rows
 pub mod Start
@@ -41,5 +46,6 @@ pub mod Damaged
 pub mod Batches
 pub mod Discrete
 pub mod Late
+pub mod Conditions
 pub mod Refusals
 pub mod Twelve

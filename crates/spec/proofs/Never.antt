@@ -23,9 +23,9 @@ use Rattle.spec.specs.Path.{select}
 use Rattle.spec.specs.Answers.{refusalNumber, answerNumber, observeWord, storeWord}
 use Rattle.spec.specs.Observations.{maxNumber}
 use Rattle.spec.specs.Reply.{Replied, over, observationWords, assetWords, written, observationReply, assetReply}
-use Rattle.spec.specs.Reference.{State, Offer, Held, newest, sameValue, spent, lastOf, place, holds, makeRoom}
-use Rattle.spec.specs.Reference.{allHeld, observeAnswer, observeNext, offerNext, offersAnswers, batchAnswer}
-use Rattle.spec.specs.Reference.{offerOf, batchOffers, assetsAfter, storeAnswer, currentFor}
+use Rattle.spec.specs.Reference.{State, Offer, Held, sameValue, crowdedValue, spent, lastOf, place, holds}
+use Rattle.spec.specs.Reference.{makeRoom, allHeld, observeAnswer, observeNext, offerNext, offersAnswers}
+use Rattle.spec.specs.Reference.{batchAnswer, offerOf, batchOffers, assetsAfter, storeAnswer, currentFor}
 use Rattle.spec.specs.Reference.{replyTo, replyReading, beginAnswer}
 use Rattle.spec.specs.Reference
 use Rattle.spec.specs.Reference.{Begun}
@@ -135,11 +135,12 @@ module _ (model names : List ℕ) where
       by-cond (Sound 2) (not (modelOk model names)) _ _ (λ h. refl)
       (λ h. by-cond (Sound 2) (leb (items model) item) _ _ (λ h. refl)
       (λ h. by-cond (Sound 2) (not (takes (category model item) v)) _ _ (λ h. refl)
-      (λ h. by-cond (Sound 2) (sameValue (category model item) (newest item (p .H) .value) v) _ _ (λ h. tt)
+      (λ h. by-cond (Sound 2) (sameValue (category model item) item (p .H) v) _ _ (λ h. tt)
+      (λ h. by-cond (Sound 2) (crowdedValue (category model item) item (p .H) v) _ _ (λ h. refl)
       (λ h. by-cond (Sound 2) (spent p) _ _ (λ h. refl)
       (λ h.
       let n : lastOf p ≢ maxNumber = eqb-false (lastOf p) maxNumber h in
-      omega arith)))))
+      omega arith))))))
 
   low-offer : (p : State) → Low p → (o : Offer) → Low (offerNext model names p o)
   low-offer p l o = go (observeAnswer model names p (o .item) (o .value)) (observe-sound p l (o .item) (o .value))

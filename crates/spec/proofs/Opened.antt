@@ -10,24 +10,27 @@ use Rattle.spec.specs.Text.{uriOk, wordOf, slotOf, takesSlot, addPart, a
 use Rattle.spec.specs.Text.{currentRequest, idText, idTexts, assetRequest, readWord, readText}
 use Rattle.spec.specs.Path.{typedForm, formBehind, formOf, isNamed, under, inSubtree, inTyped, selectSubtree}
 use Rattle.spec.specs.Path.{selectTyped, selectForm, select}
+use Rattle.spec.specs.Blocks.{tableRows, putRows, padded, flatRows}
+use Rattle.spec.specs.Entries.{active, normal, anyEntry, eachRow, entered, cleared, stepActive, step, repeatsIn}
+use Rattle.spec.specs.Entries.{crowded, usedRows, codesDiffer, formOk}
 use Rattle.spec.specs.Observations.{headOk, evict, add, evictOk, blank, addAll, startStore, ringOk, sampleRows}
-use Rattle.spec.specs.Observations.{currentRows, newestIn, atRows}
+use Rattle.spec.specs.Observations.{newestIn, entriesIn, currentRows, atRows, currentOk, atOk, latestOk}
+use Rattle.spec.specs.Observations.{repeatsAt, crowdedAt}
+use Rattle.spec.specs.Standing.{standsIn, withEntry, standingFrom, entriesOf, entriesRows, levelStands}
 use Rattle.spec.specs.Assets.{assetHeadOk, idOk, bodyOk, assetOk, find, renew, cellFor, storeCells, startAssets}
 use Rattle.spec.specs.Assets.{lengthOk, bodyPlace}
 use Rattle.spec.specs.Reply.{numbers, pairs, lengths, observationWords, assetWords, written, observationReply}
 use Rattle.spec.specs.Reply.{assetReply, readRows}
 use Rattle.spec.specs.Calls.{startOk, startBoth, start, roomFor, observeItem, observe, observeAll, admitted}
-use Rattle.spec.specs.Calls.{observeBatch, keepAsset, storeAsset}
-use Rattle.spec.specs.Calls.{inRange, sampleBetween, sampleReply, currentReply, currentUpTo, atReply, cellRows}
-use Rattle.spec.specs.Calls.{allCells, cellsReply, findAll, namedReply, downFrom, answerRequest, answerReading}
-use Rattle.spec.specs.Calls.{request, body}
+use Rattle.spec.specs.Calls.{observeBatch, keepAsset, storeAsset, inRange, sampleBetween, sampleReply}
+use Rattle.spec.specs.Calls.{currentReply, currentUpTo, atReply, cellRows, allCells, cellsReply, findAll}
+use Rattle.spec.specs.Calls.{namedReply, downFrom, answerRequest, answerReading, request, body}
 use Rattle.spec.specs.Reference.{keep, newestOr, lastOr, sizeWrong, unavailable, begin, observeAnswer}
 use Rattle.spec.specs.Reference.{offersAnswers, offersNext, batchAnswer, place}
-use Rattle.spec.specs.Reference.{storeAnswer, sampleFor, currentFor, foundRows, atFor, heldRows, allHeld}
+use Rattle.spec.specs.Reference.{storeAnswer, sampleFor, currentFor, atFor, heldRows, allHeld}
 use Rattle.spec.specs.Reference.{placesOf, newestFirst, replyTo, replyReading, reply, bodyOf}
-use Rattle.spec.specs.History.{storesRun, storesAfter, referenceRun, referenceAfter, callOutputs}
-use Rattle.spec.specs.History.{storesOutputs, referenceOutputs, windowsOfOutputs, windowsOf, lastNext}
-use Rattle.spec.specs.History.{joined}
+use Rattle.spec.specs.History.{storesRun, storesAfter, referenceRun, referenceAfter, callOutputs, storesOutputs}
+use Rattle.spec.specs.History.{referenceOutputs, windowsOfOutputs, windowsOf, lastNext, joined}
 use Rattle.spec.specs.Bench.{benchStores, benchRequest}
 
 unfoldable pub openedWords : Unit {0}
@@ -55,8 +58,14 @@ unfoldable pub openedPath : Unit {0}
 unfolding typedForm formBehind formOf isNamed under inSubtree inTyped selectSubtree selectTyped selectForm select
 openedPath = tt
 
+unfoldable pub openedEntries : Unit {0}
+unfolding tableRows putRows padded flatRows active normal anyEntry eachRow entered cleared stepActive step repeatsIn
+    crowded usedRows codesDiffer formOk
+openedEntries = tt
+
 unfoldable pub openedObservations : Unit {0}
-unfolding headOk evict add evictOk blank addAll startStore ringOk sampleRows currentRows newestIn atRows
+unfolding headOk evict add evictOk blank addAll startStore ringOk sampleRows newestIn entriesIn currentRows atRows
+    currentOk atOk latestOk repeatsAt crowdedAt
 openedObservations = tt
 
 unfoldable pub openedAssets : Unit {0}
@@ -73,9 +82,13 @@ unfolding startOk startBoth start roomFor observeItem observe observeAll admitte
     downFrom answerRequest answerReading request body
 openedCalls = tt
 
+unfoldable pub openedStanding : Unit {0}
+unfolding standsIn withEntry standingFrom entriesOf entriesRows levelStands
+openedStanding = tt
+
 unfoldable pub openedReference : Unit {0}
 unfolding keep newestOr lastOr sizeWrong unavailable begin observeAnswer offersAnswers offersNext batchAnswer place
-    storeAnswer sampleFor currentFor foundRows atFor heldRows allHeld placesOf newestFirst replyTo replyReading reply
+    storeAnswer sampleFor currentFor atFor heldRows allHeld placesOf newestFirst replyTo replyReading reply
     bodyOf
 openedReference = tt
 
@@ -89,6 +102,6 @@ unfolding benchStores benchRequest
 openedBench = tt
 
 unfoldable pub opened : Unit {0}
-unfolding openedWords openedBytes openedValue openedModel openedText openedPath openedObservations openedAssets
-    openedReply openedCalls openedReference openedHistory openedBench
+unfolding openedWords openedBytes openedValue openedModel openedText openedPath openedEntries openedObservations
+    openedAssets openedReply openedCalls openedStanding openedReference openedHistory openedBench
 opened = tt

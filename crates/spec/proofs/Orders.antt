@@ -21,8 +21,8 @@ use Rattle.spec.specs.declared.Refusal.the-variants.{InvalidRequest, Uns
 use Rattle.spec.specs.declared.Refusal.the-variants.{AssetNotFound, Asset, Late, Early}
 use Rattle.spec.proofs.Opened.{opened}
 use Rattle.spec.proofs.Fixtures.{Step, refuses, refusesIn, stores, StoresGive, BothGive, ToolsGive}
-use Rattle.spec.proofs.Fixtures.{BenchGives, plainNames, noAssets, toolModel, toolNames, toolState}
-use Rattle.spec.proofs.Fixtures.{benchWith, benchStore}
+use Rattle.spec.proofs.Fixtures.{BenchGives, firsts, plainNames, noAssets, toolModel, toolNames}
+use Rattle.spec.proofs.Fixtures.{toolState, benchWith, benchStore}
 use Rattle.spec.proofs.Fixtures.Step.{_gives_}
 
 -- ---- requests
@@ -115,8 +115,8 @@ asset-orders = refl
 -- 4 before 5: a value that no item takes, of an item that isn't there
 pub item-orders :
     BenchGives
-    (Call.observe 2 10 10 (Condition Normal 1) gives observed (Unrecorded Item)
-    ∷ Call.observe 1 10 10 (Condition Normal 1) gives observed (Unrecorded Kind)
+    (Call.observe 2 10 10 (Condition Normal 16777216) gives observed (Unrecorded Item)
+    ∷ Call.observe 1 10 10 (Condition Normal 16777216) gives observed (Unrecorded Kind)
     ∷ Call.observe 1 10 10 (Event 1) gives observed (Unrecorded Kind) ∷ [])
 unfolding opened
 item-orders = (refl, refl)
@@ -127,8 +127,7 @@ pub kind-orders :
     (record {
       observations = 1 ∷ 2 ∷ 1 ∷ 2
           ∷ 0 ∷ 1099511627776
-          ∷ 1 ∷ 2 ∷ 0 ∷ 0 ∷ 0 ∷ 1108101562375
-          ∷ replicate 6 0;
+          ∷ (firsts (1 ∷ 2 ∷ 0 ∷ 0 ∷ 0 ∷ 1108101562375 ∷ []) ++ replicate 48 0);
       assets = noAssets;
     })
     (Call.observe 1 10 10 (Event 7) gives observed (Unrecorded Kind) ∷ [])
@@ -151,7 +150,7 @@ spent-orders = (refl, refl)
 
 -- the ring is full, its words have an item that the model doesn't have
 abbrev wrongEntry : ℕ → List ℕ
-wrongEntry l = 1 ∷ 2 ∷ 1 ∷ l ∷ 0 ∷ 2199023255552 ∷ replicate 12 0
+wrongEntry l = 1 ∷ 2 ∷ 1 ∷ l ∷ 0 ∷ 2199023255552 ∷ replicate 96 0
 
 abbrev EntryGives : ℕ → List Step → Type 0
 EntryGives l = StoresGive toolModel toolNames (record { observations = wrongEntry l; assets = noAssets })

@@ -23,17 +23,12 @@ Coded (Sample x) = FitsSample x
 Coded (Event c) = c < 2 ^ 32
 Coded (Condition l c) = c < 2 ^ 24
 
-native-lt : (l : Level) (c : ℕ) → nativeOk l c ≡ true → c < 2 ^ 24
-native-lt Normal c h = omega (arith, eqb-true c 0 h)
-native-lt Warning c h = ltb-true c (2 ^ 24) h
-native-lt Fault c h = ltb-true c (2 ^ 24) h
-
 -- what an item takes is coded
 pub taken-coded : (category : ℕ) (v : Value) → takes category v ≡ true → Fits v → Coded v
 taken-coded category Unavailable h f = tt
 taken-coded category (Sample x) h f = f
 taken-coded category (Event c) h f = f
-taken-coded category (Condition l c) h f = native-lt l c (and-eq-true-iff (eqb category 2) (nativeOk l c) .0 h .1)
+taken-coded category (Condition l c) h f = ltb-true c (2 ^ 24) (and-eq-true-iff (eqb category 2) (nativeOk c) .0 h .1)
 
 -- ---- bounds
 

@@ -1,17 +1,17 @@
 -- Facts about H alone: numbered one after another, the newest of an item, the parts between two numbers.
-use mathlib.Core.Path.{_≡_, refl, sym, ap, _∙_, subst}
-use mathlib.Core.Logic.{_≢_, _⊎_, inl, inr}
-use mathlib.Core.Bool.{Bool, true, false, cond, _&&_, not, and-false}
+use mathlib.Core.Path.{_≡_, refl, ap}
+use mathlib.Core.Logic.{_≢_}
+use mathlib.Core.Bool.{Bool, true, false, cond, and-false}
 use Prim.Native.Nat.{ℕ, zero, suc, _+_, _-_, _*_, _/_, _%_, _≤_, _<_}
 use native.Mathlib.Nat.{div-add-mod', mul-le-mul-right, suc-mul}
 use native.Mathlib.Omega.{arith}
-use mathlib.Core.List.{List, [], _∷_, _++_, map}
+use mathlib.Core.List.{List, [], _∷_, _++_}
 use lib.Dec.{leb, ltb, eqb}
-use lib.ListN.{length, getD, take, drop, length-append, List·getD-append}
+use lib.ListN.{length, getD, length-append, List·getD-append}
 use lib.Seq.{slice, take-nil, drop-nil, getD-append-seam}
-use borrow.Author.Tests.{ltb-true, ltb-false, leb-true, leb-false, eqb-true, eqb-false, lt-ltb, le-ltb, le-leb, lt-leb}
-use borrow.Author.Tests.{eq-eqb, ne-eqb}
-use Rattle.spec.specs.Reference.{Observation, nothing, keep, newestOr, newest, lastOr, within, matching}
+use borrow.Author.Tests.{ltb-true, ltb-false, leb-true, leb-false, eqb-true}
+use Rattle.spec.proofs.Words.{by-test}
+use Rattle.spec.specs.Reference.{Observation, nothing, keep, newestOr, newest, lastOr, within}
 
 -- H's numbers are B, B + 1, ..
 abbrev pub Numbered : ℕ → List Observation → Type 0
@@ -23,11 +23,13 @@ numbered-at [] B k n h = omega arith
 numbered-at (o ∷ H) B zero n h = omega (arith, n .0)
 numbered-at (o ∷ H) B (suc k) n h = omega (arith, numbered-at H (suc B) k (n .1) (omega arith))
 
-pub numbered-append : (H : List Observation) (B : ℕ) (o : Observation) → Numbered B H → o .number ≡ B + length H → Numbered B (H ++ (o ∷ []))
+pub numbered-append : (H : List Observation) (B : ℕ) (o : Observation) → Numbered B H → o .number ≡ B + length H
+    → Numbered B (H ++ (o ∷ []))
 numbered-append [] B o n e = (omega arith, tt)
 numbered-append (x ∷ H) B o n e = (n .0, numbered-append H (suc B) o (n .1) (omega arith))
 
-pub newestOr-append : (X Y : List Observation) (d : Observation) (i : ℕ) → newestOr d i (X ++ Y) ≡ newestOr (newestOr d i X) i Y
+pub newestOr-append : (X Y : List Observation) (d : Observation) (i : ℕ)
+    → newestOr d i (X ++ Y) ≡ newestOr (newestOr d i X) i Y
 unfolding newestOr
 newestOr-append [] Y d i = refl
 newestOr-append (o ∷ X) Y d i = newestOr-append X Y (cond (eqb (o .item) i) o d) i
@@ -58,8 +60,14 @@ within-slice (o ∷ H) B f e n = go (leb f (o .number)) (ltb (o .number) e) refl
         let z'' : f - suc B ≡ 0 = omega (arith, leb-true, n .0) in
         rw (hp, hq, ih, z, z', z'')
 
+pub keep-append : (q : Observation → Bool) (X Y : List Observation) → keep q (X ++ Y) ≡ keep q X ++ keep q Y
+unfolding keep
+keep-append q [] Y = refl
+keep-append q (x ∷ X) Y = by-test (q x) (λ e. rw (e, keep-append q X Y)) (λ e. rw (e, keep-append q X Y))
+
 -- what holds of each element of H, and of o behind them, holds of each element of H with o
-pub each-append : (P : ℕ → Observation → Type 0) (H : List Observation) (o : Observation) → ((k : ℕ) → k < length H → P k (getD H k nothing)) → P (length H) o
+pub each-append : (P : ℕ → Observation → Type 0) (H : List Observation) (o : Observation)
+    → ((k : ℕ) → k < length H → P k (getD H k nothing)) → P (length H) o
     → (k : ℕ) → k < length (H ++ (o ∷ [])) → P k (getD (H ++ (o ∷ [])) k nothing)
 each-append P H o all new k h = go (ltb k (length H)) refl
   where
@@ -70,7 +78,8 @@ each-append P H o all new k h = go (ltb k (length H)) refl
         rw (q, getD-append-seam H o [] nothing) new
 
 -- the newest with one more
-pub newest-snoc : (G : List Observation) (o : Observation) (i : ℕ) → newest i (G ++ (o ∷ [])) ≡ cond (eqb (o .item) i) o (newest i G)
+pub newest-snoc : (G : List Observation) (o : Observation) (i : ℕ)
+    → newest i (G ++ (o ∷ [])) ≡ cond (eqb (o .item) i) o (newest i G)
 unfolding newestOr
 newest-snoc G o i = newestOr-append G (o ∷ []) nothing i
 

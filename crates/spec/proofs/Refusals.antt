@@ -1,18 +1,18 @@
--- Refusals: each of the seventeen is given by some call, and no call answers 12; a refused call changes nothing. Of
+-- Refusals: each of the eighteen is given by some call, and no call answers 12; a refused call changes nothing. Of
 -- whatever inputs.
 use mathlib.Core.Path.{_≡_, refl}
 use mathlib.Core.Bool.{_&&_}
 use Prim.Native.Nat.{ℕ, suc, _-_, _^_}
-use mathlib.Core.List.{List, [], _∷_}
+use mathlib.Core.List.{List, [], _∷_, _++_}
 use lib.IntN.{pos}
 use lib.Dec.{leb, ltb}
 use lib.ListN.{length, replicate}
 use Rattle.spec.specs.Bytes.{bytes}
 use Rattle.spec.specs.Value.{pack}
-use Rattle.spec.specs.Model.{items, hasChange, modelOk}
+use Rattle.spec.specs.Model.{items, category, hasChange, modelOk}
 use Rattle.spec.specs.Text.{readText}
 use Rattle.spec.specs.Path.{select}
-use Rattle.spec.specs.Observations.{ringSize, base, last, headOk, ringOk}
+use Rattle.spec.specs.Observations.{ringSize, base, last, headOk, ringOk, currentOk, atOk}
 use Rattle.spec.specs.Assets.{used, lengthAt, assetHeadOk, assetOk, cellFor, storeCells, lengthOk}
 use Rattle.spec.specs.Reply.{Replied, refuse, over, observationWords, written, observationReply, assetReply}
 use Rattle.spec.specs.Answers.{answerNumber, observeWord, storeWord}
@@ -20,16 +20,15 @@ use Rattle.spec.specs.Text.{Request, Reading}
 use Rattle.spec.specs.Text.Request.{sample, current, currentAt, assets, allAssets}
 use Rattle.spec.specs.Text.Reading.{unread, asked}
 use Rattle.spec.specs.Calls.{timeOr, Started, Observed, Answered, Batched, Kept, first, startOf, endOf, startOk}
-use Rattle.spec.specs.Calls.{startBoth, start}
-use Rattle.spec.specs.Calls.{observeAll, admitted, batchBy, observeBatch}
-use Rattle.spec.specs.Calls.{roomFor, observeBy, observe, keepBy, keepAsset, storeAsset, unless}
-use Rattle.spec.specs.Calls.{inRange}
-use Rattle.spec.specs.Calls.{sampleBetween, sampleReply, currentReply, currentUpTo, atReply, cellRows, allCells}
-use Rattle.spec.specs.Calls.{cellsReply, findAll, namedReply, answerRequest, answerReading, request}
+use Rattle.spec.specs.Calls.{startBoth, start, observeAll, admitted, batchBy, observeBatch, roomFor, observeBy}
+use Rattle.spec.specs.Calls.{observe, keepBy, keepAsset, storeAsset, unless, inRange, sampleBetween, sampleReply}
+use Rattle.spec.specs.Calls.{currentReply, currentUpTo, atReply, cellRows, allCells, cellsReply, findAll}
+use Rattle.spec.specs.Calls.{namedReply, answerRequest, answerReading, request}
 use Rattle.spec.specs.Bench.{benchModel, benchNames}
 use Rattle.spec.specs.declared.Record.{Record}
 use Rattle.spec.specs.declared.Value.{Value}
-use Rattle.spec.specs.declared.Value.the-variants.{Sample}
+use Rattle.spec.specs.declared.Level.the-variants.{Fault}
+use Rattle.spec.specs.declared.Value.the-variants.{Sample, Condition}
 use Rattle.spec.specs.declared.Refusal.{Refusal}
 use Rattle.spec.specs.declared.Refusal.the-variants.{Space}
 use Rattle.spec.specs.declared.Answer.{Answer}
@@ -41,7 +40,7 @@ use Rattle.spec.specs.declared.Verdict.the-variants.{Fine, Refused as Ag
 use Rattle.spec.specs.declared.Selection.{Selection}
 use Rattle.spec.specs.declared.Selection.the-variants.{Items, NotFound}
 use Rattle.spec.proofs.Opened.{opened}
-use Rattle.spec.proofs.Fixtures.{noAssets, benchStore}
+use Rattle.spec.proofs.Fixtures.{noAssets, benchStore, alarmModel, alarmNames, w, eightWarnings}
 use Rattle.spec.proofs.Words.{by-cond}
 use Rattle.spec.proofs.Heads.{item-cases}
 
@@ -61,8 +60,14 @@ observes item v = observeWord (observe benchModel benchNames benchStore item 1 1
 -- the same at the highest sequence number
 pub spentObserve : ℕ
 spentObserve =
-    let st = start benchModel benchNames (replicate 22 0) (replicate 546 0) 3 1 (2 ^ 63 - 2) 1000 .observations in
+    let st = start benchModel benchNames (replicate 106 0) (replicate 546 0) 3 1 (2 ^ 63 - 2) 1000 .observations in
     observeWord (observe benchModel benchNames st 1 1 1 (Sample (pos 5)) .answer) - 2 ^ 63
+
+-- a ninth code, where eight stand
+pub ninthCode : ℕ
+ninthCode =
+    let st : List ℕ = 1 ∷ 1 ∷ 1 ∷ 9 ∷ 90 ∷ w 8 ∷ (eightWarnings ++ replicate 24 0) in
+    observeWord (observe alarmModel alarmNames st 0 1 1 (Condition Fault 9) .answer) - 2 ^ 63
 
 -- a record of item 0
 abbrev unavailable : Record
@@ -73,7 +78,7 @@ pub given : List ℕ
 given =
     answerNumber (request [] benchNames benchStore noAssets (bytes "/current") [] .answer)
     ∷ answerNumber (request benchModel benchNames [] noAssets (bytes "/current") [] .answer)
-    ∷ answerNumber (start benchModel benchNames (replicate 22 0) (replicate 546 0) 0 1 1 1000 .answer)
+    ∷ answerNumber (start benchModel benchNames (replicate 106 0) (replicate 546 0) 0 1 1 1000 .answer)
     ∷ observes 2 (Sample (pos 5))
     ∷ observes 0 (Sample (pos 5))
     ∷ spentObserve
@@ -88,10 +93,11 @@ given =
     ∷ answerNumber (observeBatch benchModel benchNames benchStore (replicate 257 unavailable) 1 [] .answer)
     ∷ asks (bytes "/sample?from=1")
     ∷ asks (bytes "/sample?from=6")
+    ∷ ninthCode
     ∷ []
 
-pub each-given : given ≡ 1 ∷ 2 ∷ 3 ∷ 4 ∷ 5 ∷ 6 ∷ 7 ∷ 8 ∷ 9 ∷ 10 ∷ 11 ∷ 13 ∷ 14 ∷ 15 ∷ 16 ∷ 17 ∷ 18 ∷ []
-unfolding asksIn asks observes spentObserve given opened
+pub each-given : given ≡ 1 ∷ 2 ∷ 3 ∷ 4 ∷ 5 ∷ 6 ∷ 7 ∷ 8 ∷ 9 ∷ 10 ∷ 11 ∷ 13 ∷ 14 ∷ 15 ∷ 16 ∷ 17 ∷ 18 ∷ 19 ∷ []
+unfolding asksIn asks observes spentObserve ninthCode given opened
 each-given = refl
 
 -- ---- a refused call changes nothing
@@ -109,9 +115,10 @@ start-keeps model names st bs N A B host =
 abbrev KeepsObserve : List ℕ → Observed → Type 0
 KeepsObserve st o = (r : Refusal) → o .answer ≡ Unrecorded r → o .observations ≡ st
 
-observe-by : (x : Verdict) (m : ℕ) (st : List ℕ) (item time word : ℕ) → KeepsObserve st (observeBy x m st item time word)
-observe-by Fine m st item time word r q = cc
-observe-by (Against x) m st item time word r q = refl
+observe-by : (x : Verdict) (cat : ℕ → ℕ) (m : ℕ) (st : List ℕ) (item time word : ℕ)
+    → KeepsObserve st (observeBy x cat m st item time word)
+observe-by Fine cat m st item time word r q = cc
+observe-by (Against x) cat m st item time word r q = refl
 
 pub observe-keeps : (model names st : List ℕ) (item time host : ℕ) (v : Value) → KeepsObserve st (observe model names st item time host v)
 unfolding observe
@@ -119,7 +126,8 @@ observe-keeps model names st item time host v =
     by-cond (KeepsObserve st) (modelOk model names) _ _
     (λ a. by-cond (KeepsObserve st) (headOk (items model) st) _ _
     (λ b. item-cases (KeepsObserve st) model st item (timeOr time host) v (λ x r q. refl) (λ r q. refl)
-    (λ l. observe-by (roomFor (items model) st) (items model) st item (timeOr time host) (pack item v)))
+    (λ l. observe-by (roomFor (category model) (items model) st) (category model) (items model) st item
+    (timeOr time host) (pack item v)))
     (λ b r q. refl))
     (λ a r q. refl)
 
@@ -153,7 +161,10 @@ store-keeps model names st bs id content host =
     by-cond (KeepsStore st bs) (modelOk model names) _ _
     (λ a. by-cond (KeepsStore st bs) (headOk (items model) st && assetHeadOk bs) _ _
     (λ b. by-cond (KeepsStore st bs) (assetOk id content) _ _
-    (λ c. by-cond (KeepsStore st bs) (hasChange model) _ _ (λ d. keep-by (roomFor (items model) st) model st bs id content host) (λ d. stored-keeps (cellFor id bs) st bs (storeCells id content bs)))
+    (λ c.
+    by-cond (KeepsStore st bs) (hasChange model) _ _
+    (λ d. keep-by (roomFor (category model) (items model) st) model st bs id content host)
+    (λ d. stored-keeps (cellFor id bs) st bs (storeCells id content bs)))
     (λ c r q. (refl, refl)))
     (λ b r q. (refl, refl)))
     (λ a r q. (refl, refl))
@@ -200,27 +211,34 @@ module _ (reply : List ℕ) where
       let f : ℕ = startOf (first st) from in
       unless-keeps (inRange (first st) (suc (last st)) f) (sampleBetween m st sel f (endOf f count (last st)) reply) (between-keeps m st sel f (endOf f count (last st)))
 
-  current-keeps : (m : ℕ) (st : List ℕ) (s : Selection) → K (currentReply m st reply s)
+  current-keeps : (cat : ℕ → ℕ) (m : ℕ) (st : List ℕ) (s : Selection) → K (currentReply cat m st reply s)
   unfolding currentReply
-  current-keeps m st NotFound = refuse-keeps _
-  current-keeps m st (Items sel) = observation-keeps _ _ _ _
+  current-keeps cat m st NotFound = refuse-keeps _
+  current-keeps cat m st (Items sel) =
+      by-cond K (currentOk cat (ringSize st) m st sel) _ _ (λ h. observation-keeps _ _ _ _) (λ h. refuse-keeps _)
 
-  upTo-keeps : (m : ℕ) (st : List ℕ) (sel number : ℕ) → K (currentUpTo m st sel number reply)
+  upTo-keeps : (cat : ℕ → ℕ) (m : ℕ) (st : List ℕ) (sel number : ℕ) → K (currentUpTo cat m st sel number reply)
   unfolding currentUpTo
-  upTo-keeps m st sel number = by-cond K (ringOk (ringSize st) m (base st) st (suc number - first st) (first st)) _ _ (λ h. observation-keeps _ _ _ _) (λ h. refuse-keeps _)
+  upTo-keeps cat m st sel number =
+      by-cond K
+      (ringOk (ringSize st) m (base st) st (suc number - first st) (first st)
+      && atOk cat (ringSize st) m (base st) st sel (suc number - first st) (first st)) _ _
+      (λ h. observation-keeps _ _ _ _) (λ h. refuse-keeps _)
 
-  at-keeps : (m : ℕ) (st : List ℕ) (number : ℕ) (s : Selection) → K (atReply m st number reply s)
+  at-keeps : (cat : ℕ → ℕ) (m : ℕ) (st : List ℕ) (number : ℕ) (s : Selection) → K (atReply cat m st number reply s)
   unfolding atReply
-  at-keeps m st number NotFound = refuse-keeps _
-  at-keeps m st number (Items sel) =
-      unless-keeps (inRange (first st) (last st) number) (currentUpTo m st sel number reply) (upTo-keeps m st sel number)
+  at-keeps cat m st number NotFound = refuse-keeps _
+  at-keeps cat m st number (Items sel) =
+      unless-keeps (inRange (first st) (last st) number) (currentUpTo cat m st sel number reply)
+      (upTo-keeps cat m st sel number)
 
   asked-keeps : (model names st bs : List ℕ) (q : Request) → K (answerRequest model names st bs reply q)
   unfolding answerRequest namedReply
   asked-keeps model names st bs (sample path from count) =
       by-cond K (ltb (ringSize st) count) _ _ (λ h. refuse-keeps _) (λ h. sample-keeps _ st from count (select model names path))
-  asked-keeps model names st bs (current path) = current-keeps _ st (select model names path)
-  asked-keeps model names st bs (currentAt path number) = at-keeps _ st number (select model names path)
+  asked-keeps model names st bs (current path) = current-keeps (category model) _ st (select model names path)
+  asked-keeps model names st bs (currentAt path number) =
+      at-keeps (category model) _ st number (select model names path)
   asked-keeps model names st bs (assets ids) = by-cond K (allCells (λ i. ltb i (used bs)) (findAll bs ids)) _ _ (λ h. cells-keeps bs (findAll bs ids)) (λ h. refuse-keeps _)
   asked-keeps model names st bs allAssets = cells-keeps bs _
 

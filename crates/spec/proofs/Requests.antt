@@ -7,11 +7,12 @@ use mathlib.Core.List.{List, map}
 use mathlib.Core.Option.{Option}
 use lib.Dec.{ltb}
 use borrow.Author.Tests.{ltb-true, ltb-false}
-use Rattle.spec.specs.Model.{items}
+use Rattle.spec.specs.Model.{items, category}
 use Rattle.spec.specs.Text.Request.{sample, currentAt}
 use Rattle.spec.specs.Path.{select}
 use Rattle.spec.specs.Reply.{Replied, refuse, observationReply}
-use Rattle.spec.specs.Reference.{State, lastOf, firstOf, within, matching, triple, foundRows, sampleStart}
+use Rattle.spec.specs.Standing.{entriesRows}
+use Rattle.spec.specs.Reference.{State, lastOf, firstOf, within, matching, triple, sampleStart}
 use Rattle.spec.specs.Reference.{sampleEnd, sampleFor, atFor, selected, replyTo}
 use Rattle.spec.specs.declared.Refusal.the-variants.{TooMany, InvalidXpath, Late, Early}
 use Rattle.spec.specs.declared.Selection.{Selection}
@@ -56,10 +57,10 @@ module _ (P : Replied → Type 0) (reply : List ℕ) where
         (λ sel s. range-cases (firstOf p) (suc (lastOf p)) (sampleStart p from) _ (late sel c s) (early sel c s)
         (rows sel c s)))
 
-    -- a current with `at`: 11, 17, 18, or each selected item's newest up to it
+    -- a current with `at`: 11, 17, 18, or each selected item's entries up to it
     pub at-cases : (number : ℕ) → P (refuse InvalidXpath reply) → P (refuse Late reply) → P (refuse Early reply)
         → ((sel : ℕ) → P (observationReply (firstOf p) (lastOf p) (suc (lastOf p))
-        (foundRows (items model) sel (within 0 (suc number) (p .H))) reply))
+        (entriesRows (category model) (items model) sel (within 0 (suc number) (p .H))) reply))
         → P (replyTo model names p reply (currentAt path number))
     unfolding replyTo atFor
     at-cases number none late early rows =

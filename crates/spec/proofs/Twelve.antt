@@ -9,7 +9,7 @@ use lib.Dec.{leb, eqb}
 use lib.ListN.{length}
 use Rattle.spec.specs.Bytes.{all}
 use Rattle.spec.specs.Value.{decode}
-use Rattle.spec.specs.Model.{items, hasChange, modelOk}
+use Rattle.spec.specs.Model.{items, category, hasChange, modelOk}
 use Rattle.spec.specs.Observations.{maxNumber, headOk}
 use Rattle.spec.specs.Assets.{used, assetHeadOk, assetOk, outFor, cellFor}
 use Rattle.spec.specs.Answers.{refusalNumber, answerNumber, observeWord, storeWord}
@@ -22,7 +22,7 @@ use Rattle.spec.specs.declared.Value.{Value}
 use Rattle.spec.specs.declared.Refusal.{Refusal}
 use Rattle.spec.specs.declared.Refusal.the-variants.{Model, Store, Size, Item, Kind, Spent, InvalidUri}
 use Rattle.spec.specs.declared.Refusal.the-variants.{InvalidRequest, Unsupported, TooMany, InvalidXpath}
-use Rattle.spec.specs.declared.Refusal.the-variants.{AssetNotFound, Asset, Space, Batch, Late, Early}
+use Rattle.spec.specs.declared.Refusal.the-variants.{AssetNotFound, Asset, Space, Batch, Late, Early, Crowded}
 use Rattle.spec.specs.declared.Answer.{Answer}
 use Rattle.spec.specs.declared.Answer.the-variants.{Done, Refused}
 use Rattle.spec.specs.declared.Verdict.{Verdict}
@@ -53,6 +53,7 @@ unused Space = refl
 unused Batch = refl
 unused Late = refl
 unused Early = refl
+unused Crowded = refl
 
 answer-free : (x : Answer) → numberFree 12 (answerNumber x) ≡ true
 answer-free (Done k) = refl
@@ -60,10 +61,10 @@ answer-free (Refused r) = unused r
 
 -- ---- each call
 
-by-sound : (m : ℕ) (st : List ℕ) (item time word : ℕ) (v : Verdict) → roomFor m st ≡ v
-    → Sound 12 (observeBy v m st item time word .answer)
-by-sound m st item time word Fine e = room-for m st e .0
-by-sound m st item time word (Against r) e = unused r
+by-sound : (cat : ℕ → ℕ) (m : ℕ) (st : List ℕ) (item time word : ℕ) (v : Verdict) → roomFor cat m st ≡ v
+    → Sound 12 (observeBy v cat m st item time word .answer)
+by-sound cat m st item time word Fine e = room-for cat m st e .0
+by-sound cat m st item time word (Against r) e = unused r
 
 observe-free : (model names st : List ℕ) (item time host : ℕ) (v : Value)
     → wordFree 12 (observeWord (observe model names st item time host v .answer)) ≡ true
@@ -74,7 +75,9 @@ observe-free model names st item time host v =
     (by-cond P (modelOk model names) _ _
     (λ a. by-cond P (headOk (items model) st) _ _
     (λ b. item-cases P model st item (timeOr time host) v unused tt
-    (λ h. by-sound (items model) st item (timeOr time host) _ (roomFor (items model) st) refl))
+    (λ h.
+    by-sound (category model) (items model) st item (timeOr time host) _
+    (roomFor (category model) (items model) st) refl))
     (λ b. refl))
     (λ a. refl))
 
@@ -129,7 +132,7 @@ store-free model names st bs id content host =
     (λ b.
     let l : cellFor id bs ≤ maxNumber = omega (arith, cell-low id bs (and-right (headOk (items model) st) _ b)) in
     by-cond P (assetOk id content) _ _
-    (λ c. by-cond P (hasChange model) _ _ (λ d. keep-sound l (roomFor (items model) st)) (λ d. l))
+    (λ c. by-cond P (hasChange model) _ _ (λ d. keep-sound l (roomFor (category model) (items model) st)) (λ d. l))
     (λ c. refl))
     (λ b. refl))
     (λ a. refl))

@@ -34,20 +34,11 @@ use Rattle.spec.specs.declared.StoreAnswer.{StoreAnswer}
 use Rattle.spec.specs.declared.StoreAnswer.the-variants.{Stored, Refused as Unstored}
 use Rattle.spec.specs.declared.Selection.{Selection}
 use Rattle.spec.specs.declared.Selection.the-variants.{Items}
-use Rattle.spec.proofs.Recorded.{Numbered, within-slice}
+use Rattle.spec.proofs.Recorded.{Numbered, keep-append, within-slice}
 use Rattle.spec.proofs.Reply.{length-numbers}
 use Rattle.spec.proofs.Requests.{sample-cases}
 
 -- ---- parts of H
-
-keep-append : (q : Observation → Bool) (X Y : List Observation) → keep q (X ++ Y) ≡ keep q X ++ keep q Y
-unfolding keep
-keep-append q [] Y = refl
-keep-append q (o ∷ X) Y = go (q o) (keep-append q X Y)
-  where
-    go : (t : Bool) → keep q (X ++ Y) ≡ keep q X ++ keep q Y → cond t (o ∷ keep q (X ++ Y)) (keep q (X ++ Y)) ≡ cond t (o ∷ keep q X) (keep q X) ++ keep q Y
-    go true e = rw e
-    go false e = e
 
 map-append : (f : Observation → List ℕ) (X Y : List Observation) → map f (X ++ Y) ≡ map f X ++ map f Y
 map-append f [] Y = refl

@@ -4,7 +4,7 @@ use Prim.Native.Nat.{ℕ, _+_, _^_}
 use Rattle.spec.specs.declared.Refusal.{Refusal}
 use Rattle.spec.specs.declared.Refusal.the-variants.{Model, Store, Size, Item, Kind, Spent, InvalidUri}
 use Rattle.spec.specs.declared.Refusal.the-variants.{InvalidRequest, Unsupported, TooMany, InvalidXpath}
-use Rattle.spec.specs.declared.Refusal.the-variants.{AssetNotFound, Asset, Space, Batch, Late, Early}
+use Rattle.spec.specs.declared.Refusal.the-variants.{AssetNotFound, Asset, Space, Batch, Late, Early, Crowded}
 use Rattle.spec.specs.declared.Answer.{Answer}
 use Rattle.spec.specs.declared.Answer.the-variants.{Done, Refused}
 use Rattle.spec.specs.declared.ObserveAnswer.{ObserveAnswer}
@@ -30,6 +30,7 @@ refusalNumber Space = 15
 refusalNumber Batch = 16
 refusalNumber Late = 17
 refusalNumber Early = 18
+refusalNumber Crowded = 19
 
 -- start, request and observe-batch: 0 and k, or the refusal's number and 0
 abbrev pub answerNumber : Answer → ℕ

@@ -1,7 +1,9 @@
 -- Document 01, and what of document 02 has landed, as definitions, in reading order.
 pub mod Words
+pub mod Blocks
 pub mod Bytes
 pub mod Value
+pub mod Entries
 pub mod Model
 pub mod Text
 pub mod Path
@@ -10,6 +12,8 @@ pub mod Assets
 pub mod Reply
 pub mod Answers
 pub mod Calls
+pub mod Recorded
+pub mod Standing
 pub mod Reference
 pub mod History
 pub mod Polls

@@ -1,4 +1,4 @@
-// The bounds, sizes and the category that the code shares, and the types that the calls take and answer. What they
+// The bounds, sizes and categories that the code shares, and the types that the calls take and answer. What they
 // mean stands in specs/, where each bound has its name too.
 
 // Items and components of a model; the lengths of arrays with a place for each.
@@ -8,8 +8,17 @@ pub const ITEM_SLOTS: usize = MAX_ITEMS as usize;
 
 pub const MAX_COMPONENTS: u64 = 64;
 
-// The category of a discrete event.
+// The categories of a condition and of a discrete event.
+pub const CONDITION: u64 = 2;
+
 pub const DISCRETE: u64 = 4;
+
+// Entries of an item in each of its tables; the length of an array with a place for each of every item.
+pub const ENTRIES: u64 = 8;
+
+pub const ENTRY_SLOTS: usize = ENTRIES as usize;
+
+pub const MARK_SLOTS: usize = ENTRY_SLOTS * ITEM_SLOTS;
 
 // Names: bytes of a cell, and cells.
 pub const NAME_BYTES: usize = 24;
@@ -61,7 +70,7 @@ pub struct Record {
     pub value: u64,
 }
 
-// The refusals, in the order of their numbers: 1 to 18, of which 12 is none's.
+// The refusals, in the order of their numbers: 1 to 19, of which 12 is none's.
 pub enum Refusal {
     Model,
     Store,
@@ -80,6 +89,7 @@ pub enum Refusal {
     Batch,
     Late,
     Early,
+    Crowded,
 }
 
 // The answer of start, request and observe_batch: how many rows the reply has or records were observed, or the

@@ -4,13 +4,12 @@ use mathlib.Core.Path.{_≡_, refl}
 use mathlib.Core.Bool.{Bool, true, false}
 use lib.Dec.{eqb}
 use borrow.Author.Tests.{le-leb, eq-eqb}
-use Rattle.spec.specs.Model.{maxItems}
 use Rattle.spec.specs.Observations.{maxRing, storeWords}
 use Rattle.spec.specs.Assets.{maxAssets, storeBytes}
 use Rattle.spec.specs.Calls.{startOk}
 use Rattle.spec.proofs.Begin.{StartSizes, start-sizes}
 use Rattle.spec.proofs.Words.{not-so, told}
-use Rattle.recording.specs.Writing.{Sizes}
+use Rattle.recording.specs.Writing.{Starting}
 
 module _ (m n a b words size : ℕ) where
   -- a test that passed
@@ -28,6 +27,13 @@ module _ (m n a b words size : ℕ) where
   start-by-size h1 h2 h3 h4 h5 h6 h7 e =
       rw (e, le-leb _ _ h1, le-leb _ _ h2, le-leb _ _ h3, le-leb _ _ h4, le-leb _ _ h5, le-leb _ _ h6, eq-eqb _ _ h7)
 
-pub store-sizes : {m n a b words size : ℕ} → StartSizes m n a b words size → 1 ≤ m → m ≤ maxItems → Sizes n m b
-store-sizes h lo hi =
-    record { n-pos = h .N-low; n-max = h .N-high; m-pos = lo; m-max = hi; b-pos = h .B-low; b-max = h .B-high }
+-- for the model's items, of which the accessor gave m: what was tested, and what the writer asks
+pub start-told : {m k : ℕ} {t c : Bool} (n a b words size : ℕ) → m ≡ k → t ≡ startOk m n a b words size → t ≡ c
+    → startOk k n a b words size ≡ c
+start-told n a b words size e is so = rw (← e) (told is so)
+
+pub store-sizes : {m k n a b words size : ℕ} → m ≡ k → StartSizes m n a b words size
+    → Starting n k b × (words ≡ storeWords n k)
+store-sizes e h =
+    rw (← e)
+    (record { n-pos = h .N-low; n-max = h .N-high; b-pos = h .B-low; b-max = h .B-high }, h .words-is)

@@ -1,7 +1,7 @@
 // What start does behind the check of model and names: the sizes and lengths are refused, or both stores are made anew.
 ghost use mathlib.Core.Path.{_≡_};
 ghost use Prim.Native.Nat.{_≤_};
-ghost use Rattle.spec.specs.Model.{maxItems};
+ghost use Rattle.spec.specs.Model.{Sizes, maxItems, items, category};
 ghost use Rattle.spec.specs.Calls.{startOk, startBoth};
 use spec::Answer;
 use spec::MAX_ASSETS;
@@ -39,26 +39,29 @@ fn start_ok(m: u64, n: u64, a: u64, b: u64, words: u64, size: u64) -> bool
     size == assets::bytes_for(a)
 }
 
-// Both stores anew: one Unavailable for each of m items from number b on, at the host's time, and no asset.
+// Both stores anew: one Unavailable for each item from number b on, at the host's time, and no asset.
 pub fn start_both(
+    model: &[u32],
     observations: &mut [u64],
     assets: &mut [u8],
-    m: u64,
     n: u64,
     a: u64,
     b: u64,
     host: u64,
 ) -> Answer
-    requires { ⌜ (1 ≤ m) × (m ≤ maxItems) ⌝ }
+    requires { ⌜ Sizes (now model) ⌝ }
     ensures { λ r. ⌜
-        (let x = startBoth m (now (observations .entry)) (now (assets .entry)) n a b host in
+        (let m = items (now (model .entry)) in
+        let cat = category (now (model .entry)) in
+        let x = startBoth cat m (now (observations .entry)) (now (assets .entry)) n a b host in
         (r ≡ x .answer) × (now (observations .exit) ≡ x .observations) × (now (assets .exit) ≡ x .assets))
         ⌝ }
 {
+    let m = model::items(model);
     if !start_ok(m, n, a, b, observations.len() as u64, assets.len() as u64) {
         return Answer::Refused(Refusal::Size);
     }
-    recording::start_store(observations, n, m, b, host);
+    recording::start_store(model, observations, n, b, host);
     assets::start(assets, a);
     Answer::Done(0)
 }

@@ -4,19 +4,15 @@ use mathlib.Core.Path.{_≡_}
 use mathlib.Core.Bool.{true, false}
 use mathlib.Core.List.{List}
 use native.Mathlib.Omega.{arith}
-use borrow.Author.Tests.{lt-ltb, le-ltb}
-use Rattle.spec.specs.Model.{items, changeItem, hasChange}
+use borrow.Author.Tests.{eqb-true, lt-ltb, le-ltb}
+use Rattle.spec.specs.Model.{items, category, assetChange, isChange, changeItem, hasChange}
 use Rattle.spec.specs.Value.{pack}
 use Rattle.spec.specs.Assets.{AssetHead, maxAssets, capacity, used, find, outFor, cellFor}
-use Rattle.spec.specs.Calls.{roomFor, added}
+use Rattle.spec.specs.Observations.{latestOk}
+use Rattle.spec.specs.Calls.{added}
 use Rattle.spec.specs.declared.Value.the-variants.{Event}
-use Rattle.spec.specs.declared.Verdict.{Verdict}
-use Rattle.spec.proofs.Words.{told}
+use Rattle.spec.proofs.Words.{first-holds}
 use Rattle.spec.proofs.Assets.{given-up-room, given-up-max, used-after-max}
-
--- the verdict for one number of items is that for its equal
-pub room-told : {m k : ℕ} → m ≡ k → (st : List ℕ) {v w : Verdict} → v ≡ roomFor m st → v ≡ w → roomFor k st ≡ w
-room-told em st e f = rw (← em) (told e f)
 
 -- the cell of an asset is below the largest capacity
 pub cell-below : (id bs : List ℕ) → AssetHead bs → cellFor id bs < maxAssets
@@ -34,7 +30,16 @@ module _ (model : List ℕ) (m i : ℕ) (em : m ≡ items model) (ei : i ≡ cha
   pub change : i < m → hasChange model ≡ true
   change h = rw (← em, ← ei) (lt-ltb _ _ h)
 
--- the event of the cell, added by the numbers that the accessors gave
-pub event-added : {m k i j cell c word : ℕ} (host : ℕ) (st y : List ℕ) → m ≡ k → i ≡ j → cell ≡ c
-    → word ≡ pack i (Event cell) → y ≡ added m st i host word → y ≡ added k st j host (pack j (Event c))
-event-added host st y em ei ec ew ey = rw (ey, ew, ec, ei, em)
+-- the item that is found is of its category, and so no condition item, whose latest would have a form
+pub change-latest : (model st : List ℕ) (n i : ℕ) → i ≡ changeItem model → i < items model
+    → latestOk (category model) n (items model) st i ≡ true
+unfolding changeItem latestOk
+change-latest model st n i e l =
+    let k : category model i ≡ assetChange =
+    rw e (eqb-true _ _ (first-holds (isChange model) (items model) 0 (omega arith))) in
+    rw k
+
+-- the event of the cell, added by the number that the accessor gave
+pub event-added : {i j cell c word : ℕ} (cat : ℕ → ℕ) (m host : ℕ) (st y : List ℕ) → i ≡ j → cell ≡ c
+    → word ≡ pack i (Event cell) → y ≡ added cat m st i host word → y ≡ added cat m st j host (pack j (Event c))
+event-added cat m host st y ei ec ew ey = rw (ey, ew, ec, ei)

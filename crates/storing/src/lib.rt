@@ -3,7 +3,7 @@
 ghost use mathlib.Core.Path.{_≡_};
 ghost use mathlib.Core.Bool.{true};
 ghost use Prim.Native.Nat.{_<_};
-ghost use Rattle.spec.specs.Model.{Sizes, items, changeItem};
+ghost use Rattle.spec.specs.Model.{Sizes, items, category, changeItem};
 ghost use Rattle.spec.specs.Observations.{Head};
 ghost use Rattle.spec.specs.Assets.{AssetHead, assetOk};
 ghost use Rattle.spec.specs.Calls.{roomFor, keepBy, keepAsset};
@@ -30,19 +30,18 @@ fn keep_changed(
     requires { ⌜ (change ≡ changeItem (now model)) × (change < items (now model)) ⌝ }
     ensures { λ r. ⌜
         (let st = now (observations .entry) in
-        let room = roomFor (items (now (model .entry))) st in
+        let room = roomFor (category (now (model .entry))) (items (now (model .entry))) st in
         let x = keepBy room (now (model .entry)) st (now (assets .entry)) (now (id .entry)) (now (body .entry)) host in
         (r ≡ x .answer) × (now (observations .exit) ≡ x .observations) × (now (assets .exit) ≡ x .assets))
         ⌝ }
 {
-    let m = model::items(model);
-    let verdict = recording::room_for(observations, m);
+    let verdict = recording::room_for(model, observations);
     match verdict {
         Verdict::Refused(refusal) => StoreAnswer::Refused(refusal),
         Verdict::Fine => {
             let cell = assets::store(assets, id, body);
             let word = value::pack(change, Value::Event(cell as u32));
-            recording::add(observations, m, change, host, word);
+            recording::add(model, observations, change, host, word);
             StoreAnswer::Stored(cell)
         }
     }

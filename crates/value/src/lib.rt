@@ -58,15 +58,11 @@ pub fn item_of(word: u64) -> u64
     word / 1099511627776
 }
 
-// Whether a condition of this level may have the native code c.
-fn native_ok(l: Level, c: u32) -> bool
-    ensures { λ r. ⌜ r ≡ nativeOk l c ⌝ }
+// Whether a condition may have the native code c.
+fn native_ok(c: u32) -> bool
+    ensures { λ r. ⌜ r ≡ nativeOk c ⌝ }
 {
-    match l {
-        Level::Normal => c == 0,
-        Level::Warning => c < 16777216,
-        Level::Fault => c < 16777216,
-    }
+    c < 16777216
 }
 
 // Whether an item of the category takes the value.
@@ -77,7 +73,7 @@ pub fn takes(category: u64, v: Value) -> bool
         Value::Unavailable => category < 3 || category == spec::DISCRETE,
         Value::Sample(_) => category == 0,
         Value::Event(_) => category == 1 || category == spec::DISCRETE,
-        Value::Condition(l, c) => category == 2 && native_ok(l, c),
+        Value::Condition(_, c) => category == spec::CONDITION && native_ok(c),
     }
 }
 

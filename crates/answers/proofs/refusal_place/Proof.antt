@@ -56,6 +56,9 @@ enum-told-16 c = search needs
 enum-told-17 : tie.Need-enum-told-17
 enum-told-17 c = search needs
 
+enum-told-18 : tie.Need-enum-told-18
+enum-told-18 c = search needs
+
 returns : tie.Need-returns
 returns c = rw (c .enum-told .given .1) (refl, omega arith)
 
@@ -107,6 +110,9 @@ returns-16 c = rw (c .enum-told16 .given .1) (refl, omega arith)
 returns-17 : tie.Need-returns-17
 returns-17 c = rw (c .enum-told17 .given .1) (refl, omega arith)
 
+returns-18 : tie.Need-returns-18
+returns-18 c = rw (c .enum-told18 .given .1) (refl, omega arith)
+
 pub refusal-place-spec : {M : Type 1} → statement M
 refusal-place-spec =
     tie.close
@@ -128,6 +134,7 @@ refusal-place-spec =
     enum-told-15
     enum-told-16
     enum-told-17
+    enum-told-18
     returns
     returns-2
     returns-3
@@ -144,4 +151,5 @@ refusal-place-spec =
     returns-14
     returns-15
     returns-16
-    returns-17)
+    returns-17
+    returns-18)

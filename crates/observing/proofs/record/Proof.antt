@@ -1,6 +1,7 @@
 -- The verdict decides; room for a number is what an addition needs.
 use mathlib.Core.Path.{refl}
 use native.Mathlib.Numerals.{add-one}
+use Rattle.spec.proofs.Observations.{head-of}
 use Rattle.spec.proofs.Words.{told}
 use borrow.Author.Needs.{needs}
 use Rattle.observing.proofs.record.Statement.{statement}
@@ -15,39 +16,39 @@ enum-known-verdict c = search needs
 enum-told : tie.Need-enum-told
 enum-told c = search needs
 
+items-requires : tie.Need-items-requires
+items-requires c κs = search needs
+
 last-requires : tie.Need-last-requires
-last-requires c κs = search needs
+last-requires c κs =
+    head-of (c .items .ensures .0) _ (c .before .before .before .before .before .before .before .before .pre .1 .0)
 
 add-number : tie.Need-add-number
 add-number c = search needs
 
 add-requires : tie.Need-add-requires
 add-requires c κs =
-    let s = c .before .before .before .before .before .before .before .before .pre in
-    let room =
-    told (c .before .before .before .before .before .room-for .ensures)
-    (c .before .before .before .enum-told .given .1)
-    in
-    (s .0, (room, s .1))
+    let v = c .before .before .before .before in
+    let r = v .before .before in
+    let p = r .before .before .before .before .pre in
+    (p .0, (p .1 .0, (told (r .room-for .ensures) (v .enum-told .given .1), p .1 .1)))
 
 same-length : tie.Need-same-length
 same-length c = search needs
 
 returns : tie.Need-returns
-returns c =
-    let r = c .before .before .before in
-    rw (told (r .room-for .ensures) (c .before .verdict .given .1)) (refl, refl)
+returns c = rw (told (c .before .before .before .room-for .ensures) (c .before .verdict .given .1)) (refl, refl)
 
 same-length-2 : tie.Need-same-length-2
 same-length-2 c = search needs
 
 returns-2 : tie.Need-returns-2
 returns-2 c =
-    let l = c .before .before .before .before .last .ensures .0 in
-    rw
-    (told (c .before .before .before .before .before .before .before .before .room-for .ensures)
-    (c .before .before .before .before .before .before .enum-told .given .1))
-    (rw (l, add-one), c .before .before .add .ensures)
+    let a = c .before .before in
+    let l = a .before .before in
+    let v = l .before .before .before in
+    let r = v .before .before in
+    rw (told (r .room-for .ensures) (v .enum-told .given .1)) (rw (l .last .ensures .0, add-one), a .add .ensures)
 
 pub record-spec : {M : Type 1} → statement M
 record-spec =
@@ -56,6 +57,7 @@ record-spec =
     room-for-requires
     enum-known-verdict
     enum-told
+    items-requires
     last-requires
     add-number
     add-requires

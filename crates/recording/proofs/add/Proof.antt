@@ -1,9 +1,12 @@
 -- The next number is written, as the head has it.
 use native.Mathlib.Numerals.{add-one}
+use Rattle.recording.proofs.Laws.{next-fits, latest-form, latest-in}
 use borrow.Author.Needs.{needs}
-use Rattle.recording.proofs.Laws.{next-fits}
 use Rattle.recording.proofs.add.Statement.{statement}
 use Rattle.recording.proofs.add.Tie as tie
+
+items-requires : tie.Need-items-requires
+items-requires c κs = search needs
 
 ring-size-requires : tie.Need-ring-size-requires
 ring-size-requires c κs = search needs
@@ -22,8 +25,10 @@ write-requires c κs =
     let l = c .before in
     let b = l .before .before in
     let n = b .before .before in
-    let p = n .before .before .before .pre in
-    (next-fits (n .ring-size .ensures .0) (b .base .ensures) (l .last .ensures .0) (p .1 .1 .0) (p .0) (p .1 .0), p .1 .1 .1)
+    let p = n .before .before .before .before .before .pre in
+    let o = next-fits (n .ring-size .ensures .0) (b .base .ensures) (l .last .ensures .0) (p .1 .0) (p .1 .1 .0) in
+    let f = latest-form _ _ _ _ _ (p .1 .1 .1 .1) in
+    (p .0, (o, latest-in o (p .0 .m-max) (p .1 .1 .1 .0) (rw (n .ring-size .ensures .0) f)))
 
 same-length : tie.Need-same-length
 same-length c = search needs
@@ -40,6 +45,7 @@ pub add-spec : {M : Type 1} → statement M
 add-spec =
     tie.close
     (tie.spec
+    items-requires
     ring-size-requires
     base-requires
     last-requires

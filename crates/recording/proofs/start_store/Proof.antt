@@ -3,16 +3,20 @@
 use Prim.Native.Nat.{_-_}
 use mathlib.Core.Path.{sym, _∙_}
 use native.Mathlib.Omega.{arith}
+use Rattle.spec.specs.Model.{items, category}
+use Rattle.recording.proofs.Laws.{Filling, filling-none, filling-fits, filling-in, filling-more, filling-all}
 use borrow.Author.Needs.{needs}
-use Rattle.recording.proofs.Laws.{Filling, filling-none, filling-fits, filling-more, filling-all}
 use Rattle.recording.proofs.start_store.Statement.{statement}
 use Rattle.recording.proofs.start_store.Tie as tie
 
 abbrev Inv-loop : tie.InvT-loop
-Inv-loop st₀ n m b host item₀ st item = Filling n m b host item st
+Inv-loop model st₀ n b host m item₀ st item = Filling (category model) n (items model) b host item st
 
 abbrev μ-loop : tie.MeasureT-loop
-μ-loop st₀ n m b host item₀ st item = m - item
+μ-loop model st₀ n b host m item₀ st item = items model - item
+
+items-requires : tie.Need-items-requires Inv-loop μ-loop
+items-requires c κs = search needs
 
 make-blank-requires : tie.Need-make-blank-requires Inv-loop μ-loop
 make-blank-requires c κs = search needs
@@ -20,7 +24,8 @@ make-blank-requires c κs = search needs
 loop-holds : tie.Need-loop-holds Inv-loop μ-loop
 loop-holds c =
     let b = c .before .before in
-    rw (b .make-blank .ensures) (filling-none _ _ _ _ (b .before .before .before .pre .0))
+    let i = b .before .before in
+    rw (b .make-blank .ensures, i .items .ensures .0) (filling-none _ _ _ _ _ (i .before .before .before .pre .1 .0))
 
 pack-requires : tie.Need-pack-requires Inv-loop μ-loop
 pack-requires c κs = search needs
@@ -30,9 +35,10 @@ add-write c = search needs
 
 write-requires : tie.Need-write-requires Inv-loop μ-loop
 write-requires c κs =
-    let l = c .before .before in
-    let s = l .before .before .before .before .before .before .before in
-    (filling-fits (l .before .loop .inv) (s .pre .0) (l .loop-test .taken), l .loop-test .taken)
+    let l = c .before .before .before in
+    let p = l .before .before .before .before .before .before .before .before .pre in
+    let f = l .loop .inv in
+    (p .0, (filling-fits f (p .1 .0), filling-in f (p .1 .0) (p .0 .m-max) (omega arith)))
 
 add-item : tie.Need-add-item Inv-loop μ-loop
 add-item c = search needs
@@ -44,15 +50,15 @@ loop-again : tie.Need-loop-again Inv-loop μ-loop
 loop-again c =
     let a = c .before .before in
     let p = a .before .before in
-    filling-more (p .before .before .loop .inv) (p .before .loop-test .taken) (p .pack .ensures) (a .write .ensures)
+    filling-more (p .before .before .loop .inv) (omega arith) (p .pack .ensures) (a .write .ensures)
 
 same-length : tie.Need-same-length Inv-loop μ-loop
 same-length c =
     let l = c .before in
-    l .loop .inv .rep .words ∙ sym (l .before .before .before .before .before .before .pre .1)
+    l .loop .inv .rep .words ∙ sym (l .before .before .before .before .before .before .before .before .pre .1 .1)
 
 returns : tie.Need-returns Inv-loop μ-loop
-returns c = filling-all (c .before .loop .inv) (c .loop-test .left)
+returns c = filling-all (c .before .loop .inv) (omega arith)
 
 pub start-store-spec : {M : Type 1} → statement M
 start-store-spec =
@@ -60,6 +66,7 @@ start-store-spec =
     (tie.spec
     Inv-loop
     μ-loop
+    items-requires
     make-blank-requires
     loop-holds
     pack-requires
