@@ -17,9 +17,9 @@
  *   only read the stores: any number of them may run side by side, each with its own reply buffer.
  * - The stores hold no pointers. Between calls they may be saved, copied and restored bytewise, also in
  *   another process, and used on without a start. Nobody else should write them: MTCORE_STORE sees a wrong
- *   head, length, item of a ring entry or length of a body, and no other damage. Latest and checkpoint
- *   words, kinds, levels and times are taken as they stand. A caller that restores stores keeps a checksum
- *   of its own.
+ *   head, length, item of a ring entry, form of a condition item's entries or length of a body, and no other
+ *   damage. Latest and checkpoint words, kinds, levels and times are taken as they stand. A caller that
+ *   restores stores keeps a checksum of its own.
  * - The same model and names go with the same stores, from mtcore_start on.
  * - The deepest call writes less than 2,400 bytes of stack.
  *
@@ -41,12 +41,13 @@ extern "C" {
 
 /* MAJOR moves where a host has to look at its own code, MINOR where something was added: CHANGELOG.md. Header and
  * archive are taken from the same version; the archive does not hold a number of its own. */
-#define MTCORE_VERSION_MAJOR 2
+#define MTCORE_VERSION_MAJOR 3
 #define MTCORE_VERSION_MINOR 0
 
 /* Moves where the form of a store or of the model does. Saved stores outlive a version: save this number beside
- * them, and start anew where it differs, since refusal 2 need not see another form. */
-#define MTCORE_LAYOUT 1
+ * them, and start anew where it differs, since refusal 2 need not see another form. docs/HOST.md, "Stores of layout
+ * 1", says how such a start keeps the numbers and the tools. */
+#define MTCORE_LAYOUT 2
 
 /* ---- refusals ---- */
 
@@ -69,15 +70,16 @@ enum mtcore_refusal {
     MTCORE_SPACE = 15,           /* the buffer for the reply, or for the answers, is too short */
     MTCORE_BATCH = 16,           /* more records than one delivery may have */
     MTCORE_LATE = 17,            /* text: from (not 0) or at is below first, the lowest number held */
-    MTCORE_EARLY = 18            /* text: from is above last + 1, or at above last, the newest number */
+    MTCORE_EARLY = 18,           /* text: from is above last + 1, or at above last, the newest number */
+    MTCORE_CROWDED = 19          /* a ninth native code for a condition item that has eight active */
 };
 
 /* The words of mtcore_observe, of mtcore_store_asset and of a delivery's answers: bit 63 marks a refusal. Of an
- * observation 0 is Same, which a discrete item never gets. */
+ * observation 0 is Same, which a discrete item never gets; mtcore_observe says when an item does. */
 #define MTCORE_SAME UINT64_C(0)
 #define MTCORE_REFUSED (UINT64_C(1) << 63)
 
-/* The refusal in such a word, or 0 where the call was not refused. A later version may have numbers above 18: a
+/* The refusal in such a word, or 0 where the call was not refused. A later version may have numbers above 19: a
  * host treats a number that it doesn't know as a refusal all the same. */
 static inline unsigned mtcore_refusal_of(uint64_t word) {
     return word >= MTCORE_REFUSED ? (unsigned)(word & 63) : 0u;
@@ -94,9 +96,11 @@ static inline unsigned mtcore_refusal_of(uint64_t word) {
 #define MTCORE_MAX_NAMED 125     /* ids that /asset/ID;ID.. has room for */
 #define MTCORE_DEFAULT_COUNT 100 /* a sample's count where the text has none */
 #define MTCORE_MAX_BATCH 256     /* records of a delivery */
+#define MTCORE_MAX_ACTIVE 8      /* native codes active on a condition item */
 
-/* uint64_t words of the observation store, for a ring of n observations and m items */
-#define MTCORE_OBSERVATION_WORDS(n, m) (4 + 2 * (size_t)(n) + 6 * (size_t)(m))
+/* uint64_t words of the observation store, for a ring of n observations and m items: of every item, whatever its
+ * category, eight entries of three words for what stands now, and eight for what stood when it left the ring */
+#define MTCORE_OBSERVATION_WORDS(n, m) (4 + 2 * (size_t)(n) + 48 * (size_t)(m))
 
 /* places in an asset store of a cells: its two sizes, a ids' cells, a bodies' cells, each body behind two bytes that
  * hold its length; and its bytes in all, 2 + 544 a */
@@ -110,17 +114,22 @@ static inline unsigned mtcore_refusal_of(uint64_t word) {
 #define MTCORE_REPLY_WORDS(k) (MTCORE_REPLY_HEAD + 3 * (size_t)(k))
 #define MTCORE_ASSET_REPLY_WORDS(k) (MTCORE_REPLY_HEAD + 2 * (size_t)(k))
 
+/* rows of a reply to /current, at most, with m items of which so many are conditions: one for each item, and of a
+ * condition item one for each code that is active */
+#define MTCORE_CURRENT_ROWS(m, conditions) ((size_t)(m) + (MTCORE_MAX_ACTIVE - 1) * (size_t)(conditions))
+
 /* uint64_t words that are enough for any reply to /sample with this count (0: the text has none), in a ring of n;
- * to /current, with m items; to /assets and /asset/.., with a assets. The largest, /sample?count=131072, has
- * 3,145,760 bytes; a caller that reserves less gets MTCORE_SPACE where a reply has more rows, and answers it with
- * TOO_MANY or asks with a smaller count (docs/HOST.md, "What to reserve") */
+ * to /current, with m items, were all of them conditions: 8 m rows; to /assets and /asset/.., with a assets. The
+ * largest, /sample?count=131072, has 3,145,760 bytes; a caller that reserves less gets MTCORE_SPACE where a reply has
+ * more rows, and answers it with TOO_MANY or asks with a smaller count (docs/HOST.md, "What to reserve"). /current has
+ * no count, so it gets its room; MTCORE_CURRENT_ROWS says how much is enough where few items are conditions. */
 static inline size_t mtcore_sample_words(uint64_t n, uint64_t count) {
     uint64_t rows = count == 0 ? MTCORE_DEFAULT_COUNT : count;
     return MTCORE_REPLY_WORDS(rows < n ? rows : n);
 }
 
 static inline size_t mtcore_current_words(uint64_t m) {
-    return MTCORE_REPLY_WORDS(m);
+    return MTCORE_REPLY_WORDS(MTCORE_CURRENT_ROWS(m, m));
 }
 
 static inline size_t mtcore_assets_words(uint64_t a) {
@@ -161,8 +170,9 @@ static inline uint64_t mtcore_event(uint32_t code) {
 
 enum mtcore_level { MTCORE_NORMAL = 0, MTCORE_WARNING = 1, MTCORE_FAULT = 2 };
 
-/* a condition's level with its native code, below 2^24, and 0 for MTCORE_NORMAL; a code of 2^24 or more makes a
- * word that every item refuses with MTCORE_KIND */
+/* a condition's level with its native code, below 2^24 at every level: MTCORE_NORMAL with a code clears that code,
+ * with 0 all; 0 is a code like others for the two other levels. A code of 2^24 or more makes a word that every item
+ * refuses with MTCORE_KIND. */
 static inline uint64_t mtcore_condition(enum mtcore_level level, uint32_t native_code) {
     return native_code >> MTCORE_LEVEL_BIT == 0
                ? mtcore_value(MTCORE_VALUE_CONDITION, native_code) + ((uint64_t)level << MTCORE_LEVEL_BIT)
@@ -230,7 +240,7 @@ static inline int mtcore_packed_ok(uint64_t m, uint64_t packed) {
 enum mtcore_category {
     MTCORE_CATEGORY_SAMPLE = 0,       /* a measured value */
     MTCORE_CATEGORY_EVENT = 1,        /* a state, by its code */
-    MTCORE_CATEGORY_CONDITION = 2,    /* a condition: a level and a native code */
+    MTCORE_CATEGORY_CONDITION = 2,    /* conditions: levels with their native codes, up to eight active at once */
     MTCORE_CATEGORY_ASSET_CHANGE = 3, /* a stored asset, by its cell: mtcore_store_asset alone writes it */
     MTCORE_CATEGORY_DISCRETE = 4      /* something that happens: a part counter's pulse, a message, a bar end */
 };
@@ -286,6 +296,15 @@ static inline mtcore_row mtcore_reply_row(const uint64_t *reply, uint64_t i) {
         row.packed = reply[MTCORE_REPLY_HEAD + k + 2 * i + 1];
     }
     return row;
+}
+
+/* The place of the first row of this item, at place i or behind it; k where there is none. Of /current a condition
+ * item may have several rows, one behind the other, so row i need not be item i's. */
+static inline uint64_t mtcore_reply_find(const uint64_t *reply, uint64_t item, uint64_t i) {
+    uint64_t k = reply[0];
+    while (i < k && mtcore_item_of(mtcore_reply_row(reply, i).packed) != item)
+        i++;
+    return i < k ? i : k;
 }
 
 /* of assets: cells in use, and cells that there are */
@@ -397,16 +416,26 @@ mtcore_answer mtcore_start(const uint32_t *model, size_t model_len, const uint8_
                            uint64_t n, uint64_t a, uint64_t b, uint64_t host);
 
 /*
- * Records an observation of an item, unless the item's newest observation has this value already. Of a discrete item
- * each is recorded, an equal Unavailable too.
+ * Records an observation of an item, unless it is Same. Of a sample or an event it is where the item's newest
+ * observation has this value already. Of a discrete item each is recorded, an equal Unavailable too.
+ *
+ * On a condition item up to MTCORE_MAX_ACTIVE native codes are active side by side, each at Warning or Fault:
+ * - Warning or Fault adds its code behind those that are active, or takes the place of the entry of its code, and ends
+ *   an Unavailable;
+ * - Normal with a code other than 0 clears that code;
+ * - Normal with code 0 clears all, and ends an Unavailable; Unavailable clears all.
+ * Same is: a Warning or Fault whose code is active at that level; a Normal with a code that isn't active, behind an
+ * Unavailable too, which stays; Normal 0 where none is active, but behind an Unavailable it is recorded; an
+ * Unavailable behind an Unavailable.
  *
  * Takes: item 0 to m - 1; time, or 0 where it is missing: then `host` is used (times need not rise); value, made by
  * MTCORE_UNAVAILABLE, mtcore_sample, mtcore_event or mtcore_condition. An item takes Unavailable or its category's
  * kind, a discrete item events; an asset change item takes nothing here.
  * Gives: the observation's sequence number, or MTCORE_SAME where nothing was added, the time neither; or
  * MTCORE_REFUSED + the refusal.
- * Refuses, in this order: MTCORE_MODEL, MTCORE_STORE, MTCORE_ITEM, MTCORE_KIND, (Same, unless discrete,) MTCORE_SPENT,
- * MTCORE_STORE (the entry about to be overwritten is damaged).
+ * Refuses, in this order: MTCORE_MODEL, MTCORE_STORE, MTCORE_ITEM, MTCORE_KIND, MTCORE_STORE (the item is a condition
+ * and its entries are damaged), (Same, unless discrete,) MTCORE_CROWDED (a code that isn't active while eight are),
+ * MTCORE_SPENT, MTCORE_STORE (the entry about to be overwritten is damaged, or what its item has from before the ring).
  */
 uint64_t mtcore_observe(const uint32_t *model, size_t model_len, const uint8_t *names, size_t names_len,
                         uint64_t *observations, size_t observations_len,
@@ -423,8 +452,8 @@ uint64_t mtcore_observe(const uint32_t *model, size_t model_len, const uint8_t *
  * word, and mtcore_refusal_of says of each word whether it is a refusal.
  * Refuses, in this order: MTCORE_MODEL, MTCORE_STORE (the head), MTCORE_BATCH, MTCORE_SPACE (fewer answers than
  * records). No record is observed then, and no word is written.
- * In a word, in this order: MTCORE_ITEM, MTCORE_KIND, (Same, unless discrete,) MTCORE_SPENT, MTCORE_STORE (the entry
- * about to be overwritten is damaged).
+ * In a word, in this order, as of mtcore_observe: MTCORE_ITEM, MTCORE_KIND, MTCORE_STORE (a condition item's entries),
+ * (Same, unless discrete,) MTCORE_CROWDED, MTCORE_SPENT, MTCORE_STORE (the entry about to be overwritten).
  */
 mtcore_answer mtcore_observe_batch(const uint32_t *model, size_t model_len, const uint8_t *names, size_t names_len,
                                    uint64_t *observations, size_t observations_len,
@@ -456,9 +485,11 @@ uint64_t mtcore_store_asset(const uint32_t *model, size_t model_len, const uint8
  *         by rising number. `next` is the number behind the last one considered, so no rows with a next below
  *         last + 1 is ordinary: the client goes on from next. from = last + 1 is accepted, with no rows; one above
  *         that is early, one below the lowest held, but for 0, late.
- *     /current?at=..&path=..             A row for each selected item, in item order: its newest observation, or its
- *         newest numbered at or below `at`; an item that has none is left out. `next` is last + 1 either way. An `at`
- *         below the lowest held, 0 too, is late, and one above the newest early.
+ *     /current?at=..&path=..             The state now, or as it was at the number `at`, for each selected item in item
+ *         order: of a condition item with active codes a row for each, up to eight, in the order in which the codes
+ *         were added, so within an item too the rows' numbers need not rise; of every other item its newest
+ *         observation. An item that has none at or below `at` is left out. `next` is last + 1 either way. An `at` below
+ *         the lowest held, 0 too, is late, and one above the newest early.
  *     /asset/ID;ID..                     A row for each id, in the text's order, repeats kept.
  *     /assets                            Every asset, the newest first.
  *
@@ -473,8 +504,9 @@ uint64_t mtcore_store_asset(const uint32_t *model, size_t model_len, const uint8
  * a shorter buffer is refused only where this reply doesn't fit.
  * Refuses, in this order: MTCORE_MODEL, MTCORE_STORE, MTCORE_INVALID_URI, MTCORE_INVALID_REQUEST (the word),
  * MTCORE_UNSUPPORTED (probe), MTCORE_INVALID_REQUEST, MTCORE_UNSUPPORTED (interval), MTCORE_TOO_MANY,
- * MTCORE_INVALID_XPATH, MTCORE_LATE or MTCORE_EARLY, MTCORE_STORE (damaged entries), MTCORE_SPACE; for assets
- * MTCORE_INVALID_REQUEST, MTCORE_ASSET_NOT_FOUND, MTCORE_STORE, MTCORE_SPACE.
+ * MTCORE_INVALID_XPATH, MTCORE_LATE or MTCORE_EARLY, MTCORE_STORE (damaged entries: of the ring for /sample and `at`,
+ * of the selected condition items for /current and `at`), MTCORE_SPACE; for assets MTCORE_INVALID_REQUEST,
+ * MTCORE_ASSET_NOT_FOUND, MTCORE_STORE, MTCORE_SPACE.
  */
 mtcore_answer mtcore_request(const uint32_t *model, size_t model_len, const uint8_t *names, size_t names_len,
                              const uint64_t *observations, size_t observations_len,

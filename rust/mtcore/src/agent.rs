@@ -2,8 +2,8 @@
 
 use crate::sizes::{BODY_CELL, ID_CELL};
 use crate::{
-    assets_words, calls, cells, current_words, sample_words, Answers, Model, Observed, Record, Refusal,
-    Reply, Sizes, Value,
+    assets_words, calls, cells, current_rows, reply_words, sample_words, Answers, Model, Observed, Record,
+    Refusal, Reply, Sizes, Value,
 };
 
 /// A model, its names and its two stores, held together: every call gets the ones that belong together.
@@ -30,7 +30,7 @@ use crate::{
 /// let mut agent = Agent::start(model, observations, assets, sizes, 1000)?;
 ///
 /// assert_eq!(agent.observe(0, 1010, 1011, Value::Sample(12_500))?, Observed::Recorded(2));
-/// let mut reply = [0; mtcore::current_words(1)];
+/// let mut reply = [0; mtcore::reply_words(mtcore::current_rows(1, 0))]; // one item, no conditions
 /// let Reply::Observations(current) = agent.request(b"/current", &mut reply)? else { unreachable!() };
 /// assert_eq!(current.row(0).and_then(|row| row.value()), Some(Value::Sample(12_500)));
 /// # Ok::<(), Box<dyn std::error::Error>>(())
@@ -58,7 +58,8 @@ where
     /// # Errors
     ///
     /// [`Refusal::Store`] where a head or a length is wrong or of another number of items, or a body's
-    /// length is none. More is not looked at: see [`Model::checked`].
+    /// length is none. Stores of layout 1 get it for their length: docs/HOST.md, "Stores of layout 1", says
+    /// how a start goes on from them. More is not looked at: see [`Model::checked`].
     ///
     /// ```
     /// # use mtcore::{Agent, Model, Refusal, Sizes, Value};
@@ -120,7 +121,8 @@ where
         let rest = self.observations().len().saturating_sub(crate::observation_words(0, items));
         let cells = self.assets().len() / (ID_CELL + BODY_CELL);
         let sample = sample_words(rest / 2, Some(count.max(crate::DEFAULT_COUNT)));
-        sample.max(current_words(items)).max(assets_words(cells))
+        let current = reply_words(current_rows(items, self.model.conditions()));
+        sample.max(current).max(assets_words(cells))
     }
 
     /// An asset's body, see [`body`](crate::body).
@@ -193,8 +195,7 @@ where
         calls::start(model, names, self.observations.as_mut(), self.assets.as_mut(), sizes, host)
     }
 
-    /// Records a value of an item, an equal one only where the item is discrete; see
-    /// [`observe`](crate::observe).
+    /// Records a value of an item unless it is Same; see [`observe`](crate::observe).
     ///
     /// # Errors
     ///

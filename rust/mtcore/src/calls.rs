@@ -7,8 +7,8 @@ use crate::{ffi, Answers, Record, Refusal, Sizes, Value};
 pub enum Observed {
     /// Recorded under this number.
     Recorded(u64),
-    /// Equal to the item's newest value: nothing was recorded, the time neither. Not given for a
-    /// [discrete](crate::Category::Discrete) item.
+    /// Equal to the item's newest value, or a condition that changes nothing: nothing was recorded, the
+    /// time neither. Not given for a [discrete](crate::Category::Discrete) item.
     Same,
 }
 
@@ -55,17 +55,30 @@ pub fn start(
     done(ffi::start(model, names, observations, assets, places, cells, origin, host)).map(|_| ())
 }
 
-/// Records a value of an item, unless it equals the item's newest. Of a
-/// [discrete](crate::Category::Discrete) item every value is recorded, an equal one too.
+/// Records a value of an item, unless it is Same. Of a sample or an event it is where it equals the item's
+/// newest. Of a [discrete](crate::Category::Discrete) item every value is recorded, an equal one too.
 ///
 /// `time` is the source's, in milliseconds since 1970-01-01T00:00:00Z; 0 means that it gave none, and
 /// then the host's time is used. Times need not rise: observations are ordered by their numbers.
 ///
+/// # Conditions
+///
+/// On a condition item up to [`MAX_ACTIVE`](crate::MAX_ACTIVE) native codes are active side by side:
+///
+/// * Warning or Fault adds its code behind those that are active, or takes the place of the entry of its
+///   code, and ends an Unavailable. It is Same where its code is active at that level.
+/// * Normal with a code other than 0 clears that one. It is Same where the code isn't active, behind an
+///   Unavailable too: the item stays Unavailable then.
+/// * Normal with code 0 clears all and ends an Unavailable. It is Same where none is active, but not behind
+///   an Unavailable.
+/// * Unavailable clears all. It is Same behind an Unavailable.
+///
 /// # Errors
 ///
-/// In this order: [`Refusal::Model`], [`Refusal::Store`], [`Refusal::Item`], [`Refusal::Kind`], (Same,
-/// unless discrete,) [`Refusal::Spent`], [`Refusal::Store`] (the ring entry about to be overwritten is
-/// damaged).
+/// In this order: [`Refusal::Model`], [`Refusal::Store`], [`Refusal::Item`], [`Refusal::Kind`],
+/// [`Refusal::Store`] (the item is a condition and its entries are damaged), (Same, unless discrete,)
+/// [`Refusal::Crowded`], [`Refusal::Spent`], [`Refusal::Store`] (the ring entry about to be overwritten is
+/// damaged, or what its item has from before the ring).
 ///
 /// ```
 /// # let (model, names) = ([1, 1, 0, 131_072], mtcore::names(["SYSTEM"]).unwrap());
@@ -76,12 +89,23 @@ pub fn start(
 /// # mtcore::start(&model, &names, &mut observations, &mut assets, sizes, 1).unwrap();
 /// use mtcore::{Level, Observed, Refusal, Value};
 /// let mut observe = |value| mtcore::observe(&model, &names, &mut observations, 0, 0, 5, value);
-/// assert_eq!(observe(Value::Condition(Level::Fault, 7)), Ok(Observed::Recorded(2)));
-/// assert_eq!(observe(Value::Condition(Level::Fault, 7)), Ok(Observed::Same));
-/// // A native code has 24 bits, and Normal has none but 0.
+/// // Start has recorded number 1, an Unavailable. A servo is too warm, and then does not follow either.
+/// assert_eq!(observe(Value::Condition(Level::Warning, 77)), Ok(Observed::Recorded(2)));
+/// assert_eq!(observe(Value::Condition(Level::Fault, 502)), Ok(Observed::Recorded(3)));
+/// assert_eq!(observe(Value::Condition(Level::Fault, 502)), Ok(Observed::Same));
+/// // It has cooled down: the fault stands alone. A code that isn't active can't be cleared.
+/// assert_eq!(observe(Value::Condition(Level::Normal, 77)), Ok(Observed::Recorded(4)));
+/// assert_eq!(observe(Value::Condition(Level::Normal, 77)), Ok(Observed::Same));
+/// // All is well, and stays so.
+/// assert_eq!(observe(Value::Condition(Level::Normal, 0)), Ok(Observed::Recorded(5)));
+/// assert_eq!(observe(Value::Condition(Level::Normal, 0)), Ok(Observed::Same));
+/// // A native code has 24 bits, and eight of them are active at most.
 /// assert_eq!(observe(Value::Condition(Level::Fault, 1 << 24)), Err(Refusal::Kind));
-/// assert_eq!(observe(Value::Condition(Level::Normal, 7)), Err(Refusal::Kind));
-/// assert_eq!(observe(Value::Condition(Level::Normal, 0)), Ok(Observed::Recorded(3)));
+/// for code in 0..8 {
+///     assert!(observe(Value::Condition(Level::Warning, code)).is_ok());
+/// }
+/// assert_eq!(observe(Value::Condition(Level::Warning, 8)), Err(Refusal::Crowded));
+/// assert_eq!(observe(Value::Condition(Level::Fault, 7)), Ok(Observed::Recorded(14)));
 /// ```
 ///
 /// A part counter's pulse has the same code each time, and each one is a part:
@@ -129,8 +153,9 @@ pub fn observe(
 /// In this order: [`Refusal::Model`], [`Refusal::Store`] (the head), [`Refusal::Batch`] (more than
 /// [`MAX_BATCH`](crate::MAX_BATCH) records), [`Refusal::Space`]. Nothing is recorded or written then.
 ///
-/// An answer is one of [`observe`]'s: in this order [`Refusal::Item`], [`Refusal::Kind`], (Same, unless
-/// discrete,) [`Refusal::Spent`], [`Refusal::Store`] (the ring entry about to be overwritten is damaged).
+/// An answer is one of [`observe`]'s: in this order [`Refusal::Item`], [`Refusal::Kind`],
+/// [`Refusal::Store`] (a condition item's entries), (Same, unless discrete,) [`Refusal::Crowded`],
+/// [`Refusal::Spent`], [`Refusal::Store`] (the ring entry about to be overwritten).
 ///
 /// (Where an archive of another version counts more answers than there are words: [`Refusal::Unknown`]
 /// with number 0.)
@@ -223,11 +248,12 @@ pub fn store_asset(
 ///   from next. No `from` and `from=0` mean first; another `from` below first is [`Refusal::Late`]. `from`
 ///   of last + 1 is accepted, with no rows, and above that it is [`Refusal::Early`]. A count that isn't
 ///   given is 100, also in a smaller ring.
-/// * `/current?path=..&at=..`, each part optional. A row for each selected item, in item order whatever
-///   their numbers are: its newest observation, or with `at` its newest numbered at or below that, also
-///   where it has left the ring. An item that had none by then is left out, which happens only among the
-///   numbers that start gave out. next is last + 1, also with `at`. An `at` below first, 0 too, is
-///   [`Refusal::Late`], and one above last [`Refusal::Early`].
+/// * `/current?path=..&at=..`, each part optional. The state of each selected item, in item order whatever
+///   the numbers are: of a condition item with active codes a row for each, up to eight, in the order in
+///   which the codes were added; of every other item one row, its newest observation. With `at` it is the
+///   state at that number, also where what stood then has left the ring. An item that had nothing by then
+///   is left out, which happens only among the numbers that start gave out. next is last + 1, also with
+///   `at`. An `at` below first, 0 too, is [`Refusal::Late`], and one above last [`Refusal::Early`].
 /// * `/assets`: every asset, the newest first.
 /// * `/asset/ID;ID..`: the assets named, in the text's order; an id named twice is two rows. An id that
 ///   is not stored refuses the whole request.
@@ -246,8 +272,8 @@ pub fn store_asset(
 /// [`Refusal::InvalidRequest`] (the word), [`Refusal::Unsupported`] (probe), [`Refusal::InvalidRequest`],
 /// [`Refusal::Unsupported`] (interval), [`Refusal::TooMany`], [`Refusal::InvalidXpath`],
 /// [`Refusal::Late`] or [`Refusal::Early`], [`Refusal::Store`] (damaged entries among the numbers
-/// considered, or up to `at`), [`Refusal::Space`]; for assets [`Refusal::InvalidRequest`],
-/// [`Refusal::AssetNotFound`], [`Refusal::Store`], [`Refusal::Space`].
+/// considered, or up to `at`; for a current, entries of a selected condition item), [`Refusal::Space`]; for
+/// assets [`Refusal::InvalidRequest`], [`Refusal::AssetNotFound`], [`Refusal::Store`], [`Refusal::Space`].
 ///
 /// [`Refusal::Space`] looks at the rows that this reply has and not at the count: with a path a large
 /// count may fit. A host that reserves less than the largest reply ([`sample_words`](crate::sample_words))
@@ -373,6 +399,7 @@ mod tests {
             assert_eq!(Observed::from_word((1 << 63) + number), Err(refusal));
         }
         assert_eq!(accepted((1 << 63) + 16), Err(Refusal::Batch));
+        assert_eq!(accepted((1 << 63) + 19), Err(Refusal::Crowded));
         assert_eq!(accepted((1 << 63) + 12), Err(Refusal::Unknown { number: 12 }));
         assert_eq!(accepted(u64::MAX).unwrap_err().number(), (1 << 63) - 1);
         assert_eq!(Observed::from_word((1 << 63) - 1), Ok(Observed::Recorded((1 << 63) - 1)));

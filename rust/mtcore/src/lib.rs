@@ -49,7 +49,7 @@
 //!     let axes = build.component(Component::DEVICE, "Axes")?;
 //!     let available = build.item(Component::DEVICE, Category::Event, "AVAILABILITY")?;
 //!     let position = build.item(axes, Category::Sample, "POSITION")?;
-//!     let travel = build.item(axes, Category::Condition, "OVERTRAVEL")?;
+//!     let servo = build.item(axes, Category::Condition, "ACTUATOR")?;
 //!     build.item(Component::DEVICE, Category::AssetChange, "ASSET_CHANGED")?;
 //!     let model = build.finish()?;
 //!
@@ -64,9 +64,10 @@
 //!     mill.observe(available, now + 100, now + 101, Value::Event(1))?;
 //!     let scan = [
 //!         Record::new(position, now + 200, Value::Sample(12_500)), // 12.5 mm
-//!         Record::new(travel, 0, Value::Condition(Level::Warning, 77)), // no time of its own: the host's
+//!         Record::new(servo, 0, Value::Condition(Level::Warning, 77)), // no time of its own: the host's
+//!         Record::new(servo, 0, Value::Condition(Level::Fault, 502)), // beside the warning
 //!     ];
-//!     let mut words = [0; 2];
+//!     let mut words = [0; 3];
 //!     for answer in mill.observe_batch(&scan, now + 201, &mut words)?.iter() {
 //!         answer?;
 //!     }
@@ -75,10 +76,14 @@
 //!     // What clients ask. The reply is the largest buffer: this one is for counts up to 100.
 //!     let mut reply = vec![0; mill.reply_words(100)];
 //!     assert_eq!(
-//!         answer(&mill, "/sample?from=5&path=//Axes", &mut reply),
-//!         ["next 9", "6 POSITION 12.500", "7 OVERTRAVEL WARNING 77"]
+//!         answer(&mill, "/sample?from=5&count=3&path=//Axes", &mut reply),
+//!         ["next 8", "6 POSITION 12.500", "7 ACTUATOR WARNING 77"]
 //!     );
-//!     assert_eq!(answer(&mill, "/sample?from=9", &mut reply), ["next 9"]);
+//!     assert_eq!(answer(&mill, "/sample?from=10", &mut reply), ["next 10"]);
+//!     // Normal with the code clears the warning; the fault stands on, and is all that current shows.
+//!     mill.observe(servo, 0, now + 500, Value::Condition(Level::Normal, 77))?;
+//!     let servos = "/current?path=//Axes//DataItem[@type=\"ACTUATOR\"]";
+//!     assert_eq!(answer(&mill, servos, &mut reply), ["next 11", "8 ACTUATOR FAULT 502"]);
 //!     assert_eq!(answer(&mill, "/assets", &mut reply), ["T17: drill, 8 mm, 412 parts left"]);
 //!     let early = ["OUT_OF_RANGE", "early: the number is above last"];
 //!     assert_eq!(answer(&mill, "/sample?from=2000", &mut reply), early);
@@ -113,7 +118,7 @@
 //!         Value::Unavailable => "UNAVAILABLE".to_string(),
 //!         Value::Sample(thousandths) => format!("{:.3}", f64::from(thousandths) / 1000.0),
 //!         Value::Event(code) => format!("code {code}"), // texts are in a table of the host's
-//!         Value::Condition(Level::Normal, _) => "NORMAL".to_string(),
+//!         Value::Condition(Level::Normal, code) => format!("NORMAL {code}"),
 //!         Value::Condition(Level::Warning, code) => format!("WARNING {code}"),
 //!         Value::Condition(Level::Fault, code) => format!("FAULT {code}"),
 //!     };
@@ -131,6 +136,7 @@
 //! * [`observe_batch`] records what a scan found together in one call: [`Record`]s go in, [`Answers`] come
 //!   out.
 //! * [`request`] says what each request text means, with examples.
+//! * [`observe`] says how conditions are raised and cleared, several on one item.
 //! * [`Reply`], [`Observations`] and [`Assets`] take a reply apart; [`cell_id`] and [`cell_body`] lead from
 //!   an asset reply's cell to its tool.
 //! * [`Value`] says what can be recorded, [`Category`] of which item and when it counts, [`Refusal`] why a
@@ -142,10 +148,10 @@
 //! |---|---|---|
 //! | model words | [`model_words`] | `u32`, 2 + c + m |
 //! | names | [`name_bytes`] | bytes, 24 for each different name |
-//! | observation store | [`observation_words`] | `u64`, 4 + 2 N + 6 m, exactly |
+//! | observation store | [`observation_words`] | `u64`, 4 + 2 N + 48 m, exactly |
 //! | asset store | [`asset_bytes`] | bytes, 2 + 544 A, exactly |
 //! | reply to `sample` | [`sample_words`] | `u64`, 4 + 3 min(count, N) |
-//! | reply to `current` | [`current_words`] | `u64`, 4 + 3 m |
+//! | reply to `current` | [`current_words`] | `u64`, 4 + 24 m; with few conditions less, see [`current_rows`] |
 //! | reply to `/assets`, `/asset/..` | [`assets_words`] | `u64`, 4 + 2 max(A, 125) |
 //! | any reply of k rows | [`reply_words`], [`asset_reply_words`] | `u64` |
 //! | a delivery's answers | one for each record, at most [`MAX_BATCH`] | `u64` |
@@ -210,13 +216,13 @@ pub use model::{component_word, item_word, names, Category, Component, Model, Mo
 pub use refusal::Refusal;
 pub use reply::{AssetRow, Assets, Observations, Reply, Row};
 pub use sizes::{
-    asset_bytes, asset_reply_words, assets_words, current_words, model_words, name_bytes, observation_words,
-    reply_words, sample_words, Sizes, DEFAULT_COUNT, MAX_BATCH, MAX_BODY, MAX_CELLS, MAX_COMPONENTS, MAX_ID,
-    MAX_ITEMS, MAX_NAMED, MAX_NAMES, MAX_PLACES, MAX_TEXT, NAME_BYTES,
+    asset_bytes, asset_reply_words, assets_words, current_rows, current_words, model_words, name_bytes,
+    observation_words, reply_words, sample_words, Sizes, DEFAULT_COUNT, MAX_ACTIVE, MAX_BATCH, MAX_BODY,
+    MAX_CELLS, MAX_COMPONENTS, MAX_ID, MAX_ITEMS, MAX_NAMED, MAX_NAMES, MAX_PLACES, MAX_TEXT, NAME_BYTES,
 };
 pub use value::{Level, Value};
 
 /// The form of stores and model, which is `MTCORE_LAYOUT` of the C header. It moves where the form does:
 /// saved stores outlive a version, so a host saves this number beside them, and starts anew where it
 /// differs.
-pub const LAYOUT: u32 = 1;
+pub const LAYOUT: u32 = 2;

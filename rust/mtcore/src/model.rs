@@ -1,7 +1,7 @@
 //! Model words and name cells: checked, and read.
 
 use crate::sizes::{MAX_COMPONENTS, MAX_ITEMS, MAX_NAMES, NAME_BYTES};
-use crate::{Level, Row, Value};
+use crate::{Row, Value};
 use core::fmt;
 
 /// What an item reports.
@@ -13,7 +13,8 @@ pub enum Category {
     Sample = 0,
     /// A state, by its code: takes [`Value::Event`].
     Event = 1,
-    /// A condition: takes [`Value::Condition`]. One condition stands at a time.
+    /// Conditions: takes [`Value::Condition`]. Up to eight native codes are active side by side, each with
+    /// its level, and `current` gives a row for each.
     Condition = 2,
     /// The event of a stored asset, its code the cell. [`store_asset`](crate::store_asset) writes it and
     /// `observe` never; a model has at most one such item.
@@ -39,7 +40,8 @@ impl Category {
     /// use mtcore::{Category, Level, Value};
     /// assert!(Category::Sample.holds(Value::Sample(5)));
     /// assert!(!Category::Sample.holds(Value::Event(5)));
-    /// assert!(!Category::Condition.holds(Value::Condition(Level::Normal, 5)));
+    /// assert!(Category::Condition.holds(Value::Condition(Level::Normal, 5)));
+    /// assert!(!Category::Condition.holds(Value::Condition(Level::Fault, 1 << 24)));
     /// assert!(Category::Discrete.holds(Value::Event(5)));
     /// ```
     pub const fn holds(self, value: Value) -> bool {
@@ -47,7 +49,6 @@ impl Category {
             (_, Value::Unavailable) => true,
             (Category::Sample, Value::Sample(_)) => true,
             (Category::Event | Category::AssetChange | Category::Discrete, Value::Event(_)) => true,
-            (Category::Condition, Value::Condition(Level::Normal, code)) => code == 0,
             (Category::Condition, Value::Condition(_, code)) => code < 1 << 24,
             _ => false,
         }
@@ -345,6 +346,13 @@ impl<W: AsRef<[u32]>, N: AsRef<[u8]>> Model<W, N> {
         parts(self.words()).map_or(0, |(_, items)| items.len())
     }
 
+    /// How many of them are conditions. A `current` has at most
+    /// [`current_rows`](crate::current_rows)`(items, conditions)` rows.
+    pub fn conditions(&self) -> usize {
+        let condition = |&&word: &&u32| category_of(word) == Some(Category::Condition);
+        parts(self.words()).map_or(0, |(_, items)| items.iter().filter(condition).count())
+    }
+
     fn item(&self, item: u64) -> Option<u32> {
         let (_, items) = parts(self.words()).ok()?;
         items.get(usize::try_from(item).ok()?).copied()
@@ -395,11 +403,12 @@ impl<W: AsRef<[u32]>, N: AsRef<[u8]>> Model<W, N> {
     /// such item or the item cannot have such a value.
     ///
     /// Rows of stores that only this crate wrote always pass. The core takes a restored store as it stands:
-    /// [`Refusal::Store`](crate::Refusal::Store) is about heads, lengths, the items of the ring entries and
-    /// the lengths of the bodies that a call reads. It does not see an item's latest value, its last one
-    /// from before the ring, kinds, levels, codes, numbers and times. So a host that saves and restores
-    /// stores keeps a checksum of its own beside them, and asks this of a row before it uses its item, kind
-    /// or level as an index.
+    /// [`Refusal::Store`](crate::Refusal::Store) is about heads, lengths, the items of the ring entries, the
+    /// lengths of the bodies and the form of a condition item's entries that a call reads: entries that
+    /// stand side by side have different codes, each at a level that is active. It does not see an item's
+    /// latest value, its last one from before the ring, kinds, levels, codes, numbers and times. So a host
+    /// that saves and restores stores keeps a checksum of its own beside them, and asks this of a row before
+    /// it uses its item, kind or level as an index.
     ///
     /// ```
     /// # use mtcore::{Model, Row, Value};
@@ -492,7 +501,7 @@ mod tests {
         let cells = names(["Device", "Axes", "Linear", "POSITION", "ASSET_CHANGED"]).unwrap();
         let words = [3, 2, 0, 1, 256 + 2, 2 * 256 + 3, 3 * 65_536 + 4];
         let model = Model::new(words, cells.as_flattened()).unwrap();
-        assert_eq!((model.components(), model.items()), (3, 2));
+        assert_eq!((model.components(), model.items(), model.conditions()), (3, 2, 0));
         assert_eq!(model.category(0), Some(Category::Sample));
         assert_eq!(model.component_of(0), Some(Component(2)));
         assert_eq!(model.component_of(1), Some(Component::DEVICE));
@@ -523,8 +532,11 @@ mod tests {
             }
         }
         let condition = |low: u64| Row { number: 1, time: 1, packed: (2 << 40) + (3 << 32) + low };
-        assert_eq!(model.checked(condition(0)), Some((2, Value::Condition(Level::Normal, 0))));
-        assert_eq!(model.checked(condition(1)), None);
+        for code in [0, 1, (1 << 24) - 1] {
+            let normal = Value::Condition(Level::Normal, code as u32);
+            assert_eq!(model.checked(condition(code)), Some((2, normal)));
+        }
         assert_eq!(model.checked(condition(3 << 24)), None);
+        assert_eq!(model.conditions(), 1);
     }
 }

@@ -24,16 +24,16 @@ pub enum Refusal {
     /// 1: model or names break their rules. [`Model::new`](crate::Model::new) tells which one.
     Model,
     /// 2: a store's head or length is wrong or of another model, or contents that had to be read are
-    /// damaged: a ring entry of an item that there isn't, or a body's length that isn't 1 to 510. Stores
-    /// that only this crate wrote, always with the same model, never get it. What it does not see is told
-    /// at [`Model::checked`](crate::Model::checked).
+    /// damaged: a ring entry of an item that there isn't, entries of a condition item that can't stand side
+    /// by side, or a body's length that isn't 1 to 510. Stores that only this crate wrote, always with the
+    /// same model, never get it. What it does not see is told at [`Model::checked`](crate::Model::checked).
     Store,
     /// 3: start's sizes are outside their ranges, or a store's length is not exactly theirs.
     Size,
     /// 4: the model has no such item.
     Item,
     /// 5: the item does not take this value: it is of another category's kind, a native code of 2^24 or
-    /// more, Normal with a code other than 0, or anything at all for an asset change item.
+    /// more, or anything at all for an asset change item.
     Kind,
     /// 6: a number is needed and the last one, 2^63 - 1, is used. The host starts anew, with a new
     /// instanceId.
@@ -70,6 +70,11 @@ pub enum Refusal {
     /// numbers, which its instanceId shows: then the client begins anew with `current`. Or the client is
     /// at fault: log it. It does not wait until the number comes.
     Early,
+    /// 19: a warning or fault with a ninth native code, on a condition item that has eight active. Nothing
+    /// was recorded, and the eight stand as they did. The host logs it, and observes it again once one of
+    /// them is cleared, or clears one itself; a level of a code that is active is never refused so. Where
+    /// more than eight can come together the alarms are spread over several items.
+    Crowded,
     /// A number that this version of the crate has no name for: an archive of another version is
     /// linked. It is a refusal all the same, and nothing was changed. 12 is such a number: it stood for
     /// late and early together before version 2.0, and is not given any more.
@@ -84,7 +89,7 @@ pub enum Refusal {
 type Entry = (u64, Refusal, &'static str, Option<&'static str>);
 
 /// The refusals that there are, each with its number, since 12 is none's.
-const TABLE: [Entry; 17] = [
+const TABLE: [Entry; 18] = [
     (1, Refusal::Model, "model or names break their rules", None),
     (2, Refusal::Store, "a store is damaged or not the model's", Some("INTERNAL_ERROR")),
     (3, Refusal::Size, "the stores' sizes do not go together", None),
@@ -102,10 +107,11 @@ const TABLE: [Entry; 17] = [
     (16, Refusal::Batch, "a delivery has too many records", None),
     (17, Refusal::Late, "late: the number is below first", Some("OUT_OF_RANGE")),
     (18, Refusal::Early, "early: the number is above last", Some("OUT_OF_RANGE")),
+    (19, Refusal::Crowded, "eight other codes are active on the item", None),
 ];
 
 impl Refusal {
-    /// The refusal's number: 1 to 18 but for 12, or the one that [`Refusal::Unknown`] holds.
+    /// The refusal's number: 1 to 19 but for 12, or the one that [`Refusal::Unknown`] holds.
     ///
     /// ```
     /// use mtcore::Refusal;
@@ -192,7 +198,7 @@ mod tests {
         for number in (1..100).chain([255, 256, 1 << 32, (1 << 63) - 1, u64::MAX]) {
             let refusal = Refusal::from_number(number).unwrap();
             assert_eq!(refusal.number(), number);
-            let unknown = number == 12 || number > 18;
+            let unknown = number == 12 || number > 19;
             assert_eq!(matches!(refusal, Refusal::Unknown { .. }), unknown, "{number}");
         }
     }
@@ -218,6 +224,7 @@ mod tests {
             (16, Refusal::Batch),
             (17, Refusal::Late),
             (18, Refusal::Early),
+            (19, Refusal::Crowded),
         ];
         assert_eq!(numbered.len(), TABLE.len());
         for (number, refusal) in numbered {
@@ -250,7 +257,8 @@ mod tests {
     fn words_are_said() {
         assert!(TABLE.iter().all(|(_, _, words, _)| !words.is_empty()));
         assert_eq!(Refusal::InvalidXpath.to_string(), "INVALID_XPATH");
-        assert_eq!(Refusal::from_number(19).unwrap().to_string(), "refusal 19");
-        assert_eq!(Refusal::from_number(19).unwrap().error_code(), None);
+        assert_eq!(Refusal::Crowded.to_string(), "eight other codes are active on the item");
+        assert_eq!(Refusal::from_number(20).unwrap().to_string(), "refusal 20");
+        assert_eq!(Refusal::from_number(20).unwrap().error_code(), None);
     }
 }

@@ -136,13 +136,35 @@ impl<'a> Observations<'a> {
         Some(Row { number, time, packed })
     }
 
-    /// The rows, in the reply's order: of a sample by rising number, of a current by rising item.
+    /// The rows, in the reply's order: of a sample by rising number, of a current by rising item, and of a
+    /// condition item, which may have up to eight there, in the order in which their codes were added.
     pub fn rows(&self) -> impl ExactSizeIterator<Item = Row> + 'a {
         let pairs = self.pairs.chunks_exact(2);
         self.numbers.iter().zip(pairs).map(|(&number, pair)| {
             let (time, packed) = if let &[time, packed] = pair { (time, packed) } else { (0, 0) };
             Row { number, time, packed }
         })
+    }
+
+    /// The rows of an item, in the reply's order. Of a current these are what the item stands at: the active
+    /// entries of a condition item, or its newest observation where none is active.
+    ///
+    /// ```
+    /// use mtcore::{Level, Observations, Value};
+    /// // Item 0 has an active warning and an active fault, item 1 a sample.
+    /// let packed = |item: u64, value: Value| (item << 40) + value.word();
+    /// let warning = packed(0, Value::Condition(Level::Warning, 77));
+    /// let fault = packed(0, Value::Condition(Level::Fault, 502));
+    /// let reply = [3, 1, 9, 10, 4, 9, 8, 40, warning, 90, fault, 80, packed(1, Value::Sample(5))];
+    /// let read = Observations::read(&reply).unwrap();
+    /// assert!(read.rows_of(0).map(|row| row.number).eq([4, 9]));
+    /// assert!(read.rows_of(1).map(|row| row.number).eq([8]));
+    /// // A machine is at Fault while any of its conditions is.
+    /// let at_fault = |row| matches!(row, Some(Value::Condition(Level::Fault, _)));
+    /// assert!(read.rows_of(0).any(|row| at_fault(row.value())));
+    /// ```
+    pub fn rows_of(&self, item: u64) -> impl Iterator<Item = Row> + 'a {
+        self.rows().filter(move |row| row.item() == item)
     }
 }
 

@@ -26,6 +26,8 @@ pub const MAX_NAMED: usize = 125;
 pub const DEFAULT_COUNT: usize = 100;
 /// The largest number of records of a delivery.
 pub const MAX_BATCH: usize = 256;
+/// The largest number of native codes that are active on a condition item.
+pub const MAX_ACTIVE: usize = 8;
 
 /// Bytes of an id cell of the asset store.
 pub(crate) const ID_CELL: usize = MAX_ID;
@@ -62,14 +64,17 @@ pub const fn name_bytes(names: usize) -> usize {
     names.saturating_mul(NAME_BYTES)
 }
 
-/// Words of an observation store with so many ring places and items: 4 + 2 N + 6 m.
+/// Words of an observation store with so many ring places and items: 4 + 2 N + 48 m. An item has room for
+/// eight entries of three words for what stands now, and for eight for what stood when it left the ring,
+/// whatever its category.
 ///
 /// ```
-/// assert_eq!(mtcore::observation_words(3, 2), 22);
-/// assert_eq!(8 * mtcore::observation_words(mtcore::MAX_PLACES, mtcore::MAX_ITEMS), 2_100_256);
+/// assert_eq!(mtcore::observation_words(3, 2), 106);
+/// assert_eq!(8 * mtcore::observation_words(mtcore::MAX_PLACES, mtcore::MAX_ITEMS), 2_121_760);
 /// ```
 pub const fn observation_words(places: usize, items: usize) -> usize {
-    places.saturating_mul(2).saturating_add(items.saturating_mul(6)).saturating_add(4)
+    let entries = items.saturating_mul(2 * 3 * MAX_ACTIVE);
+    places.saturating_mul(2).saturating_add(entries).saturating_add(4)
 }
 
 /// Bytes of an asset store with so many cells: 2 + 544 A.
@@ -118,13 +123,28 @@ pub const fn sample_words(places: usize, count: Option<usize>) -> usize {
     reply_words(if count < places { count } else { places })
 }
 
-/// Words that are enough for any reply to a `current`, with `at` or without, of so many items.
+/// Rows that a reply to a `current`, with `at` or without, has at most: one for each item, and up to eight
+/// for each of those that are conditions.
 ///
 /// ```
-/// assert_eq!(mtcore::current_words(64), 196);
+/// use mtcore::{current_rows, reply_words};
+/// assert_eq!(current_rows(64, 0), 64);
+/// assert_eq!(current_rows(64, 64), 512);
+/// // Five conditions among 64 items: the room for a sample of 100 is enough.
+/// assert!(reply_words(current_rows(64, 5)) <= reply_words(100));
+/// ```
+pub const fn current_rows(items: usize, conditions: usize) -> usize {
+    items.saturating_add(conditions.saturating_mul(MAX_ACTIVE - 1))
+}
+
+/// Words that are enough for any reply to a `current`, with `at` or without, of so many items, were all of
+/// them conditions: 8 m rows. [`current_rows`] says how many are enough where few of them are.
+///
+/// ```
+/// assert_eq!(mtcore::current_words(64), 1540);
 /// ```
 pub const fn current_words(items: usize) -> usize {
-    reply_words(items)
+    reply_words(current_rows(items, items))
 }
 
 /// Words that are enough for any reply about assets from so many cells: `/assets` gives a row for each
@@ -156,6 +176,8 @@ mod tests {
         assert_eq!(asset_bytes(usize::MAX / 500), usize::MAX);
         assert_eq!(reply_words(usize::MAX / 2), usize::MAX);
         assert_eq!(sample_words(usize::MAX, Some(usize::MAX)), usize::MAX);
+        assert_eq!(current_rows(2, usize::MAX / 2), usize::MAX);
+        assert_eq!(current_words(usize::MAX / 8), usize::MAX);
         assert_eq!(assets_words(usize::MAX), usize::MAX);
     }
 }

@@ -3,11 +3,11 @@
 /// The level of a condition.
 #[derive(Clone, Copy, PartialEq, Eq, Hash, Debug)]
 pub enum Level {
-    /// Nothing is wrong. Its native code is 0.
+    /// Nothing is wrong: with native code 0 at all, with another code no longer with that one.
     Normal,
-    /// Something needs attention.
+    /// Something needs attention. Its code is active.
     Warning,
-    /// The machine needs help to go on.
+    /// The machine needs help to go on. Its code is active.
     Fault,
 }
 
@@ -28,9 +28,10 @@ pub enum Value {
     /// [discrete](crate::Category::Discrete): there each one counts. The code of an asset change item is a
     /// cell.
     Event(u32),
-    /// A condition's level with its native code below 2^24, which is 0 for [`Level::Normal`]. Any other
-    /// code is refused as [`Refusal::Kind`](crate::Refusal::Kind). One condition stands for each item, so
-    /// the newest replaces the one before; where two alarms may stand at once, each gets an item.
+    /// A condition's level with its native code below 2^24; a wider one is refused as
+    /// [`Refusal::Kind`](crate::Refusal::Kind). Up to eight codes are active on an item side by side, each at
+    /// [`Level::Warning`] or [`Level::Fault`]. [`Level::Normal`] with a code other than 0 clears that one, with
+    /// 0 all. What each does, and when it is Same, is told at [`observe`](crate::observe).
     Condition(Level, u32),
 }
 

@@ -13,6 +13,7 @@ const PLACES: usize = 7;
 const CELLS: usize = 3;
 const ITEMS: usize = 5;
 const EVENT: u64 = 0;
+const CONDITION: u64 = 2;
 const DISCRETE: u64 = 4;
 const SIZES: Sizes = Sizes { places: PLACES as u64, cells: CELLS as u64, origin: 5 };
 
@@ -41,7 +42,7 @@ fn value(rng: &mut Rng) -> Value {
         0 => Value::Unavailable,
         1 => Value::Sample(code as i32 - 2),
         2 => Value::Event(code),
-        3 => Value::Condition(Level::Normal, code / 2),
+        3 => Value::Condition(rng.pick(&[Level::Normal, Level::Warning]), rng.below(12) as u32),
         _ => Value::Condition(Level::Fault, code << 23),
     }
 }
@@ -395,7 +396,7 @@ fn rows_that_only_their_check_sees() {
     let agent = Agent::start(model(), o, a, SIZES, 9).unwrap();
     let (owned, good, a) = agent.into_parts();
     let ring = 4 + PLACES;
-    let latest = 4 + 2 * PLACES + 2 * ITEMS;
+    let latest = 4 + 2 * PLACES + 16 * ITEMS; // behind eight numbers and eight times of each item
     for (text, place, packed) in [
         ("/sample", ring, 2 << 32), // item 0's first entry: an event, as item 0 is
         ("/sample", ring, 1 << 32), // a sample of an event item
@@ -535,12 +536,15 @@ fn replies_fill_their_sizes() {
         agent.observe(1, step, step, Value::Sample(step as i32)).unwrap();
         agent.store_asset(format!("{}", step % 128).as_bytes(), b"body", step).unwrap();
     }
+    for code in 0..mtcore::MAX_ACTIVE as u32 {
+        agent.observe(CONDITION, 0, 401, Value::Condition(Level::Warning, code)).unwrap();
+    }
     let named = format!("/asset/{}", ["1"; mtcore::MAX_NAMED].join(";"));
     let exact: [(&str, usize); 6] = [
         ("/sample", mtcore::sample_words(places, None)),
         ("/sample?count=150", mtcore::sample_words(places, Some(150))),
         ("/sample?count=1", mtcore::sample_words(places, Some(1))),
-        ("/current", mtcore::current_words(ITEMS)),
+        ("/current", mtcore::reply_words(mtcore::current_rows(ITEMS, 1))),
         ("/assets", mtcore::assets_words(cells)),
         (&named, mtcore::asset_reply_words(mtcore::MAX_NAMED)),
     ];
@@ -551,6 +555,7 @@ fn replies_fill_their_sizes() {
         assert_eq!(refused, Some(Refusal::Space), "{text}");
         assert!(agent.reply_words(150) >= words);
     }
+    assert_eq!(mtcore::current_words(1), mtcore::reply_words(mtcore::current_rows(1, 1)));
     assert_eq!(agent.reply_words(0), mtcore::sample_words(places, None));
     assert_eq!(agent.reply_words(1000), mtcore::sample_words(places, Some(150)));
 }

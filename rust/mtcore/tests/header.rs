@@ -29,7 +29,7 @@ fn c_name(rust: &str) -> String {
 /// Each has its number in the header, and 12 is none's.
 #[test]
 fn refusals() {
-    let numbers: Vec<u64> = (1..=11).chain(13..=18).collect();
+    let numbers: Vec<u64> = (1..=11).chain(13..=19).collect();
     for &number_here in &numbers {
         let refusal = Refusal::from_number(number_here).unwrap();
         assert_eq!(number(&c_name(&format!("{refusal:?}"))), number_here);
@@ -73,6 +73,7 @@ fn limits() {
         ("MTCORE_MAX_NAMED", mtcore::MAX_NAMED),
         ("MTCORE_DEFAULT_COUNT", mtcore::DEFAULT_COUNT),
         ("MTCORE_MAX_BATCH", mtcore::MAX_BATCH),
+        ("MTCORE_MAX_ACTIVE", mtcore::MAX_ACTIVE),
         ("MTCORE_NAME", mtcore::NAME_BYTES),
     ];
     for (name, limit) in limits {

@@ -187,7 +187,7 @@ fn categories_are_as_the_page_says() {
 fn refusals_have_the_page_s_error_codes() {
     let rows = table("| No. | name |");
     let numbers: Vec<u64> = rows.iter().map(|row| row[0].parse().unwrap()).collect();
-    assert_eq!(numbers, (1..=11).chain(13..=18).collect::<Vec<_>>());
+    assert_eq!(numbers, (1..=11).chain(13..=19).collect::<Vec<_>>());
     for (row, number) in rows.into_iter().zip(numbers) {
         let refusal = Refusal::from_number(number).unwrap();
         assert!(!matches!(refusal, Refusal::Unknown { .. }), "{number}");
