@@ -1,14 +1,15 @@
-/* A box around the core: a lathe with one axis, a few observations, a tool, and what three clients ask. */
+/* A box around the core: a lathe with one axis, a few observations, a servo with two alarms at once, a tool, and what
+ * clients ask. */
 #include <inttypes.h>
 #include <stdio.h>
 #include <string.h>
 
 #include "mtcore.h"
 
-enum { N = 4, A = 2, COMPONENTS = 2, ITEMS = 4, ROWS = 16 };
+enum { N = 4, A = 2, COMPONENTS = 2, ITEMS = 4, CONDITIONS = 1 };
 
-static const uint8_t names[][MTCORE_NAME] = {"Device",   "Axes",       "AVAILABILITY",
-                                             "POSITION", "OVERTRAVEL", "ASSET_CHANGED"};
+static const uint8_t names[][MTCORE_NAME] = {"Device",   "Axes",     "AVAILABILITY",
+                                             "POSITION", "ACTUATOR", "ASSET_CHANGED"};
 
 static const uint32_t model[2 + COMPONENTS + ITEMS] = {
     COMPONENTS,
@@ -23,7 +24,7 @@ static const uint32_t model[2 + COMPONENTS + ITEMS] = {
 
 static uint64_t observations[MTCORE_OBSERVATION_WORDS(N, ITEMS)];
 static uint8_t assets[MTCORE_ASSET_BYTES(A)];
-static uint64_t reply[MTCORE_REPLY_WORDS(ROWS)];
+static uint64_t reply[MTCORE_REPLY_WORDS(MTCORE_CURRENT_ROWS(ITEMS, CONDITIONS))];
 
 #define COUNT(x) (sizeof(x) / sizeof((x)[0]))
 #define MODEL model, COUNT(model), names[0], sizeof names
@@ -90,14 +91,26 @@ int main(void) {
     observe("available", 0, 100, mtcore_event(1));
     observe("12.5 mm", 1, 200, mtcore_sample(12500));
     observe("12.5 mm", 1, 250, mtcore_sample(12500));
-    observe("overtravel warning", 2, 300, mtcore_condition(MTCORE_WARNING, 77));
+    observe("overheat warning", 2, 300, mtcore_condition(MTCORE_WARNING, 77));
     observe("an item too many", 9, 350, MTCORE_UNAVAILABLE);
     store("T17", "drill, 8 mm, 412 parts left");
-    observe("-0.001 mm", 1, 500, mtcore_sample(-1));
+    observe("following error", 2, 500, mtcore_condition(MTCORE_FAULT, 502));
+    observe("-0.001 mm", 1, 600, mtcore_sample(-1));
 
     ask("/sample?from=7&count=2");
-    ask("/current?path=//Axes//DataItem[@type=\"POSITION\"]");
+    ask("/current?path=//Axes");
     ask("/sample?from=1");
+
+    /* each alarm is cleared by its own code, and whatever stands by 0 */
+    printf("\n");
+    observe("overheat is over", 2, 700, mtcore_condition(MTCORE_NORMAL, 77));
+    observe("overheat is over", 2, 750, mtcore_condition(MTCORE_NORMAL, 77));
+    observe("all is well", 2, 800, mtcore_condition(MTCORE_NORMAL, 0));
+
+    /* the warning, number 7, has left the ring, and stood at number 10 all the same */
+    ask("/current?at=10&path=//Axes//DataItem[@type=\"ACTUATOR\"]");
+    ask("/current?at=11&path=//Axes//DataItem[@type=\"ACTUATOR\"]");
+    ask("/current?path=//Axes//DataItem[@type=\"ACTUATOR\"]");
 
     mtcore_part p = mtcore_body(assets, sizeof assets, (const uint8_t *)"T17", 3);
     printf("\nT17: %.*s\n", (int)p.length, (const char *)assets + p.start);

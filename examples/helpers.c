@@ -1,7 +1,7 @@
 /* Tries every helper of mtcore.h, as C and as C++: what goes in comes out again, and what isn't there gives
  * nothing. So does a delivery, whose records are a struct that the header lays out, a discrete item counts its equal
- * values, and a request beside the numbers held is late or early. Prints the number of trials, or the first that
- * fails. */
+ * values, a condition item holds eight codes, a request beside the numbers held is late or early, and a box goes on
+ * from stores of layout 1. Prints the number of trials, or the first that fails. */
 #include <inttypes.h>
 #include <stdio.h>
 #include <string.h>
@@ -56,10 +56,14 @@ static uint64_t store(const char *id, const char *body) {
                               (const uint8_t *)body, strlen(body), 8);
 }
 
-/* the packed word that current gives for an item */
-static uint64_t packed_of(uint64_t item) {
+/* the first row that current gives for an item */
+static mtcore_row row_of(uint64_t item) {
     HOLDS(ask("/current").number == 0);
-    return mtcore_reply_row(reply, item).packed;
+    return mtcore_reply_row(reply, mtcore_reply_find(reply, item, 0));
+}
+
+static uint64_t packed_of(uint64_t item) {
+    return row_of(item).packed;
 }
 
 static int is(mtcore_bytes bytes, const char *text) {
@@ -92,7 +96,8 @@ static void try_values(void) {
     HOLDS(mtcore_kind_of(packed_of(2)) == MTCORE_VALUE_CONDITION && mtcore_level_of(packed_of(2)) == MTCORE_FAULT);
     HOLDS(mtcore_code_of(packed_of(2)) == 0xffffff);
     HOLDS(mtcore_refusal_of(observe(2, mtcore_condition(MTCORE_FAULT, 0x1000000))) == MTCORE_KIND);
-    HOLDS(mtcore_refusal_of(observe(2, mtcore_condition(MTCORE_NORMAL, 1))) == MTCORE_KIND);
+    HOLDS(mtcore_refusal_of(observe(2, mtcore_condition(MTCORE_NORMAL, 0x1000000))) == MTCORE_KIND);
+    HOLDS(observe(2, mtcore_condition(MTCORE_NORMAL, 0xfffffe)) == MTCORE_SAME);
     HOLDS(mtcore_refusal_of(observe(2, mtcore_condition((enum mtcore_level)3, 0))) == MTCORE_KIND);
 #ifndef __cplusplus
     HOLDS(mtcore_refusal_of(observe(2, mtcore_condition((enum mtcore_level)256, 0))) == MTCORE_KIND);
@@ -154,10 +159,49 @@ static void try_batch(void) {
     HOLDS(words[0] == before + 1 && mtcore_refusal_of(words[1]) == MTCORE_ITEM && words[2] == before + 2);
     HOLDS(words[3] == MTCORE_SAME && mtcore_refusal_of(words[4]) == MTCORE_KIND);
     HOLDS(ask("/current").number == 0 && mtcore_reply_last(reply) == before + 2);
-    HOLDS(mtcore_reply_row(reply, 1).time == 5 && mtcore_sample_of(mtcore_reply_row(reply, 1).packed) == -7);
-    HOLDS(mtcore_reply_row(reply, 0).time == 9 && mtcore_code_of(mtcore_reply_row(reply, 0).packed) == 3);
+    HOLDS(row_of(1).time == 5 && mtcore_sample_of(row_of(1).packed) == -7);
+    HOLDS(row_of(0).time == 9 && mtcore_code_of(row_of(0).packed) == 3);
     HOLDS(deliver(many, MTCORE_MAX_BATCH, words, MTCORE_MAX_BATCH) == 0);
     HOLDS(words[0] == before + 3 && words[1] == MTCORE_SAME && words[MTCORE_MAX_BATCH - 1] == MTCORE_SAME);
+}
+
+/* whether current has these codes of item 2 in this order, each at Warning but for one at Fault, and then item 3 */
+static int stands(const uint32_t *codes, size_t count, uint32_t at_fault) {
+    uint64_t first, i;
+    int right = ask("/current").number == 0;
+    first = mtcore_reply_find(reply, 2, 0);
+    for (i = 0; i < count; i++) {
+        uint64_t packed = mtcore_reply_row(reply, first + i).packed;
+        right = right && mtcore_reply_find(reply, 2, first + i) == first + i && mtcore_code_of(packed) == codes[i] &&
+                mtcore_level_of(packed) == (codes[i] == at_fault ? MTCORE_FAULT : MTCORE_WARNING);
+    }
+    return right && mtcore_reply_find(reply, 2, first + i) == mtcore_reply_count(reply) &&
+           mtcore_item_of(mtcore_reply_row(reply, first + i).packed) == 3;
+}
+
+/* Eight codes stand side by side, 0 among them, and a ninth is refused: until one is cleared, and then it stands behind
+ * the others. A level replaces its code's entry in its place. */
+static void try_conditions(void) {
+    static const uint32_t eight[] = {0, 1, 2, 3, 4, 5, 6, 7}, without[] = {0, 1, 2, 4, 5, 6, 7, 8};
+    const uint32_t no_code = UINT32_MAX;
+    HOLDS(mtcore_refusal_of(observe(2, MTCORE_UNAVAILABLE)) == 0 && observe(2, MTCORE_UNAVAILABLE) == MTCORE_SAME);
+    HOLDS(observe(2, mtcore_condition(MTCORE_NORMAL, 5)) == MTCORE_SAME);
+    HOLDS(mtcore_kind_of(packed_of(2)) == MTCORE_VALUE_UNAVAILABLE);
+    for (uint32_t code = 0; code < MTCORE_MAX_ACTIVE; code++) {
+        HOLDS(mtcore_refusal_of(observe(2, mtcore_condition(MTCORE_WARNING, code))) == 0);
+        HOLDS(stands(eight, code + 1, no_code));
+    }
+    HOLDS(observe(2, mtcore_condition(MTCORE_WARNING, 8)) == MTCORE_REFUSED + MTCORE_CROWDED);
+    HOLDS(observe(2, mtcore_condition(MTCORE_WARNING, 3)) == MTCORE_SAME && stands(eight, COUNT(eight), no_code));
+    HOLDS(mtcore_reply_count(reply) == MTCORE_CURRENT_ROWS(ITEMS, 1));
+    HOLDS(mtcore_refusal_of(observe(2, mtcore_condition(MTCORE_FAULT, 3))) == 0 && stands(eight, COUNT(eight), 3));
+    HOLDS(mtcore_refusal_of(observe(2, mtcore_condition(MTCORE_NORMAL, 3))) == 0);
+    HOLDS(observe(2, mtcore_condition(MTCORE_NORMAL, 3)) == MTCORE_SAME && stands(without, COUNT(eight) - 1, no_code));
+    HOLDS(mtcore_refusal_of(observe(2, mtcore_condition(MTCORE_WARNING, 8))) == 0);
+    HOLDS(stands(without, COUNT(eight), no_code));
+    HOLDS(mtcore_refusal_of(observe(2, mtcore_condition(MTCORE_NORMAL, 0))) == 0);
+    HOLDS(observe(2, mtcore_condition(MTCORE_NORMAL, 0)) == MTCORE_SAME);
+    HOLDS(mtcore_level_of(packed_of(2)) == MTCORE_NORMAL && mtcore_reply_count(reply) == ITEMS);
 }
 
 /* the refusal of a text that ends with this number, or 0 */
@@ -202,7 +246,7 @@ static void try_discrete(void) {
     while (counted < COUNT(words) && words[counted] == before + 1 + counted)
         counted++;
     HOLDS(counted == COUNT(words) && mtcore_code_of(packed_of(4)) == 1);
-    HOLDS(mtcore_reply_row(reply, 4).number == before + counted && mtcore_reply_row(reply, 4).time == 9);
+    HOLDS(row_of(4).number == before + counted && row_of(4).time == 9);
 }
 
 /* how start answers a model of two items of these categories, and no stores */
@@ -236,6 +280,38 @@ static void try_cells(void) {
           (uint64_t)(mtcore_cell_body(ASSETS, 0).bytes - assets));
 }
 
+static const uint32_t one_item[] = {1, 1, MTCORE_COMPONENT(0, 0),
+                                    MTCORE_DATA_ITEM(MTCORE_CATEGORY_CONDITION, 0, 3)};
+#define ONE_ITEM one_item, COUNT(one_item), names, sizeof name_texts
+
+static uint64_t ask_one(const uint64_t *words, size_t words_len, const char *text) {
+    return mtcore_request(ONE_ITEM, words, words_len, ASSETS, (const uint8_t *)text, strlen(text), reply, COUNT(reply))
+        .number;
+}
+
+/* Stores as layout 1 had them, the observations with six words for each item and 90 as their last number: a call
+ * refuses them for their length. A start behind that number makes new ones, and each tool is stored again, the oldest
+ * first. A client that was level goes on, and one that was behind is late. */
+static void try_layout_one(void) {
+    static uint64_t old_words[4 + 2 * N + 6], new_words[MTCORE_OBSERVATION_WORDS(N, 1)];
+    static uint8_t old_assets[sizeof assets];
+    const uint64_t head[] = {N, 1, 1, 90};
+    memcpy(old_words, head, sizeof head);
+    memcpy(old_assets, assets, sizeof assets);
+    HOLDS(ask_one(old_words, COUNT(old_words), "/current") == MTCORE_STORE);
+    HOLDS(mtcore_start(ONE_ITEM, new_words, COUNT(new_words), ASSETS, N, A, old_words[3] + 1, 6).number == 0);
+    HOLDS(none(mtcore_cell_id(ASSETS, 0)));
+    for (uint64_t cell = 0; mtcore_cell_used(old_assets, sizeof old_assets, cell); cell++) {
+        mtcore_bytes id = mtcore_cell_id(old_assets, sizeof old_assets, cell);
+        mtcore_bytes body = mtcore_cell_body(old_assets, sizeof old_assets, cell);
+        HOLDS(mtcore_store_asset(ONE_ITEM, new_words, COUNT(new_words), ASSETS, id.bytes, id.length, body.bytes,
+                                 body.length, 6) == cell);
+    }
+    HOLDS(memcmp(old_assets, assets, sizeof assets) == 0);
+    HOLDS(ask_one(new_words, COUNT(new_words), "/sample?from=91") == 0 && mtcore_reply_row(reply, 0).number == 91);
+    HOLDS(ask_one(new_words, COUNT(new_words), "/sample?from=90") == MTCORE_LATE);
+}
+
 /* stores that a call would refuse */
 static void try_damaged_cells(void) {
     HOLDS(none(mtcore_cell_id(NULL, 0, 0)) && none(mtcore_cell_body(assets, sizeof assets - 1, 0)));
@@ -254,7 +330,10 @@ static void try_words(void) {
     HOLDS(mtcore_sample_words(MTCORE_MAX_N, MTCORE_MAX_N) * sizeof(uint64_t) == 3145760);
     HOLDS(mtcore_sample_words(1000, 0) == 304 && mtcore_sample_words(50, 0) == 154);
     HOLDS(mtcore_sample_words(1000, UINT64_MAX) == 3004 && mtcore_sample_words(1000, 7) == 25);
-    HOLDS(mtcore_current_words(64) == 196);
+    HOLDS(mtcore_current_words(64) == 1540 && mtcore_current_words(0) == 4);
+    HOLDS(MTCORE_REPLY_WORDS(MTCORE_CURRENT_ROWS(64, 64)) == 1540 && MTCORE_CURRENT_ROWS(64, 5) == 99);
+    HOLDS(MTCORE_OBSERVATION_WORDS(MTCORE_MAX_N, 64) * sizeof(uint64_t) == 2121760);
+    HOLDS(MTCORE_OBSERVATION_WORDS(3, 2) == 106);
     HOLDS(mtcore_assets_words(128) == 260 && mtcore_assets_words(3) == 254);
 }
 
@@ -269,8 +348,10 @@ int main(void) {
     try_names();
     try_rows();
     try_batch();
+    try_conditions();
     try_late_and_early();
     try_cells();
+    try_layout_one();
     try_damaged_cells();
     try_words();
     if (failed == 0)

@@ -1,7 +1,7 @@
 /* A shift of a mill, replayed in a second: 06:00 to 14:00, a ring of 1,000, a scan every ten seconds that goes to the
- * core as one delivery, a pulse for each part, a tool changed, and three clients that poll at their own pace, one of
- * them asleep until it is late. Prints the shift's page. Everything that the core delivers is compared with a log of
- * the whole shift, which a box doesn't have. */
+ * core as one delivery, a pulse for each part, two alarms at once, a tool changed, and three clients that poll at their
+ * own pace, one of them asleep until it is late. Prints the shift's page. Everything that the core delivers is compared
+ * with a log of the whole shift, which a box doesn't have. */
 #include <inttypes.h>
 #include <stdio.h>
 #include <string.h>
@@ -201,6 +201,8 @@ static enum execution execution_at(uint64_t time) {
     return time % (6 * MINUTE) < 5 * MINUTE ? ACTIVE : READY;
 }
 
+/* what the controller reports: the newest alarm while one stands, and Normal 0 once all are reset. So the warning of
+ * the worn tool stands on beside the fault, since nothing has cleared it. */
 static uint64_t system_at(uint64_t time) {
     if (time >= stuck && time < changed)
         return mtcore_condition(MTCORE_FAULT, 504);
@@ -524,7 +526,42 @@ static uint64_t newest_logged(uint64_t item, uint64_t at) {
     return s;
 }
 
-/* the middle of what the ring still holds of the lap before its newest */
+static const uint64_t looked = 3 * (uint64_t)HOUR + 36 * MINUTE;
+
+/* what stood on the controller at that time */
+static struct {
+    mtcore_row rows[MTCORE_MAX_ACTIVE];
+    size_t count;
+} alarms;
+
+/* of a condition item every code that is active has a row: they are looked for, since row i need not be item i's */
+static void look_at_alarms(uint64_t time) {
+    if (time != looked || !agreed(ask("/current").number == 0))
+        return;
+    for (uint64_t i = mtcore_reply_find(reply, SYSTEM, 0); i < mtcore_reply_count(reply);
+         i = mtcore_reply_find(reply, SYSTEM, i + 1)) {
+        mtcore_row row = mtcore_reply_row(reply, i);
+        if (agreed(mtcore_packed_ok(ITEMS, row.packed) && is_logged(row) && alarms.count < COUNT(alarms.rows)))
+            alarms.rows[alarms.count++] = row;
+    }
+}
+
+static void print_alarms(void) {
+    uint64_t cleared = newest_logged(SYSTEM, last);
+    printf("\nTWO ALARMS ON ONE ITEM\n\n");
+    printf("%s  /current has %u rows of SYSTEM:", clock_of(looked), (unsigned)alarms.count);
+    for (size_t i = 0; i < alarms.count; i++) {
+        printf("%s ", i > 0 ? "," : "");
+        print_value(alarms.rows[i].packed);
+        printf(" since %s", clock_of(alarms.rows[i].time - six));
+    }
+    printf("\n%s  number %" PRIu64 ", ", clock_of(shift_log[cleared].time - six), cleared);
+    print_value(((uint64_t)SYSTEM << MTCORE_ITEM_BIT) + shift_log[cleared].value);
+    printf(", clears both\n");
+    agreed(alarms.count == 2);
+}
+
+/* the middle of what the ring still holds of the lap before its newest; no alarm stood then, and each item has a row */
 static void print_state(void) {
     char text[MTCORE_MAX_TEXT + 1];
     uint64_t lap = last - (last - 1) % N, first, at;
@@ -562,11 +599,13 @@ int main(void) {
     for (uint64_t time = 0; time <= end_of_shift; time += STEP) {
         change_tool(time);
         step(time);
+        look_at_alarms(time);
         poll_due(time);
     }
     print_summary();
     print_clients();
     print_sleeper(&clients[LAPTOP]);
+    print_alarms();
     print_change();
     print_state();
     printf("\nAgreed with the log of the whole shift: %s\n", yes(faults_found == 0));
