@@ -1,8 +1,9 @@
-//! docs/HOST.md and the crate say the same: its tables of categories, of requests, of refusals and of what is
-//! late and early, and its version.
+//! docs/HOST.md and the crate say the same: its tables of sizes, of categories, of conditions, of requests, of
+//! refusals and of what is late and early, and its version.
 
 use mtcore::{
-    Agent, AssetRow, Category, Component, Level, Model, ModelBuilder, Refusal, Reply, Row, Sizes, Value,
+    Agent, AssetRow, Category, Component, Level, Model, ModelBuilder, Observed, Refusal, Reply, Row, Sizes,
+    Value,
 };
 
 const PAGE: &str = include_str!("../../../docs/HOST.md");
@@ -58,15 +59,18 @@ fn work(mill: &mut Mill) -> Result<(), Refusal> {
     mill.observe(1, 1008, 1008, Value::Sample(-1)).map(|_| ())
 }
 
-fn observation(mill: &Mill, row: Row) -> String {
-    let (item, value) = mill.model().checked(row).unwrap();
-    let value = match value {
+fn said(value: Value) -> String {
+    match value {
         Value::Unavailable => "Unavailable".to_string(),
         Value::Sample(thousandths) => thousandths.to_string(),
         Value::Event(code) => code.to_string(),
         Value::Condition(level, code) => format!("{level:?} {code}"),
-    };
-    format!("{} i{item} {value}", row.number)
+    }
+}
+
+fn observation(mill: &Mill, row: Row) -> String {
+    let (item, value) = mill.model().checked(row).unwrap();
+    format!("{} i{item} {}", row.number, said(value))
 }
 
 fn asset(mill: &Mill, row: AssetRow) -> String {
@@ -147,6 +151,65 @@ fn one_item(category: Category) -> Mill {
         (vec![0; mtcore::observation_words(PLACES, 1)], vec![0; mtcore::asset_bytes(CELLS)]);
     let sizes = Sizes { places: PLACES as u64, cells: CELLS as u64, origin: 1 };
     Agent::start(Model::new(words, names).unwrap(), observations, assets, sizes, 1000).unwrap()
+}
+
+/// The condition that is said so.
+#[track_caller]
+fn condition(text: &str) -> Value {
+    let levels = [Level::Normal, Level::Warning, Level::Fault];
+    let codes = text.split(' ').filter_map(|word| word.parse().ok());
+    let conditions = codes.flat_map(|code| levels.map(|level| Value::Condition(level, code)));
+    let found = conditions.chain([Value::Unavailable]).find(|&value| said(value) == text);
+    found.unwrap_or_else(|| panic!("the page has a condition {text}"))
+}
+
+#[test]
+fn conditions_are_as_the_page_says() {
+    let mut mill = one_item(Category::Condition);
+    let rows = table("| observed | answer |");
+    assert_eq!(rows[0][..2], ["", ""], "the first line is right behind start");
+    for (place, row) in rows.into_iter().enumerate() {
+        if place > 0 {
+            let answer = match mill.observe(0, 0, 1001, condition(row[0])) {
+                Ok(Observed::Recorded(number)) => number.to_string(),
+                Ok(Observed::Same) => "Same".to_string(),
+                Err(refusal) => format!("refused: {}", refusal.number()),
+            };
+            assert_eq!(answer, row[1], "{row:?}");
+        }
+        let shown = asked(&mill, "/current")[3].replace(" i0 ", " ");
+        assert_eq!(shown, row[2], "{row:?}");
+    }
+}
+
+/// A number of the page, written with commas.
+fn figure(text: &str) -> usize {
+    text.replace(',', "").parse().unwrap_or_else(|_| panic!("the page has a figure {text}"))
+}
+
+#[test]
+fn sizes_are_as_the_page_says() {
+    let rows = table("| box | N | items |");
+    assert_eq!(rows.len(), 3);
+    for row in rows {
+        let words = mtcore::observation_words(figure(row[1]), figure(row[2]));
+        let (said_words, said_bytes) = row[3].split_once(" words, ").unwrap();
+        assert_eq!(figure(said_words), words, "{row:?}");
+        assert_eq!(figure(said_bytes.trim_end_matches(" bytes")), 8 * words, "{row:?}");
+    }
+    let largest: Vec<usize> = table("| buffer | size |")
+        .into_iter()
+        .filter(|row| row[0].starts_with("observation store") || row[0].starts_with("reply"))
+        .map(|row| figure(row[2].trim_end_matches(" bytes")))
+        .collect();
+    let (places, items) = (mtcore::MAX_PLACES, mtcore::MAX_ITEMS);
+    let words = [
+        mtcore::observation_words(places, items),
+        mtcore::sample_words(places, Some(places)),
+        mtcore::current_words(items),
+        mtcore::assets_words(mtcore::MAX_CELLS),
+    ];
+    assert_eq!(largest, words.map(|words| 8 * words));
 }
 
 const KINDS: [(&str, Value); 3] = [
