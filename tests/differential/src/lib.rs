@@ -42,7 +42,7 @@ impl fmt::Display for Difference {
 }
 
 /// Answers by refusal number, 0 for accepted ones.
-pub type ByRefusal = [u64; 19];
+pub type ByRefusal = [u64; 20];
 
 /// What was met, so that a test can tell that its lists reach every case.
 #[derive(Clone, Default, Debug)]

@@ -2,13 +2,13 @@
 
 use crate::call::{Answer, Call, Start};
 use crate::pair::{same, Pair};
+use reference::model::Model;
 use reference::value::Value;
-use reference::{Core, FaultSet, Machine};
+use reference::{Clean, Core, FaultSet, Machine};
 
 pub struct Session<'c, C: Core, F: FaultSet> {
     pub pair: Pair<'c, C>,
     pub machine: Machine<F>,
-    items: usize,
     scratch: Vec<u64>,
 }
 
@@ -26,13 +26,9 @@ impl<'c, C: Core, F: FaultSet> Session<'c, C, F> {
         let Ok(machine) = machine else {
             return Ok(Err(expected));
         };
-        let session = Session { pair, machine, items: model[1] as usize, scratch: Vec::new() };
+        let session = Session { pair, machine, scratch: Vec::new() };
         session.compare_contents()?;
         Ok(Ok(session))
-    }
-
-    pub fn items(&self) -> usize {
-        self.items
     }
 
     /// Runs a call on all three and compares.
@@ -84,7 +80,9 @@ impl<'c, C: Core, F: FaultSet> Session<'c, C, F> {
 
     /// The stores hold exactly what the machine's record says, word for word.
     pub fn compare_contents(&self) -> Result<(), String> {
-        let words = self.machine.observation_store(self.items);
+        let (words, names) = (&self.pair.expected_model, &self.pair.expected_names);
+        let model = Model::check(words, names, Clean).ok_or("the start's model is no longer there")?;
+        let words = self.machine.observation_store(&model);
         same("observation store word by the record", &self.pair.expected_observations, &words)?;
         same("asset store byte by the record", &self.pair.expected_assets, &self.machine.asset_store())
     }

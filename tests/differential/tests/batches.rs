@@ -108,7 +108,8 @@ fn refused_records_amid_others() {
         Record { item: 0, time: 7, value: (1 << 40) + (1 << 32) },
         record(2, 7, Value::Unavailable),
     ];
-    let expected = [ITEM, 5, ITEM, KIND, 6, KIND, ITEM, KIND, KIND, 7, KIND, KIND, KIND, 8];
+    // Normal of a code that doesn't stand is Same.
+    let expected = [ITEM, 5, ITEM, KIND, 6, KIND, ITEM, KIND, 0, 7, KIND, KIND, KIND, 8];
     assert_eq!(words(&mut session, &records, 9), expected);
     // None of them good, and accepted.
     assert_eq!(words(&mut session, &[records[0], records[3]], 9), [ITEM, KIND]);

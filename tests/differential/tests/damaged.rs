@@ -19,12 +19,26 @@ const NO_ASSET_ITEM: [u32; 6] = [1, 3, 0, 65_536 + 1, 2, 3];
 /// Item 0 a discrete event, item 1 a sample, item 2 an event.
 const DISCRETE: [u32; 6] = [1, 3, 0, 4 * 65_536 + 1, 2, 65_536 + 3];
 
-/// Places of the store's words, with N = 4 and m = 3.
+/// Places of the store's words, with N = 4 and m = 3. A table has three columns: numbers, times, packed
+/// values, each with eight words for an item.
 const N: usize = 4;
 const M: usize = 3;
 const RING_PACKED: usize = 4 + N;
 const LATEST: usize = 4 + 2 * N;
-const CHECKPOINT: usize = LATEST + 3 * M;
+const COLUMN: usize = 8 * M;
+const CHECKPOINT: usize = LATEST + 3 * COLUMN;
+
+/// The places of an item's first entry in a table.
+fn entry(table: usize, item: usize) -> [usize; 3] {
+    [0, 1, 2].map(|column| table + column * COLUMN + 8 * item)
+}
+
+/// Writes an item's first entry.
+fn put_entry(start: &mut Start, table: usize, item: usize, words: [u64; 3]) {
+    for (at, word) in entry(table, item).into_iter().zip(words) {
+        start.observations[at] = word;
+    }
+}
 
 /// Places of the store's bytes, with A = 2.
 const ID: usize = 2;
@@ -319,8 +333,8 @@ fn a_delivery_turns_the_ring() {
     let records: Vec<Record> = (10..20).map(|value| record(1, value, Value::Sample(value as i32))).collect();
     let (pair, answers, left) = damaged.batch(&records, 10);
     assert_eq!((pair, answers), ((0, 10), (7..17).collect()));
-    assert_eq!(left[CHECKPOINT + 1], 12);
-    assert_eq!(left[LATEST + 1], 16);
+    assert_eq!(left[entry(CHECKPOINT, 1)[0]], 12);
+    assert_eq!(left[entry(LATEST, 1)[0]], 16);
 }
 
 /// The last number is given out amid the delivery; a bad entry behind it is no longer met.
@@ -398,18 +412,14 @@ fn odd_words_are_delivered() {
 /// Latest words are copied untested, and Same compares them whole.
 #[test]
 fn latest_words_stand() {
-    let damaged = Damaged::new(|start| {
-        start.observations[LATEST] = 0;
-        start.observations[LATEST + M] = 77;
-        start.observations[LATEST + 2 * M] = u64::MAX;
-    });
+    let damaged = Damaged::new(|start| put_entry(start, LATEST, 0, [0, 77, u64::MAX]));
     let reply = damaged.ask("/current?path=//Device//DataItem[@type=\"EXECUTION\"]").unwrap();
     assert_eq!(reply[..7], [1, 3, 6, 7, 0, 77, u64::MAX]);
     let event = Value::Event(9);
-    let damaged = Damaged::new(|start| start.observations[LATEST + 2 * M] = event.packed(0, Clean));
+    let damaged = Damaged::new(|start| start.observations[entry(LATEST, 0)[2]] = event.packed(0, Clean));
     assert_eq!(damaged.observe(0, event), 0);
     // The right value under another item's number is not the same word.
-    let damaged = Damaged::new(|start| start.observations[LATEST + 2 * M] = event.packed(1, Clean));
+    let damaged = Damaged::new(|start| start.observations[entry(LATEST, 0)[2]] = event.packed(1, Clean));
     assert_eq!(damaged.observe(0, event), 7);
 }
 
@@ -422,10 +432,7 @@ fn a_discrete_items_latest_entry_is_not_read() {
     for word in [same(0), same(2), 0, 2 << 40, 1 << 40, 3 << 40, 0xdead_beef, u64::MAX] {
         for number in [0, 1, 7, u64::MAX] {
             let damaged = Damaged::of(&DISCRETE, |start| {
-                for item in [0, 2] {
-                    let entry = [number, number, word];
-                    (0..3).for_each(|part| start.observations[LATEST + part * M + item] = entry[part]);
-                }
+                [0, 2].into_iter().for_each(|item| put_entry(start, LATEST, item, [number, number, word]));
             });
             assert_eq!(damaged.observe(0, event), 7, "{word:#x}");
             assert_eq!(damaged.observe(0, Value::Unavailable), 7, "{word:#x}");
@@ -434,8 +441,7 @@ fn a_discrete_items_latest_entry_is_not_read() {
             assert_eq!(damaged.observe(2, Value::Unavailable), if same_none { 0 } else { 7 }, "{word:#x}");
             let (_, answers, left) = damaged.batch(&[record(0, 7, event), record(0, 8, event)], 2);
             assert_eq!(answers, [7, 8], "{word:#x}");
-            let entry = [LATEST, LATEST + M, LATEST + 2 * M].map(|at| left[at]);
-            assert_eq!(entry, [8, 8, same(0)]);
+            assert_eq!(entry(LATEST, 0).map(|at| left[at]), [8, 8, same(0)]);
         }
     }
 }
@@ -479,16 +485,12 @@ fn refusals_of_a_discrete_item_in_their_order() {
 #[test]
 fn checkpoints_stand() {
     let execution = "/current?at=3&path=//Device//DataItem[@type=\"EXECUTION\"]";
-    let damaged = Damaged::new(|start| {
-        start.observations[CHECKPOINT] = 1_000_000;
-        start.observations[CHECKPOINT + M] = 77;
-        start.observations[CHECKPOINT + 2 * M] = u64::MAX;
-    });
+    let damaged = Damaged::new(|start| put_entry(start, CHECKPOINT, 0, [1_000_000, 77, u64::MAX]));
     assert_eq!(damaged.ask(execution).unwrap()[..7], [1, 3, 6, 7, 1_000_000, 77, u64::MAX]);
     let damaged = Damaged::new(|start| start.observations[CHECKPOINT] = 0);
     assert_eq!(damaged.ask(execution).unwrap()[..4], [0, 3, 6, 7]);
     // An entry of the ring wins.
-    let damaged = Damaged::new(|start| start.observations[CHECKPOINT + 1] = 1_000_000);
+    let damaged = Damaged::new(|start| start.observations[entry(CHECKPOINT, 1)[0]] = 1_000_000);
     let position = "/current?at=4&path=//Device//DataItem[@type=\"POSITION\"]";
     assert_eq!(damaged.ask(position).unwrap()[..5], [1, 3, 6, 7, 4]);
 }

@@ -21,6 +21,7 @@ pub enum Refusal {
     Batch = 16,
     Late = 17,
     Early = 18,
+    Crowded = 19,
 }
 
 impl Refusal {

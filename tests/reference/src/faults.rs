@@ -90,8 +90,8 @@ faults! {
     NegativeSampleAsMagnitude in Both,
     /// Observe may make an asset-change item unavailable.
     AssetItemTakesUnavailable in Both,
-    /// Normal may carry a native code.
-    NormalWithCode in Both,
+    /// Normal may not carry a native code, as it was while one condition stood on an item.
+    NormalCodeRefused in Both,
     /// A discrete item takes samples.
     DiscreteTakesSamples in Both,
     /// A discrete item cannot be made unavailable.

@@ -7,6 +7,8 @@ pub const NAME: usize = 24;
 const MOST_NAMES: usize = 256;
 const MOST_PARTS: u32 = 64;
 
+/// Category of conditions, of which several may stand on an item.
+pub const CONDITION: u32 = 2;
 /// Category of the item that store-asset writes its events for.
 pub const ASSET_CHANGE: u32 = 3;
 /// Category of events that count even when equal.
@@ -67,6 +69,10 @@ impl<'a> Model<'a> {
 
     pub fn category(&self, item: usize) -> u32 {
         category(self.items[item])
+    }
+
+    pub fn is_condition(&self, item: usize) -> bool {
+        self.category(item) == CONDITION
     }
 
     /// The component an item stands at.

@@ -1,7 +1,7 @@
 //! Values of observations and their packed words.
 
 use crate::faults::{Fault, FaultSet};
-use crate::model::{ASSET_CHANGE, DISCRETE};
+use crate::model::{ASSET_CHANGE, CONDITION, DISCRETE};
 
 /// The level of a condition.
 #[derive(Clone, Copy, PartialEq, Eq, Debug)]
@@ -67,10 +67,10 @@ impl Value {
             (0, Value::Sample(_)) => true,
             (DISCRETE, Value::Sample(_)) => faults.has(Fault::DiscreteTakesSamples),
             (1 | DISCRETE, Value::Event(_)) => true,
-            (2, Value::Condition(Level::Normal, code)) => {
-                code == 0 || (faults.has(Fault::NormalWithCode) && code < CODES)
+            (CONDITION, Value::Condition(Level::Normal, 1..)) if faults.has(Fault::NormalCodeRefused) => {
+                false
             }
-            (2, Value::Condition(_, code)) => code < CODES,
+            (CONDITION, Value::Condition(_, code)) => code < CODES,
             _ => false,
         }
     }

@@ -3,23 +3,27 @@
 
 use super::Machine;
 use crate::faults::FaultSet;
+use crate::model::Model;
 
 impl<F: FaultSet> Machine<F> {
     /// What the observation store has to hold now, word for word, worked out from the record.
-    pub fn observation_store(&self, m: usize) -> Vec<u64> {
-        let n = self.n as usize;
-        let mut words = vec![0; 4 + 2 * n + 6 * m];
+    pub fn observation_store(&self, model: &Model) -> Vec<u64> {
+        let (n, m) = (self.n as usize, model.items());
+        let mut words = vec![0; 4 + 2 * n + 48 * m];
         words[..4].copy_from_slice(&[self.n, m as u64, self.b, self.last()]);
         for row in &self.history {
             let place = ((row.number - self.b) % self.n) as usize;
             words[4 + place] = row.time;
             words[4 + n + place] = row.value.packed(row.item as u64, self.faults);
-            let left = row.number < self.first();
-            let tables = [Some(4 + 2 * n), left.then_some(4 + 2 * n + 3 * m)];
-            for base in tables.into_iter().flatten() {
-                words[base + row.item] = row.number;
-                words[base + m + row.item] = row.time;
-                words[base + 2 * m + row.item] = row.value.packed(row.item as u64, self.faults);
+        }
+        for item in 0..m {
+            for (base, at) in [(4 + 2 * n, self.last()), (4 + 2 * n + 24 * m, self.first() - 1)] {
+                for (entry, row) in self.rows_of(model, item, at).into_iter().enumerate() {
+                    let place = base + 8 * item + entry;
+                    words[place] = row.number;
+                    words[place + 8 * m] = row.time;
+                    words[place + 16 * m] = row.value.packed(row.item as u64, self.faults);
+                }
             }
         }
         words

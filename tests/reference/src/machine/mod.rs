@@ -5,12 +5,13 @@
 //! names and each call's arguments, and of the stores only their lengths at start.
 
 mod batch;
+mod conditions;
 mod contents;
 mod requests;
 
 use crate::answer::{Observed, Refusal, Stored};
 use crate::faults::{Clean, Fault, FaultSet};
-use crate::model::Model;
+use crate::model::{Model, CONDITION};
 use crate::value::Value;
 use crate::{LARGEST, MOST_CELLS, MOST_PLACES};
 
@@ -64,7 +65,7 @@ impl<F: FaultSet> Machine<F> {
         if !sized || !numbered {
             return Err(Refusal::Size);
         }
-        if observations_len as u64 != 4 + 2 * n + 6 * m || assets_len as u64 != 2 + 544 * a {
+        if observations_len as u64 != 4 + 2 * n + 48 * m || assets_len as u64 != 2 + 544 * a {
             return Err(Refusal::Size);
         }
         let unavailable = |item: usize| Observation {
@@ -151,6 +152,9 @@ impl<F: FaultSet> Machine<F> {
         if self.is_same(category, item, value) {
             return Ok(None);
         }
+        if category == CONDITION && self.is_crowded(item, value) {
+            return Err(Refusal::Crowded);
+        }
         self.not_spent()?;
         let time = if time == 0 && !self.faults.has(Fault::MissingTimeKept) { host } else { time };
         Ok(Some(self.record(item, time, value)))
@@ -160,6 +164,10 @@ impl<F: FaultSet> Machine<F> {
     fn is_same(&self, category: u32, item: usize, value: Value) -> bool {
         let overlooked = self.faults.has(Fault::DiscreteSameSpent) && self.not_spent().is_err();
         let discrete = value.counts_when_equal(category, self.faults) && !overlooked;
+        if category == CONDITION && value.allowed(category, self.faults) {
+            let held = self.faults.has(Fault::SameAfterAnyEqual) && self.is_newest(item, value);
+            return held || (self.is_same_condition(item, value) && !self.faults.has(Fault::NeverSame));
+        }
         self.is_newest(item, value) && !discrete
     }
 

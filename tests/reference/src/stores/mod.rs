@@ -4,6 +4,7 @@
 
 mod assets;
 mod batch;
+mod conditions;
 mod observations;
 mod request;
 
@@ -15,7 +16,8 @@ use crate::model::Model;
 use crate::value::{item_of, Value, EVENT_KIND};
 use crate::{LARGEST, MOST_CELLS, MOST_PLACES};
 use assets::Cells;
-use observations::{Head, Row};
+use conditions::Standing;
+use observations::{Head, Newest, Row, Table};
 use request::View;
 
 /// The calls over stores, with their planted faults.
@@ -26,7 +28,7 @@ pub struct Stores<F: FaultSet = Clean> {
 
 /// Words of an observation store.
 pub fn observation_words(n: usize, m: usize) -> usize {
-    observations::HEAD + 2 * n + 6 * m
+    observations::HEAD + 2 * n + 6 * conditions::ENTRIES * m
 }
 
 /// Bytes of an asset store.
@@ -74,7 +76,7 @@ impl<F: FaultSet> Stores<F> {
         if observations.len() != observation_words(n as usize, m) || assets.len() != asset_bytes(a as usize) {
             return Err(Refusal::Size);
         }
-        observations::start(observations, n as usize, m, b, host, self.faults);
+        observations::start(observations, &model, n as usize, b, host, self.faults);
         assets::start(assets, a as u8, self.faults);
         Ok(0)
     }
@@ -117,15 +119,14 @@ impl<F: FaultSet> Stores<F> {
         host: u64,
         value: Value,
     ) -> Result<Option<u64>, Refusal> {
-        let head = Head::check(words, model.items(), self.faults).ok_or(Refusal::Store)?;
+        let head = Head::check(words, model, self.faults).ok_or(Refusal::Store)?;
         if item >= model.items() as u64 {
             return Err(Refusal::Item);
         }
         let item = item as usize;
         // A discrete item is asked for no Same, and its latest word is not read.
-        let discrete = self.is_discrete(model, &head, item, value);
-        let same_first = !discrete && self.faults.has(Fault::SameBeforeKind) && value != Value::NONE;
-        if same_first && head.is_latest(words, item, value.packed(item as u64, self.faults), self.faults) {
+        let discrete = self.is_discrete(&head, model, item, value);
+        if !discrete && self.same_before_kind(&head, words, item, value) {
             return Ok(None);
         }
         if !value.allowed(model.category(item), self.faults) {
@@ -137,6 +138,9 @@ impl<F: FaultSet> Stores<F> {
         let missing = time == 0 && !self.faults.has(Fault::MissingTimeKept);
         let time = if missing { host } else { time };
         let packed = value.packed(item as u64, self.faults);
+        if head.is_condition(item) {
+            return self.offer_condition(&head, words, stale, item, time, packed);
+        }
         if !discrete && head.is_latest(stale.unwrap_or(words), item, packed, self.faults) {
             if self.faults.has(Fault::SameRenewsTime) {
                 head.set_latest(words, item, Row { time, ..head.latest(words, item) });
@@ -146,8 +150,58 @@ impl<F: FaultSet> Stores<F> {
         self.add(&head, words, item, time, packed, discrete).map(Some)
     }
 
+    /// The same for a condition item: the entries' form, Same, and room among them.
+    fn offer_condition(
+        &self,
+        head: &Head,
+        words: &mut [u64],
+        stale: Option<&[u64]>,
+        item: usize,
+        time: u64,
+        packed: u64,
+    ) -> Result<Option<u64>, Refusal> {
+        let mut latest = head.standing(words, Table::Latest, item)?;
+        if self.is_same_condition(head, words, stale, item, packed, &latest) {
+            if self.faults.has(Fault::SameRenewsTime) {
+                latest.renew(packed, time);
+                head.set_standing(words, Table::Latest, item, &latest);
+            }
+            return Ok(None);
+        }
+        if latest.has_no_room(packed) {
+            return Err(Refusal::Crowded);
+        }
+        let room = head.room(words, item, self.faults)?;
+        let newest = Newest { item, time, packed, standing: Some(latest) };
+        Ok(Some(head.record(words, room, newest, self.faults)))
+    }
+
+    fn is_same_condition(
+        &self,
+        head: &Head,
+        words: &[u64],
+        stale: Option<&[u64]>,
+        item: usize,
+        packed: u64,
+        latest: &Standing,
+    ) -> bool {
+        if self.faults.has(Fault::NeverSame) {
+            return false;
+        }
+        let stale = stale.and_then(|words| head.standing(words, Table::Latest, item).ok());
+        stale.as_ref().unwrap_or(latest).is_same(packed) || head.is_held(words, packed, self.faults)
+    }
+
+    /// Whether a planted fault says Same ahead of the kind.
+    fn same_before_kind(&self, head: &Head, words: &[u64], item: usize, value: Value) -> bool {
+        if value == Value::NONE || !self.faults.has(Fault::SameBeforeKind) {
+            return false;
+        }
+        head.is_latest(words, item, value.packed(item as u64, self.faults), self.faults)
+    }
+
     /// Whether the value counts even when equal.
-    fn is_discrete(&self, model: &Model, head: &Head, item: usize, value: Value) -> bool {
+    fn is_discrete(&self, head: &Head, model: &Model, item: usize, value: Value) -> bool {
         let overlooked = self.faults.has(Fault::DiscreteSameSpent) && head.not_spent(self.faults).is_err();
         value.counts_when_equal(model.category(item), self.faults) && !overlooked
     }
@@ -167,8 +221,9 @@ impl<F: FaultSet> Stores<F> {
         if odd && self.faults.has(Fault::DiscreteLatestTested) {
             return Err(Refusal::Store);
         }
-        head.can_record(words, self.faults)?;
-        let number = head.record(words, item, time, packed, self.faults);
+        let room = head.room(words, item, self.faults)?;
+        let newest = Newest { item, time, packed, standing: None };
+        let number = head.record(words, room, newest, self.faults);
         if latest.packed == packed && self.faults.has(Fault::RepeatLeavesLatest) {
             head.set_latest(words, item, latest);
         }
@@ -199,29 +254,28 @@ impl<F: FaultSet> Stores<F> {
         host: u64,
     ) -> Result<u64, Refusal> {
         let model = self.model(model, names)?;
-        let head = Head::check(words, model.items(), self.faults).ok_or(Refusal::Store)?;
+        let head = Head::check(words, &model, self.faults).ok_or(Refusal::Store)?;
         let cells = Cells::check(bytes, self.faults).ok_or(Refusal::Store)?;
         let longest = if self.faults.has(Fault::LongestBodyRefused) { 509 } else { assets::LONGEST };
         if !assets::id_valid(id, self.faults) || !(1..=longest).contains(&body.len()) {
             return Err(Refusal::Asset);
         }
         let event_for = model.asset_item(self.faults);
-        if event_for.is_some() {
-            let free = head.can_record(words, self.faults);
-            if free.is_err() && self.faults.has(Fault::StoredThoughSpent) {
-                cells.store(bytes, id, body, self.faults);
-            }
-            free?;
+        let room = event_for.map(|item| head.room(words, item, self.faults)).transpose();
+        if room.is_err() && self.faults.has(Fault::StoredThoughSpent) {
+            cells.store(bytes, id, body, self.faults);
         }
+        let room = room?;
         let before = cells.find(bytes, id, self.faults);
         let cell = cells.store(bytes, id, body, self.faults) as u64;
-        if let Some(item) = event_for {
+        if let Some((item, room)) = event_for.zip(room) {
             let moved_from = before.filter(|_| self.faults.has(Fault::EventCodeBeforeMove));
             let code = moved_from.map_or(cell, |at| at as u64);
             let packed = ((item as u64) << 40) + (EVENT_KIND << 32) + code;
             let equal = head.is_latest(words, item, packed, Clean);
             if !(equal && self.faults.has(Fault::EqualEventDropped)) {
-                head.record(words, item, host, packed, self.faults);
+                let newest = Newest { item, time: host, packed, standing: None };
+                head.record(words, room, newest, self.faults);
             }
         }
         Ok(cell)

@@ -1,7 +1,9 @@
 //! The observation store: head, ring, latest values and checkpoints in one array of words.
 
+use super::conditions::{Entries, Standing, ENTRIES};
 use crate::answer::Refusal;
 use crate::faults::{Fault, FaultSet};
+use crate::model::Model;
 use crate::value::item_of;
 use crate::{LARGEST, MOST_PLACES};
 use std::ops::Range;
@@ -17,24 +19,56 @@ pub struct Row {
     pub packed: u64,
 }
 
-/// The checked head of an observation store. It stands for the head as it was read: a later write
-/// of `last` is not seen.
+/// The two tables of entries: what items stand at, and what stood on them below the ring's oldest number.
+#[derive(Clone, Copy, PartialEq, Eq)]
+pub enum Table {
+    Latest,
+    Checkpoint,
+}
+
+/// Where a further observation goes, and what leaves the ring for it.
+pub struct Room {
+    place: usize,
+    leaves: Option<Leaving>,
+}
+
+/// An observation to be recorded.
+pub struct Newest {
+    pub item: usize,
+    pub time: u64,
+    pub packed: u64,
+    /// What stands on the item so far, where it is a condition item.
+    pub standing: Option<Standing>,
+}
+
+/// An entry on its way out of the ring.
+struct Leaving {
+    item: usize,
+    row: Row,
+    /// What then stands in a condition item's checkpoint.
+    standing: Option<Standing>,
+}
+
+/// The checked head of an observation store, with the model it was checked against. It stands for the
+/// head as it was read: a later write of `last` is not seen.
 #[derive(Clone, Copy)]
-pub struct Head {
+pub struct Head<'m> {
+    model: Model<'m>,
     n: usize,
     m: usize,
     b: u64,
     pub last: u64,
 }
 
-impl Head {
-    /// The head, if it and the store's length keep their rules for m items.
-    pub fn check<F: FaultSet>(words: &[u64], m: usize, faults: F) -> Option<Head> {
+impl<'m> Head<'m> {
+    /// The head, if it and the store's length keep their rules for the model's items.
+    pub fn check<F: FaultSet>(words: &[u64], model: &Model<'m>, faults: F) -> Option<Head<'m>> {
+        let m = model.items();
         let &[n, items, b, last] = words.first_chunk::<HEAD>()?;
         if !(1..=MOST_PLACES).contains(&n) || (items != m as u64 && !faults.has(Fault::ItemsUncompared)) {
             return None;
         }
-        let head = Head { n: n as usize, m, b, last };
+        let head = Head { model: *model, n: n as usize, m, b, last };
         let newest_of_start = if faults.has(Fault::HeadSumWraps) {
             u128::from(b.wrapping_add(m as u64 - 1))
         } else {
@@ -83,24 +117,43 @@ impl Head {
         HEAD + self.n + place
     }
 
-    /// Where an item's latest number, time and packed value stand.
-    fn latest_at(&self, item: usize) -> [usize; 3] {
-        let base = HEAD + 2 * self.n + item;
-        [base, base + self.m, base + 2 * self.m]
+    /// Where number, time and packed value of an item's first entry stand. The other seven follow each.
+    fn entry_at(&self, table: Table, item: usize) -> [usize; 3] {
+        let column = ENTRIES * self.m;
+        let columns = if table == Table::Latest { 0 } else { 3 };
+        let base = HEAD + 2 * self.n + columns * column + ENTRIES * item;
+        [base, base + column, base + 2 * column]
     }
 
-    /// The same for its checkpoint: its newest observation that has left the ring.
-    fn checkpoint_at(&self, item: usize) -> [usize; 3] {
-        self.latest_at(item).map(|at| at + 3 * self.m)
+    /// All the entries of an item.
+    pub fn entries_of<'a>(&self, words: &'a [u64], table: Table, item: usize) -> Entries<'a> {
+        let [numbers, times, packed] = self
+            .entry_at(table, item)
+            .map(|at| words[at..].first_chunk::<ENTRIES>().expect("the store's length was checked"));
+        Entries { numbers, times, packed }
     }
 
+    /// What stands on a condition item, if its entries keep their written form.
+    pub fn standing(&self, words: &[u64], table: Table, item: usize) -> Result<Standing, Refusal> {
+        let standing = Standing::of(self.entries_of(words, table, item), item).ok_or(Refusal::Store)?;
+        if table == Table::Latest && standing.is_empty() {
+            return Err(Refusal::Store);
+        }
+        Ok(standing)
+    }
+
+    pub fn is_condition(&self, item: usize) -> bool {
+        self.model.is_condition(item)
+    }
+
+    /// The first latest entry.
     pub fn latest(&self, words: &[u64], item: usize) -> Row {
-        read(words, self.latest_at(item))
+        read(words, self.entry_at(Table::Latest, item))
     }
 
-    /// The checkpoint, unless nothing of the item has left the ring.
+    /// The first entry of the checkpoint, unless nothing of the item has left the ring.
     pub fn checkpoint(&self, words: &[u64], item: usize) -> Option<Row> {
-        Some(read(words, self.checkpoint_at(item))).filter(|row| row.number != 0)
+        Some(read(words, self.entry_at(Table::Checkpoint, item))).filter(|row| row.number != 0)
     }
 
     pub fn item_valid<F: FaultSet>(&self, packed: u64, faults: F) -> bool {
@@ -108,24 +161,34 @@ impl Head {
         item < self.m as u64
     }
 
-    /// Whether the packed value is what the item stands at.
+    /// Whether the packed value is what the item stands at, of categories other than conditions.
     pub fn is_latest<F: FaultSet>(&self, words: &[u64], item: usize, packed: u64, faults: F) -> bool {
         if faults.has(Fault::NeverSame) {
             return false;
         }
-        let latest = words[self.latest_at(item)[2]];
+        let latest = self.latest(words, item).packed;
         if faults.has(Fault::SameWithoutKind) {
             return latest as u32 == packed as u32;
         }
-        if faults.has(Fault::SameAfterAnyEqual) {
-            let held = self.first(faults)..self.last + 1;
-            return latest == packed || self.entries(words, held, faults).any(|row| row.packed == packed);
-        }
-        latest == packed
+        latest == packed || self.is_held(words, packed, faults)
+    }
+
+    /// Whether a planted fault takes an equal value that is still held for Same.
+    pub fn is_held<F: FaultSet>(&self, words: &[u64], packed: u64, faults: F) -> bool {
+        let held = self.first(faults)..self.last + 1;
+        faults.has(Fault::SameAfterAnyEqual)
+            && self.entries(words, held, faults).any(|row| row.packed == packed)
     }
 
     pub fn set_latest(&self, words: &mut [u64], item: usize, row: Row) {
-        write(words, self.latest_at(item), row);
+        write(words, self.entry_at(Table::Latest, item), row);
+    }
+
+    pub fn set_standing(&self, words: &mut [u64], table: Table, item: usize, standing: &Standing) {
+        let Entries { numbers, times, packed } = standing.entries();
+        for (at, column) in self.entry_at(table, item).into_iter().zip([numbers, times, packed]) {
+            words[at..at + ENTRIES].copy_from_slice(column);
+        }
     }
 
     pub fn not_spent<F: FaultSet>(&self, faults: F) -> Result<(), Refusal> {
@@ -142,16 +205,54 @@ impl Head {
         (recorded >= self.n()).then(|| self.last + 1 - self.n().min(self.last + 1))
     }
 
-    /// A number is left, and the entry about to be overwritten is sound.
-    pub fn can_record<F: FaultSet>(&self, words: &[u64], faults: F) -> Result<(), Refusal> {
+    /// Room for an observation of the item: a number is left, and what leaves the ring is sound.
+    pub fn room<F: FaultSet>(&self, words: &[u64], item: usize, faults: F) -> Result<Room, Refusal> {
         self.not_spent(faults)?;
         let place = self.place(self.last + 1, faults);
-        let read = self.pushed_out().is_some() || faults.has(Fault::UnusedPlaceTested);
-        let sound = self.item_valid(words[self.ring_packed(place)], faults);
+        let pushed_out = self.pushed_out();
+        let packed = words[self.ring_packed(place)];
+        let read = pushed_out.is_some() || faults.has(Fault::UnusedPlaceTested);
+        let sound = self.item_valid(packed, faults);
         if read && !sound && !faults.has(Fault::OverwrittenUntested) {
             return Err(Refusal::Store);
         }
-        Ok(())
+        let Some(number) = pushed_out else {
+            return Ok(Room { place, leaves: None });
+        };
+        let row = Row { number, time: words[self.ring_time(place)], packed };
+        let leaves = self.leaving(words, row, item, faults)?;
+        Ok(Room { place, leaves })
+    }
+
+    /// What the entry that leaves the ring makes of its item's checkpoint.
+    fn leaving<F: FaultSet>(
+        &self,
+        words: &[u64],
+        mut row: Row,
+        new_item: usize,
+        faults: F,
+    ) -> Result<Option<Leaving>, Refusal> {
+        let own = item_of(row.packed) as usize;
+        let item = if faults.has(Fault::CheckpointOfNewItem) { new_item } else { own };
+        // The item is not there only where a fault let an unsound entry through.
+        if item >= self.m || faults.has(Fault::CheckpointNotUpdated) {
+            return Ok(None);
+        }
+        if faults.has(Fault::CheckpointWrittenOnce) && self.checkpoint(words, item).is_some() {
+            return Ok(None);
+        }
+        if faults.has(Fault::CheckpointWithNewNumber) {
+            row.number = self.last + 1;
+        }
+        if !self.is_condition(item) {
+            return Ok(Some(Leaving { item, row, standing: None }));
+        }
+        let mut standing = self.standing(words, Table::Checkpoint, item)?;
+        standing.step(row);
+        if standing.is_overfull() {
+            return Err(Refusal::Store);
+        }
+        Ok(Some(Leaving { item, row, standing: Some(standing) }))
     }
 
     /// Makes the entry about to be overwritten a sound one: a planted fault.
@@ -159,54 +260,31 @@ impl Head {
         words[self.ring_packed(self.place(self.last + 1, faults))] = 0;
     }
 
-    /// Records an observation under the next number. `can_record` has been asked.
-    pub fn record<F: FaultSet>(
-        &self,
-        words: &mut [u64],
-        item: usize,
-        mut time: u64,
-        packed: u64,
-        faults: F,
-    ) -> u64 {
-        let number = self.last + 1;
-        let place = self.place(number, faults);
-        if let Some(old) = self.pushed_out() {
-            let row = Row {
-                number: old,
-                time: words[self.ring_time(place)],
-                packed: words[self.ring_packed(place)],
-            };
-            self.keep(words, row, item, number, faults);
+    /// Records an observation under the next number, where there is room.
+    pub fn record<F: FaultSet>(&self, words: &mut [u64], room: Room, newest: Newest, faults: F) -> u64 {
+        match room.leaves {
+            Some(Leaving { item, standing: Some(standing), .. }) => {
+                self.set_standing(words, Table::Checkpoint, item, &standing);
+            }
+            Some(Leaving { item, row, .. }) => write(words, self.entry_at(Table::Checkpoint, item), row),
+            None => {}
         }
+        let Newest { item, mut time, packed, standing } = newest;
         if faults.has(Fault::TimesMadeToRise) {
-            time = time.max(words[self.latest_at(item)[1]]);
+            time = time.max(self.latest(words, item).time);
         }
-        words[self.ring_time(place)] = time;
-        words[self.ring_packed(place)] = packed;
-        self.set_latest(words, item, Row { number, time, packed });
-        words[3] = number;
-        number
-    }
-
-    /// The checkpoint of what leaves the ring.
-    fn keep<F: FaultSet>(&self, words: &mut [u64], mut row: Row, new_item: usize, number: u64, faults: F) {
-        if faults.has(Fault::CheckpointNotUpdated) {
-            return;
+        let row = Row { number: self.last + 1, time, packed };
+        words[self.ring_time(room.place)] = time;
+        words[self.ring_packed(room.place)] = packed;
+        match standing {
+            Some(mut standing) => {
+                standing.step(row);
+                self.set_standing(words, Table::Latest, item, &standing);
+            }
+            None => self.set_latest(words, item, row),
         }
-        let item =
-            if faults.has(Fault::CheckpointOfNewItem) { new_item } else { item_of(row.packed) as usize };
-        if item >= self.m {
-            // Only where a fault let an unsound entry through.
-            return;
-        }
-        let at = self.checkpoint_at(item);
-        if faults.has(Fault::CheckpointWrittenOnce) && words[at[0]] != 0 {
-            return;
-        }
-        if faults.has(Fault::CheckpointWithNewNumber) {
-            row.number = number;
-        }
-        write(words, at, row);
+        words[3] = row.number;
+        row.number
     }
 
     /// The ring's entries of the numbers, oldest first: the run up to the ring's end, then the
@@ -228,19 +306,38 @@ impl Head {
             .map(|((&time, &packed), number)| Row { number, time, packed })
     }
 
-    /// Each item's newest number among the held ones up to `at`, 0 where there is none.
-    pub fn newest_at<F: FaultSet>(&self, words: &[u64], at: u64, faults: F) -> Result<[u64; 64], Refusal> {
+    /// What the items stood at, from the held numbers up to `at`. Condition items are looked at where they
+    /// are selected.
+    pub fn state_at<F: FaultSet>(
+        &self,
+        words: &[u64],
+        at: u64,
+        selected: u64,
+        faults: F,
+    ) -> Result<State, Refusal> {
         let end = if faults.has(Fault::AtExclusive) { at } else { at + 1 };
-        let mut newest = [0; 64];
+        let mut state = State::NONE;
+        let conditions = (0..self.m).filter(|&item| selected >> item & 1 == 1 && self.is_condition(item));
+        for item in conditions {
+            state.conditions |= 1 << item;
+            state.standing.resize(item, Standing::NONE);
+            let standing = self.standing(words, Table::Checkpoint, item)?;
+            state.standing.push(if faults.has(Fault::AtFromRingOnly) { Standing::NONE } else { standing });
+        }
         let mut sound = true;
         self.entries(words, self.first(faults)..end, faults).for_each(|row| {
             sound &= self.item_valid(row.packed, faults);
-            newest[(item_of(row.packed) & 63) as usize] = row.number;
+            let item = (item_of(row.packed) & 63) as usize;
+            state.newest[item] = row.number;
+            if state.conditions >> item & 1 == 1 {
+                state.standing[item].step(row);
+            }
         });
-        if !sound && !faults.has(Fault::RingUntested) {
+        sound |= faults.has(Fault::RingUntested);
+        if !sound || state.standing.iter().any(Standing::is_overfull) {
             return Err(Refusal::Store);
         }
-        Ok(newest)
+        Ok(state)
     }
 
     /// The entry of a held number.
@@ -269,19 +366,36 @@ impl Head {
     }
 }
 
+/// What the items stood at, at a held number.
+pub struct State {
+    /// Each item's newest number in the ring up to then, 0 where there is none.
+    pub newest: [u64; 64],
+    /// The condition items among the selected ones, and by item what stood on each.
+    pub conditions: u64,
+    pub standing: Vec<Standing>,
+}
+
+impl State {
+    pub const NONE: State = State { newest: [0; 64], conditions: 0, standing: Vec::new() };
+}
+
 /// Writes a whole fresh store: one Unavailable for each item, numbered from b.
-pub fn start<F: FaultSet>(words: &mut [u64], n: usize, m: usize, b: u64, host: u64, faults: F) {
+pub fn start<F: FaultSet>(words: &mut [u64], model: &Model, n: usize, b: u64, host: u64, faults: F) {
+    let m = model.items();
     if !faults.has(Fault::StartKeepsOldWords) {
         words.fill(0);
     }
-    words[..3].copy_from_slice(&[n as u64, m as u64, b]);
+    let last = b + m as u64 - 1;
+    words[..HEAD].copy_from_slice(&[n as u64, m as u64, b, last]);
+    let head = Head { model: *model, n, m, b, last };
     for item in 0..m {
-        // Before the first of them last is b - 1, which no checked head has.
-        let head = Head { n, m, b, last: b + item as u64 - 1 };
-        let before = head.checkpoint_at(0)[0];
-        head.record(words, item, host, (item as u64) << 40, faults);
-        if faults.has(Fault::StartWithoutCheckpoint) {
-            words[before..].fill(0);
+        let row = Row { number: b + item as u64, time: host, packed: (item as u64) << 40 };
+        let place = head.place(row.number, faults);
+        words[head.ring_time(place)] = row.time;
+        words[head.ring_packed(place)] = row.packed;
+        head.set_latest(words, item, row);
+        if item + n < m && !faults.has(Fault::StartWithoutCheckpoint) {
+            write(words, head.entry_at(Table::Checkpoint, item), row);
         }
     }
 }
