@@ -1,9 +1,10 @@
 //! Random deliveries of many observations, and the rule that a delivery is its single observes.
 
 use crate::call::{Answer, Call, Start};
+use crate::offers::Offers;
 use crate::pair::same;
 use crate::rng::Rng;
-use crate::{damaged, lists, worlds, Counts, Difference};
+use crate::{damaged, worlds, Counts, Difference};
 use reference::model::Model;
 use reference::{Clean, Core, Record};
 
@@ -20,14 +21,14 @@ pub fn count(rng: &mut Rng) -> usize {
 }
 
 /// A record whose item or value is refused now and then.
-pub fn record(rng: &mut Rng, categories: &[u32]) -> Record {
-    let (item, value) = lists::offer(rng, categories);
+pub fn record(rng: &mut Rng, offers: &Offers) -> Record {
+    let (item, value) = offers.draw(rng);
     Record { item, time: worlds::time(rng), value }
 }
 
 /// A delivery of such records.
-pub fn draw(rng: &mut Rng, categories: &[u32]) -> Call {
-    let records = (0..count(rng)).map(|_| record(rng, categories)).collect();
+pub fn draw(rng: &mut Rng, offers: &Offers) -> Call {
+    let records = (0..count(rng)).map(|_| record(rng, offers)).collect();
     let host = worlds::time(rng);
     call(rng, records, host)
 }
@@ -63,14 +64,14 @@ pub fn run<C: Core>(core: &C, seed: u64, counts: &mut Counts) -> Result<(), Diff
     let answer = core.start(&start.model, &start.names, words, bytes, n, a, b, host);
     assert_eq!(answer, (0, 0), "{start:?}");
     let model = Model::check(&start.model, &start.names, Clean).expect("the start was accepted");
-    let categories: Vec<u32> = (0..model.items()).map(|item| model.category(item)).collect();
+    let offers = Offers::new(&mut rng, &model);
     for _ in 0..rng.between(4, 24) {
         let mut store = start.observations.clone();
         let damage = rng.percent(40);
         if damage {
             damaged::damage_observations(&mut rng, &mut store);
         }
-        let call = draw(&mut rng, &categories);
+        let call = draw(&mut rng, &offers);
         let before = store.clone();
         let place = || format!("{call:?} after {start:?}\n  observations {before:?}");
         let (answer, buffer) = beside_singles(core, &start, &mut store, &call)

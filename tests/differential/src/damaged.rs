@@ -2,6 +2,8 @@
 //! compared with the reference's store layer, and a refusal has to leave every byte alone.
 
 use crate::call::{Answer, Call, Start};
+use crate::entries::{self, Table};
+use crate::offers::Offers;
 use crate::pair::Pair;
 use crate::rng::Rng;
 use crate::texts::{self, Scene};
@@ -112,21 +114,24 @@ pub fn damage_observations(rng: &mut Rng, words: &mut Vec<u64>) {
     }
     let (n, m) = (words[0] as usize, words[1]);
     let room = words.len() - HEAD;
-    let sound = (1..=64).contains(&m) && (1..=room).contains(&n) && 2 * n + 6 * m as usize <= room;
+    let sound = (1..=64).contains(&m) && (1..=room).contains(&n) && 2 * n + Table::words(m as usize) <= room;
     if !sound {
         let at = rng.index(words.len());
         words[at] = rng.word();
         return;
     }
-    match rng.weighted(&[22, 40, 18, 18, 2]) {
+    match rng.weighted(&[20, 25, 10, 21, 22, 2]) {
         0 => damage_head(rng, words),
         1 => {
             let at = HEAD + n + rng.index(n);
-            words[at] = packed(rng, m);
+            words[at] = entries::packed(rng, m);
         }
-        // Latest, then checkpoint: number, time or packed value.
-        2 => damage_table(rng, words, HEAD + 2 * n, m),
-        3 => damage_table(rng, words, HEAD + 2 * n + 3 * m as usize, m),
+        2 => {
+            let at = HEAD + n + rng.index(n);
+            words[at] = entries::packed_there(rng, m);
+        }
+        3 => entries::damage(rng, words, Table::latest(n, m as usize)),
+        4 => entries::damage(rng, words, Table::checkpoint(n, m as usize)),
         _ => {
             let length = *rng.pick(&[0, 1, 2, 3, 4, words.len() - 1, words.len() + 1]);
             words.resize(length, 0);
@@ -181,30 +186,6 @@ fn damage_head(rng: &mut Rng, words: &mut [u64]) {
     words[word] = *rng.pick(choices[word]);
 }
 
-/// A packed value of an item that is there, or not; any kind and low bits.
-fn packed(rng: &mut Rng, m: u64) -> u64 {
-    let item =
-        *rng.pick(&[0, m - 1, m - 1, m, m, m + 1, 63, 64, 255, 256, 256 + m - 1, 1 << 16, (1 << 24) - 1]);
-    let rest = if rng.percent(50) { lists::value(rng, 0) } else { rng.word() };
-    (item << 40) | (rest & ((1 << 40) - 1))
-}
-
-fn damage_table(rng: &mut Rng, words: &mut [u64], base: usize, m: u64) {
-    let item = rng.below(m);
-    let at = base + item as usize;
-    let (numbers, times, values) = (at, at + m as usize, at + 2 * m as usize);
-    let (b, last) = (words[2], words[3]);
-    match rng.below(4) {
-        0 => words[numbers] = *rng.pick(&[0, 1, b, last, last.wrapping_add(1), u64::MAX]),
-        1 => words[times] = worlds::time(rng),
-        2 => words[values] = packed(rng, m),
-        _ => {
-            let category = *rng.pick(&[0, 1, 2, 4]);
-            words[values] = (item << 40) | (lists::value(rng, category) & ((1 << 40) - 1));
-        }
-    }
-}
-
 fn damage_assets(rng: &mut Rng, bytes: &mut Vec<u8>, ids: &[Vec<u8>]) {
     let cells = bytes.first().map_or(0, |&cells| usize::from(cells));
     if cells == 0 || bytes.len() < 2 + 544 * cells {
@@ -241,7 +222,7 @@ fn damage_assets(rng: &mut Rng, bytes: &mut Vec<u8>, ids: &[Vec<u8>]) {
 struct Draw {
     component_types: Vec<Vec<u8>>,
     item_types: Vec<Vec<u8>>,
-    categories: Vec<u32>,
+    offers: Offers,
     ids: Vec<Vec<u8>>,
 }
 
@@ -251,7 +232,7 @@ impl Draw {
         Draw {
             component_types: (0..model.components()).map(|c| model.component_type(c).to_vec()).collect(),
             item_types: (0..model.items()).map(|item| model.item_type(item).to_vec()).collect(),
-            categories: (0..model.items()).map(|item| model.category(item)).collect(),
+            offers: Offers::new(rng, &model),
             ids: lists::ids(rng, start.a as usize),
         }
     }
@@ -259,7 +240,7 @@ impl Draw {
     fn call<C: Core>(&self, rng: &mut Rng, pair: &Pair<C>, requests: u64) -> Call {
         match rng.weighted(&[100 - requests, 12, requests, 6, 12]) {
             0 => {
-                let Record { item, time, value } = batches::record(rng, &self.categories);
+                let Record { item, time, value } = batches::record(rng, &self.offers);
                 Call::Observe { item, time, host: worlds::time(rng), value }
             }
             1 => {
@@ -272,10 +253,10 @@ impl Draw {
             }
             2 => {
                 let text = texts::text(rng, &self.scene(pair));
-                let words = if rng.percent(65) { 4 + 3 * 130 } else { rng.between(0, 16) as usize };
+                let words = if rng.percent(65) { texts::AMPLE } else { rng.between(0, 16) as usize };
                 Call::Request { text, reply: worlds::garbage(rng, words) }
             }
-            4 => batches::draw(rng, &self.categories),
+            4 => batches::draw(rng, &self.offers),
             _ => {
                 let mut id = rng.pick(&self.ids).clone();
                 if rng.percent(10) {

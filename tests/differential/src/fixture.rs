@@ -2,6 +2,7 @@
 
 use crate::call::{Answer, Call, Start};
 use crate::session::Session;
+use crate::texts;
 use crate::under_test::{self, UnderTest};
 use crate::worlds::cell;
 use reference::stores::{asset_bytes, observation_words};
@@ -91,7 +92,7 @@ impl Tested<'_> {
     /// The reply's own words, or the refusal's number.
     pub fn ask(&mut self, text: impl AsRef<[u8]>) -> Result<Vec<u64>, u64> {
         let text = text.as_ref();
-        let reply = vec![0xfeed; 4 + 3 * 140];
+        let reply = vec![0xfeed; texts::AMPLE];
         match self.must(&Call::Request { text: text.to_vec(), reply }) {
             Answer::Pair(0, k) => {
                 let columns = if text.starts_with(b"/asset") { 2 } else { 3 };

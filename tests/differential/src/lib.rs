@@ -5,17 +5,20 @@ pub mod batches;
 pub mod call;
 pub mod client;
 pub mod damaged;
+pub mod entries;
 #[cfg(target_os = "linux")]
 pub mod fenced;
 pub mod fixture;
 pub mod guard;
 pub mod hidden;
 pub mod lists;
+pub mod offers;
 pub mod pair;
 pub mod polls;
 pub mod rng;
 pub mod session;
 pub mod settings;
+pub mod snapshots;
 pub mod texts;
 pub mod trespass;
 pub mod under_test;
@@ -23,6 +26,7 @@ pub mod windows;
 pub mod worlds;
 
 use call::{Answer, Call};
+use snapshots::Conditions;
 use std::fmt;
 
 /// Where two implementations part.
@@ -66,6 +70,7 @@ pub struct Counts {
     /// Polls from a next number that was given: overwritten since, or not.
     pub late_polls: u64,
     pub polls_in_time: u64,
+    pub conditions: Conditions,
 }
 
 impl Counts {
@@ -113,6 +118,7 @@ impl Counts {
         self.windows += other.windows;
         self.late_polls += other.late_polls;
         self.polls_in_time += other.polls_in_time;
+        self.conditions.add(&other.conditions);
         let tables = [
             (&mut self.starts[..], &other.starts[..]),
             (&mut self.observes, &other.observes),
@@ -134,6 +140,7 @@ impl fmt::Display for Counts {
         let Counts { calls, same, repeats, rows, windows, late_polls, polls_in_time, .. } = self;
         writeln!(f, "{calls} calls, {same} Same, {repeats} repeats, {rows} rows, {windows} joined windows")?;
         writeln!(f, "  polls from a next number: {late_polls} late, {polls_in_time} in time")?;
+        writeln!(f, "  conditions: {}", self.conditions)?;
         writeln!(f, "  answers by refusal number, 0 accepted:")?;
         writeln!(f, "  start       {:?}", self.starts)?;
         writeln!(f, "  observe     {:?}", self.observes)?;

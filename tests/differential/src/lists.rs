@@ -3,6 +3,7 @@
 use crate::batches;
 use crate::call::{Answer, Call, Start};
 use crate::client::Client;
+use crate::offers::Offers;
 use crate::polls::Polls;
 use crate::rng::Rng;
 use crate::session::Session;
@@ -17,7 +18,7 @@ use reference::{Clean, Core, FaultSet, Record};
 struct Script {
     rng: Rng,
     clock: u64,
-    categories: Vec<u32>,
+    offers: Offers,
     component_types: Vec<Vec<u8>>,
     item_types: Vec<Vec<u8>>,
     ids: Vec<Vec<u8>>,
@@ -27,6 +28,9 @@ struct Script {
     windows: Windows,
     polls: Polls,
 }
+
+/// Rings of which every snapshot is compared amid a list too, and not at its end alone.
+const SMALL: u64 = 16;
 
 /// Runs the list of a seed. The machine takes the faults given; in earnest it has none.
 pub fn run<C: Core, F: FaultSet>(
@@ -61,11 +65,22 @@ pub fn run<C: Core, F: FaultSet>(
             println!("{index}: {call:?}: {answer:?}");
         }
         script.note(&session, &call, client, answer).map_err(|what| fail(place(&call), what))?;
-        if index % 32 == 0 {
-            session.compare_contents().map_err(|what| fail(place(&call), what))?;
-        }
+        amid(&mut session, index, counts).map_err(|what| fail(place(&call), what))?;
     }
-    script.finish(&session, counts).map_err(|what| fail("at the end".into(), what))
+    script.finish(&mut session, counts).map_err(|what| fail(format!("at the end after {start:?}"), what))
+}
+
+/// What is compared beside the calls now and then.
+fn amid<C: Core, F: FaultSet>(
+    session: &mut Session<C, F>,
+    index: u64,
+    counts: &mut Counts,
+) -> Result<(), String> {
+    match index % 32 {
+        0 => session.compare_contents(),
+        16 if session.machine.places() <= SMALL => counts.conditions.compare_all(session),
+        _ => Ok(()),
+    }
 }
 
 /// Starts ahead of the one that counts: spoilt ones, and one with other bytes in its names.
@@ -85,11 +100,11 @@ impl Script {
         let model = Model::check(words, names, Clean).expect("the start was accepted");
         let items = 0..model.items();
         let ids = ids(&mut rng, session.machine.cells());
-        let categories: Vec<u32> = items.clone().map(|item| model.category(item)).collect();
+        let offers = Offers::new(&mut rng, &model);
         let mut script = Script {
             clock: rng.between(1000, 2000),
-            offered: offer(&mut rng, &categories),
-            categories,
+            offered: offers.draw(&mut rng),
+            offers,
             component_types: (0..model.components()).map(|c| model.component_type(c).to_vec()).collect(),
             item_types: items.map(|item| model.item_type(item).to_vec()).collect(),
             ids,
@@ -135,7 +150,8 @@ impl Script {
                     return (self.observe(), None);
                 }
                 let text = self.clients[client].text(&mut self.rng);
-                let words = if self.rng.percent(95) { 4 + 3 * 130 } else { self.rng.between(0, 40) as usize };
+                let words =
+                    if self.rng.percent(95) { texts::AMPLE } else { self.rng.between(0, 40) as usize };
                 (Call::Request { text, reply: worlds::garbage(&mut self.rng, words) }, Some(client))
             }
         }
@@ -161,10 +177,11 @@ impl Script {
     /// What is checked and counted when the list is over.
     fn finish<C: Core, F: FaultSet>(
         &mut self,
-        session: &Session<C, F>,
+        session: &mut Session<C, F>,
         counts: &mut Counts,
     ) -> Result<(), String> {
         session.compare_contents()?;
+        counts.conditions.compare_all(session)?;
         counts.late_polls += self.polls.late;
         counts.polls_in_time += self.polls.in_time;
         counts.windows += self.windows.check(&mut self.rng, &session.pair, &session.machine)?;
@@ -172,7 +189,9 @@ impl Script {
             client.finish(&session.machine)?;
             counts.windows += client.windows;
         }
-        counts.repeats += repeats(session.machine.history(), &self.categories);
+        let conditions = self.offers.conditions();
+        conditions.for_each(|item| counts.conditions.count(session.machine.history(), item));
+        counts.repeats += repeats(session.machine.history(), &self.offers.categories);
         Ok(())
     }
 
@@ -206,7 +225,7 @@ impl Script {
     /// Now and then what was offered last, so that it is equal.
     fn record(&mut self) -> Record {
         if self.rng.percent(85) {
-            self.offered = offer(&mut self.rng, &self.categories);
+            self.offered = self.offers.draw(&mut self.rng);
         }
         let (item, value) = self.offered;
         Record { item, time: self.time(), value }
@@ -249,7 +268,7 @@ impl Script {
         };
         let text = texts::text(&mut self.rng, &scene);
         let words = match self.rng.weighted(&[60, 25, 15]) {
-            0 => 4 + 3 * 130,
+            0 => texts::AMPLE,
             1 => {
                 let (model, names) = (&session.pair.expected_model, &session.pair.expected_names);
                 let exact = machine.reply_words(model, names, &text).map_or(4, |words| words.len());
@@ -297,66 +316,6 @@ pub fn spoil_id(rng: &mut Rng, id: &mut Vec<u8>) {
             id[at] = *rng.pick(b"\x00\x20\x21\x7e\x7f;/?:<>\x80");
         }
     }
-}
-
-/// An item and a value's word for it. Some items are not there.
-pub fn offer(rng: &mut Rng, categories: &[u32]) -> (u64, u64) {
-    let m = categories.len() as u64;
-    let item = match rng.weighted(&[95, 5]) {
-        0 => rng.below(m),
-        _ => *rng.pick(&[m, m + 1, 64, 255, 256, 1 << 32, 1 << 40, u64::MAX]),
-    };
-    let category = categories.get(item as usize).copied().unwrap_or(0);
-    (item, value(rng, category))
-}
-
-/// A pulse: an event that a discrete item repeats.
-const PULSE: u64 = (2 << 32) + 1;
-
-/// A value's word: few different ones, so that Same is met; edges; other kinds; no value at all.
-pub fn value(rng: &mut Rng, category: u32) -> u64 {
-    if category == 4 && rng.percent(60) {
-        return *rng.pick(&[0, PULSE, PULSE, PULSE]);
-    }
-    let kind = match rng.weighted(&[80, 12, 6, 2]) {
-        0 if category == 3 => rng.below(3),
-        0 if category == 4 => 2,
-        0 => u64::from(category) + 1,
-        1 => 0,
-        2 => rng.below(4),
-        _ => {
-            return *rng.pick(&[
-                1,
-                4 << 32,
-                (3 << 32) + (3 << 24),
-                (3 << 32) + u64::from(u32::MAX),
-                u64::MAX,
-                1 << 40,
-                (1 << 63) + (1 << 32),
-            ])
-        }
-    };
-    let low = match kind {
-        0 => 0,
-        1 => *rng.pick(&[
-            0,
-            1,
-            2,
-            3,
-            5000,
-            u64::from(u32::MAX),
-            1 << 31,
-            (1 << 31) - 1,
-            u64::from(u32::MAX) - 1,
-        ]),
-        2 => *rng.pick(&[0, 0, 1, 1, 2, 3, u64::from(u32::MAX), 1 << 24]),
-        _ => {
-            let level = rng.below(3);
-            let code = *rng.pick(&[0, 0, 0, 1, 2, (1 << 24) - 1]);
-            (level << 24) + if level == 0 && rng.percent(70) { 0 } else { code }
-        }
-    };
-    (kind << 32) + low
 }
 
 /// An answer that hands rows over.

@@ -5,6 +5,9 @@ use crate::rng::Rng;
 
 const LARGEST: u64 = (1 << 63) - 1;
 
+/// Words enough for every reply of a list: 64 items with eight rows each.
+pub const AMPLE: usize = 4 + 3 * 8 * 64;
+
 /// What a text can speak of.
 pub struct Scene<'a> {
     pub first: u64,

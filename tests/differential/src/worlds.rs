@@ -107,7 +107,7 @@ fn model(rng: &mut Rng, cells: usize) -> Vec<u32> {
     }
     let asset_item = rng.percent(60).then(|| rng.below(m));
     for item in 0..m {
-        let category = if asset_item == Some(item) { 3 } else { *rng.pick(&[0, 1, 2, 4]) };
+        let category = if asset_item == Some(item) { 3 } else { *rng.pick(&[0, 1, 2, 2, 4]) };
         words.push((category * 65_536 + rng.below(c) * 256 + rng.below(cells)) as u32);
     }
     words

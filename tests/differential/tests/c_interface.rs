@@ -4,7 +4,7 @@
 
 use differential::fixture::{names, plain_model};
 use differential::rng::Rng;
-use differential::{lists, settings};
+use differential::{offers, settings};
 use mtcore::ffi::raw;
 use mtcore::{Level, Observed, Record, Refusal, Sizes, Value};
 use std::ptr::{null, null_mut, NonNull};
@@ -100,7 +100,7 @@ fn results_and_words_agree() {
     let mut rng = Rng::new(settings::seed());
     for step in 0..20_000 {
         let item = rng.below(5);
-        let word = lists::value(&mut rng, (item % 3) as u32);
+        let word = offers::value(&mut rng, (item % 3) as u32);
         let Some(value) = Value::from_word(word) else {
             continue;
         };

@@ -5,7 +5,7 @@ use differential::fixture::{begin, core, discrete_model, names, plain_model, sta
 use differential::pair::Pair;
 use differential::rng::Rng;
 use differential::under_test::UnderTest;
-use differential::{lists, settings, worlds};
+use differential::{offers, settings, worlds};
 use reference::{Record, Value};
 
 const END: u64 = 1 << 63;
@@ -49,7 +49,7 @@ fn turn(core: &UnderTest, rng: &mut Rng, model: &[u32], n: u64, b: u64) {
     ask_all(&mut session);
     for step in 0..3 * n.max(4) {
         let item = rng.below(u64::from(model[1]));
-        let value = lists::value(rng, model[3 + item as usize] / 65_536);
+        let value = offers::value(rng, model[3 + item as usize] / 65_536);
         session.must(&Call::Observe { item, time: worlds::time(rng), host: 1000 + step, value });
         if step % 4 == 0 {
             session.store(b"T", b"body", step);
@@ -413,7 +413,7 @@ fn the_largest_ring() {
         step += 1;
         // The last items stay behind, so that their newest leave the ring.
         let item = rng.below(60);
-        let value = lists::value(&mut rng, (item % 3) as u32);
+        let value = offers::value(&mut rng, (item % 3) as u32);
         session.must(&Call::Observe { item, time: step, host: step, value });
         if step % 100 == 0 {
             let reply = session.ask(format!("/sample?from={next}&count=100")).unwrap();
