@@ -4,6 +4,7 @@
 use crate::offers::{self, condition, CODES};
 use crate::rng::Rng;
 use crate::worlds;
+use reference::value::item_of;
 
 /// Entries of an item in each table.
 pub const ENTRIES: usize = 8;
@@ -52,7 +53,7 @@ impl Table {
 /// Damages an item's entries: a word here or there, or all of them anew.
 pub fn damage(rng: &mut Rng, words: &mut [u64], table: Table) {
     let item = rng.index(table.m);
-    match rng.weighted(&[35, 20, 25, 5]) {
+    match rng.weighted(&[33, 18, 24, 5, 20]) {
         0 => damage_word(rng, words, table, item, 0),
         1 => {
             let entry = rng.index(ENTRIES);
@@ -65,7 +66,19 @@ pub fn damage(rng: &mut Rng, words: &mut [u64], table: Table) {
             }
             table.fill(words, item, &rows);
         }
-        _ => table.fill(words, item, &[]),
+        3 => table.fill(words, item, &[]),
+        _ => crowd(rng, words, table),
+    }
+}
+
+/// Eight codes that no list raises, on an item of the ring: each code there is a ninth.
+fn crowd(rng: &mut Rng, words: &mut [u64], table: Table) {
+    let n = words[0] as usize;
+    let item = item_of(words[4 + n + rng.index(n)]) as usize;
+    if item < table.m {
+        let packed = |code| ((item as u64) << 40) + condition(rng.between(1, 2), code);
+        let rows: Vec<[u64; 3]> = (100..108).map(packed).map(|packed| [1, 1000, packed]).collect();
+        table.fill(words, item, &rows);
     }
 }
 

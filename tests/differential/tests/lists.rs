@@ -30,15 +30,16 @@ fn every_answer_is_met(counts: &Counts) {
     for refusal in [0, 1, 3] {
         assert!(counts.starts[refusal] > 0, "start never answers {refusal}");
     }
-    for refusal in [0, 4, 5, 6] {
+    for refusal in [0, 4, 5, 6, 19] {
         assert!(counts.observes[refusal] > 0, "observe never answers {refusal}");
     }
     for refusal in [0, 15, 16] {
         assert!(counts.batches[refusal] > 0, "a delivery never answers {refusal}");
     }
-    for refusal in [0, 4, 5, 6] {
+    for refusal in [0, 4, 5, 6, 19] {
         assert!(counts.amid[refusal] > 0, "no record is answered {refusal} behind a recorded one");
     }
+    conditions_are_met(counts);
     for refusal in [0, 6, 14] {
         assert!(counts.stores[refusal] > 0, "store-asset never answers {refusal}");
     }
@@ -67,6 +68,17 @@ fn late_and_early_are_met(counts: &Counts) {
     }
 }
 
+/// Codes come up, change their level and go in every way; as many stand as may and one more is refused; a
+/// snapshot at every held number is compared, also where what stands has left the ring.
+fn conditions_are_met(counts: &Counts) {
+    let crowded = counts.observes[19] + counts.records[19];
+    let met = counts.conditions.each().into_iter().chain([("codes too many", crowded)]);
+    for (what, met) in met {
+        assert!(met > counts.calls / RARELY, "{met} {what}: {counts}");
+    }
+    assert!(counts.conditions.snapshots > counts.calls / 10, "too few snapshots: {counts}");
+}
+
 #[test]
 fn damaged_contents_get_the_same_answers() {
     let counts = all(4000, |seed, counts| damaged::run(&core(), seed, counts));
@@ -77,7 +89,8 @@ fn damaged_contents_get_the_same_answers() {
         assert!(table[1] > 0 && table[2] > 0, "damage is never noticed");
     }
     late_and_early_are_met(&counts);
-    for refusal in [2, 6] {
+    assert!(counts.observes[19] > 0, "no code is too many");
+    for refusal in [2, 6, 19] {
         assert!(counts.amid[refusal] > 0, "no record is answered {refusal} behind a recorded one");
     }
 }
@@ -92,7 +105,7 @@ fn a_delivery_is_its_single_observes() {
     for refusal in [0, 2, 15, 16] {
         assert!(counts.batches[refusal] > 0, "a delivery never answers {refusal}");
     }
-    for refusal in [0, 2, 4, 5, 6] {
+    for refusal in [0, 2, 4, 5, 6, 19] {
         assert!(counts.amid[refusal] > 0, "no record is answered {refusal} behind a recorded one");
     }
 }

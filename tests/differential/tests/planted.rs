@@ -44,7 +44,7 @@ fn faults_in_the_core_are_told_apart() {
 
 /// Faults of the stores that clients come to see. The others show in the stores alone, or where
 /// they are damaged.
-const SEEN_BY_CLIENTS: [Fault; 13] = [
+const SEEN_BY_CLIENTS: [Fault; 19] = [
     Fault::SameRenewsTime,
     Fault::CheckpointNotUpdated,
     Fault::CheckpointWrittenOnce,
@@ -58,6 +58,12 @@ const SEEN_BY_CLIENTS: [Fault; 13] = [
     Fault::RepeatLeavesLatest,
     Fault::LateAsTwelve,
     Fault::EarlyAsTwelve,
+    Fault::CodeZeroNeverFound,
+    Fault::LastFillsGap,
+    Fault::ClearedEntryStays,
+    Fault::CheckpointNewestOnly,
+    Fault::ClearsStayOutOfCheckpoint,
+    Fault::UsedByPacked,
 ];
 
 #[test]

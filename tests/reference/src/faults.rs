@@ -291,6 +291,108 @@ faults! {
     /// A discrete item's latest word is tested before a value is recorded.
     DiscreteLatestTested in Stores,
 
+    // Conditions: what an observation does to the codes that stand.
+    /// A replaced code moves behind the others.
+    ReplacedToEnd in Both,
+    /// A replaced code keeps the number that it was added by.
+    ReplacedKeepsNumber in Both,
+    /// A code's Warning and its Fault stand side by side.
+    LevelsApart in Both,
+    /// Code 0 is never found among those that stand, and is added again.
+    CodeZeroNeverFound in Stores,
+    /// Unavailable clears nothing.
+    UnavailableClearsNothing in Both,
+    /// Normal of one code clears all.
+    NormalClearsAll in Both,
+    /// Normal 0 clears code 0 only.
+    NormalZeroClearsOne in Both,
+    /// The last code's Normal leaves the item without a row.
+    LastNormalLeavesNothing in Both,
+    /// The last of the codes takes the place of a cleared one.
+    LastFillsGap in Stores,
+    /// A cleared code's entry moves to the end and stays there.
+    ClearedEntryStays in Stores,
+
+    // Conditions: Same and crowded.
+    /// Same compares the item's newest observation alone, as it was while one condition stood.
+    SameByNewest in Both,
+    /// A Normal of a code that doesn't stand is recorded.
+    UnknownNormalRecorded in Both,
+    /// Any Normal after Unavailable is recorded, not Normal 0 alone.
+    NormalAfterUnavailable in Both,
+    /// Normal 0 after Unavailable is Same too.
+    NormalZeroAlwaysSame in Both,
+    /// A ninth code pushes the first out.
+    NinthPushesOut in Both,
+    /// An eighth code is crowded.
+    EighthCrowded in Both,
+    /// Crowded is looked at before Same: with eight codes a repeated level is crowded.
+    CrowdedBeforeSame in Both,
+    /// With eight codes another level of one of them is crowded.
+    ReplacingCrowded in Both,
+    /// The last number is looked at before crowded.
+    SpentBeforeCrowded in Both,
+
+    // Conditions: snapshots.
+    /// Current gives the first of an item's rows alone.
+    FirstRowOnly in Both,
+    /// An item's rows are put in the order of their numbers.
+    RowsByNumber in Both,
+    /// `at` gives what stands on a condition item now.
+    AtFromLatest in Both,
+    /// The checkpoint keeps only the newest of an item.
+    CheckpointNewestOnly in Stores,
+    /// Only Warnings and Faults that leave the ring reach the checkpoint.
+    ClearsStayOutOfCheckpoint in Stores,
+
+    // Conditions: the written form of damaged entries.
+    /// Observe does not test its item's entries.
+    ObserveFormUntested in Stores,
+    /// Current does not test the entries it gives.
+    CurrentFormUntested in Stores,
+    /// Overwriting does not test the checkpoint.
+    OverwritingFormUntested in Stores,
+    /// `at` does not test the checkpoints.
+    AtFormUntested in Stores,
+    /// `at` does not test the checkpoint of an item that the ring clears.
+    ClearedFormUntested in Stores,
+    /// Same is looked at before the form.
+    SameBeforeForm in Stores,
+    /// A latest table without a used entry passes.
+    EmptyLatestPasses in Stores,
+    /// Used entries behind an unused one pass.
+    GapsPass in Stores,
+    /// Times of unused entries are not tested.
+    UnusedTimesPass in Stores,
+    /// Packed words of unused entries are not tested.
+    UnusedPackedPass in Stores,
+    /// Several entries pass although one isn't active.
+    InactivePass in Stores,
+    /// Two entries of one code pass.
+    EqualCodesPass in Stores,
+    /// Whose item an entry has is not compared.
+    OtherItemActive in Stores,
+    /// Any kind but Unavailable counts as a condition.
+    OtherKindActive in Stores,
+    /// A level above Fault counts as active.
+    LevelThreeActive in Stores,
+    /// The level is told by its two low bits.
+    LevelCutShort in Stores,
+    /// Used is told by the packed word.
+    UsedByPacked in Stores,
+    /// The entries of items of other categories are tested too.
+    OtherFormTested in Stores,
+    /// The entries of items that are not selected are tested too.
+    UnselectedFormTested in Stores,
+    /// Overwriting lets a ninth code go.
+    NinthLostOverwriting in Stores,
+    /// `at` lets a ninth code go.
+    NinthLostAt in Stores,
+    /// What clears all makes nine codes good again.
+    NineMended in Stores,
+    /// `at` refuses nine codes of an item that is not selected.
+    NineUnselectedRefused in Stores,
+
     // Deliveries.
     /// A refused record ends the delivery; the words of the rest stay.
     BatchStopsAtRefusal in Both,

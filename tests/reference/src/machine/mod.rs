@@ -149,10 +149,17 @@ impl<F: FaultSet> Machine<F> {
         if self.faults.has(Fault::SpentBeforeSame) {
             self.not_spent()?;
         }
+        let condition = category == CONDITION;
+        if condition && self.is_crowded_before_same(item, value) {
+            return Err(Refusal::Crowded);
+        }
         if self.is_same(category, item, value) {
             return Ok(None);
         }
-        if category == CONDITION && self.is_crowded(item, value) {
+        if self.faults.has(Fault::SpentBeforeCrowded) {
+            self.not_spent()?;
+        }
+        if condition && self.is_crowded(item, value) {
             return Err(Refusal::Crowded);
         }
         self.not_spent()?;

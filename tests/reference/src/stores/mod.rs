@@ -160,20 +160,29 @@ impl<F: FaultSet> Stores<F> {
         time: u64,
         packed: u64,
     ) -> Result<Option<u64>, Refusal> {
-        let mut latest = head.standing(words, Table::Latest, item)?;
+        let faults = self.faults;
+        if self.same_before_form(head, words, item, packed) {
+            return Ok(None);
+        }
+        let latest = head.standing(words, Table::Latest, item, Fault::ObserveFormUntested, faults)?;
+        if latest.is_crowded_before_same(packed, faults) {
+            return Err(Refusal::Crowded);
+        }
         if self.is_same_condition(head, words, stale, item, packed, &latest) {
-            if self.faults.has(Fault::SameRenewsTime) {
-                latest.renew(packed, time);
-                head.set_standing(words, Table::Latest, item, &latest);
+            if faults.has(Fault::SameRenewsTime) {
+                head.set_standing(words, Table::Latest, item, &latest.renewed(packed, time, faults));
             }
             return Ok(None);
         }
-        if latest.has_no_room(packed) {
+        if faults.has(Fault::SpentBeforeCrowded) {
+            head.not_spent(faults)?;
+        }
+        if latest.is_crowded_for(packed, faults) {
             return Err(Refusal::Crowded);
         }
-        let room = head.room(words, item, self.faults)?;
+        let room = head.room(words, item, faults)?;
         let newest = Newest { item, time, packed, standing: Some(latest) };
-        Ok(Some(head.record(words, room, newest, self.faults)))
+        Ok(Some(head.record(words, room, newest, faults)))
     }
 
     fn is_same_condition(
@@ -188,8 +197,17 @@ impl<F: FaultSet> Stores<F> {
         if self.faults.has(Fault::NeverSame) {
             return false;
         }
-        let stale = stale.and_then(|words| head.standing(words, Table::Latest, item).ok());
-        stale.as_ref().unwrap_or(latest).is_same(packed) || head.is_held(words, packed, self.faults)
+        let entries = |words| head.entries_of(words, Table::Latest, item);
+        let stale = stale.map(|words| Standing::of(entries(words), item, self.faults));
+        let latest = stale.as_ref().unwrap_or(latest);
+        latest.is_same(packed, self.faults) || head.is_held(words, packed, self.faults)
+    }
+
+    /// Whether a planted fault says Same ahead of the entries' form.
+    fn same_before_form(&self, head: &Head, words: &[u64], item: usize, packed: u64) -> bool {
+        let entries = head.entries_of(words, Table::Latest, item);
+        self.faults.has(Fault::SameBeforeForm)
+            && Standing::of(entries, item, self.faults).is_same(packed, self.faults)
     }
 
     /// Whether a planted fault says Same ahead of the kind.
@@ -221,6 +239,7 @@ impl<F: FaultSet> Stores<F> {
         if odd && self.faults.has(Fault::DiscreteLatestTested) {
             return Err(Refusal::Store);
         }
+        head.test_other(words, Table::Latest, item, self.faults)?;
         let room = head.room(words, item, self.faults)?;
         let newest = Newest { item, time, packed, standing: None };
         let number = head.record(words, room, newest, self.faults);

@@ -133,13 +133,49 @@ impl<'m> Head<'m> {
         Entries { numbers, times, packed }
     }
 
-    /// What stands on a condition item, if its entries keep their written form.
-    pub fn standing(&self, words: &[u64], table: Table, item: usize) -> Result<Standing, Refusal> {
-        let standing = Standing::of(self.entries_of(words, table, item), item).ok_or(Refusal::Store)?;
-        if table == Table::Latest && standing.is_empty() {
+    /// How many entries of an item are used, if they keep their written form.
+    pub fn used<F: FaultSet>(
+        &self,
+        words: &[u64],
+        table: Table,
+        item: usize,
+        faults: F,
+    ) -> Result<usize, Refusal> {
+        let used = self.entries_of(words, table, item).written(item, faults).ok_or(Refusal::Store)?;
+        let none = used == 0 && table == Table::Latest && !faults.has(Fault::EmptyLatestPasses);
+        if none {
             return Err(Refusal::Store);
         }
-        Ok(standing)
+        Ok(used)
+    }
+
+    /// What stands on a condition item, if its entries keep their form or a planted fault doesn't ask.
+    pub fn standing<F: FaultSet>(
+        &self,
+        words: &[u64],
+        table: Table,
+        item: usize,
+        untested: Fault,
+        faults: F,
+    ) -> Result<Standing, Refusal> {
+        if !faults.has(untested) {
+            self.used(words, table, item, faults)?;
+        }
+        Ok(Standing::of(self.entries_of(words, table, item), item, faults))
+    }
+
+    /// Tests the entries of an item of another category: a planted fault.
+    pub fn test_other<F: FaultSet>(
+        &self,
+        words: &[u64],
+        table: Table,
+        item: usize,
+        faults: F,
+    ) -> Result<(), Refusal> {
+        if faults.has(Fault::OtherFormTested) {
+            self.used(words, table, item, faults)?;
+        }
+        Ok(())
     }
 
     pub fn is_condition(&self, item: usize) -> bool {
@@ -245,11 +281,13 @@ impl<'m> Head<'m> {
             row.number = self.last + 1;
         }
         if !self.is_condition(item) {
+            self.test_other(words, Table::Checkpoint, item, faults)?;
             return Ok(Some(Leaving { item, row, standing: None }));
         }
-        let mut standing = self.standing(words, Table::Checkpoint, item)?;
-        standing.step(row);
-        if standing.is_overfull() {
+        let untested = Fault::OverwritingFormUntested;
+        let mut standing = self.standing(words, Table::Checkpoint, item, untested, faults)?;
+        standing.leave_ring(row, faults);
+        if standing.is_overfull() && !faults.has(Fault::NinthLostOverwriting) {
             return Err(Refusal::Store);
         }
         Ok(Some(Leaving { item, row, standing: Some(standing) }))
@@ -278,7 +316,7 @@ impl<'m> Head<'m> {
         words[self.ring_packed(room.place)] = packed;
         match standing {
             Some(mut standing) => {
-                standing.step(row);
+                standing.step(row, faults);
                 self.set_standing(words, Table::Latest, item, &standing);
             }
             None => self.set_latest(words, item, row),
@@ -316,28 +354,77 @@ impl<'m> Head<'m> {
         faults: F,
     ) -> Result<State, Refusal> {
         let end = if faults.has(Fault::AtExclusive) { at } else { at + 1 };
-        let mut state = State::NONE;
-        let conditions = (0..self.m).filter(|&item| selected >> item & 1 == 1 && self.is_condition(item));
-        for item in conditions {
-            state.conditions |= 1 << item;
-            state.standing.resize(item, Standing::NONE);
-            let standing = self.standing(words, Table::Checkpoint, item)?;
-            state.standing.push(if faults.has(Fault::AtFromRingOnly) { Standing::NONE } else { standing });
-        }
+        let held = self.first(faults)..end;
+        let mut state = self.state_before(words, held.clone(), selected, faults)?;
         let mut sound = true;
-        self.entries(words, self.first(faults)..end, faults).for_each(|row| {
+        self.entries(words, held, faults).for_each(|row| {
             sound &= self.item_valid(row.packed, faults);
             let item = (item_of(row.packed) & 63) as usize;
             state.newest[item] = row.number;
             if state.conditions >> item & 1 == 1 {
-                state.standing[item].step(row);
+                state.standing[item].step(row, faults);
             }
         });
         sound |= faults.has(Fault::RingUntested);
-        if !sound || state.standing.iter().any(Standing::is_overfull) {
+        let overfull = state.standing.iter().any(Standing::is_overfull);
+        if !sound || (overfull && !faults.has(Fault::NinthLostAt)) {
             return Err(Refusal::Store);
         }
+        if faults.has(Fault::AtFromLatest) {
+            items(state.conditions).for_each(|item| {
+                state.standing[item] =
+                    Standing::of(self.entries_of(words, Table::Latest, item), item, faults);
+            });
+        }
         Ok(state)
+    }
+
+    /// The checkpoints of the selected condition items, all of which have to keep their form.
+    fn state_before<F: FaultSet>(
+        &self,
+        words: &[u64],
+        held: Range<u64>,
+        selected: u64,
+        faults: F,
+    ) -> Result<State, Refusal> {
+        let mut state = State::NONE;
+        for item in items(self.tested(selected, faults)) {
+            if self.cleared_unasked(words, held.clone(), item, faults) {
+                continue;
+            }
+            self.standing(words, Table::Checkpoint, item, Fault::AtFormUntested, faults)?;
+        }
+        let stepped = if faults.has(Fault::NineUnselectedRefused) { u64::MAX } else { selected };
+        state.conditions = self.conditions(stepped);
+        for item in items(state.conditions) {
+            let entries = self.entries_of(words, Table::Checkpoint, item);
+            let none = faults.has(Fault::AtFromRingOnly);
+            state.standing.resize(item, Standing::NONE);
+            state.standing.push(if none { Standing::NONE } else { Standing::of(entries, item, faults) });
+        }
+        Ok(state)
+    }
+
+    /// The condition items of a selection.
+    fn conditions(&self, selected: u64) -> u64 {
+        items(selected)
+            .take_while(|&item| item < self.m)
+            .filter(|&item| self.is_condition(item))
+            .fold(0, with)
+    }
+
+    /// The items whose entries a snapshot of the selected ones tests. Planted faults test others too.
+    pub fn tested<F: FaultSet>(&self, selected: u64, faults: F) -> u64 {
+        if faults.has(Fault::OtherFormTested) {
+            return selected;
+        }
+        self.conditions(if faults.has(Fault::UnselectedFormTested) { u64::MAX } else { selected })
+    }
+
+    /// Whether a planted fault does not ask for the form of an item, since the ring clears it.
+    fn cleared_unasked<F: FaultSet>(&self, words: &[u64], held: Range<u64>, item: usize, faults: F) -> bool {
+        let clears = |row: Row| item_of(row.packed) == item as u64 && row.packed as u32 == 0;
+        faults.has(Fault::ClearedFormUntested) && self.entries(words, held, faults).any(clears)
     }
 
     /// The entry of a held number.
@@ -398,6 +485,16 @@ pub fn start<F: FaultSet>(words: &mut [u64], model: &Model, n: usize, b: u64, ho
             write(words, head.entry_at(Table::Checkpoint, item), row);
         }
     }
+}
+
+/// The items of a selection, in order.
+pub fn items(selected: u64) -> impl Iterator<Item = usize> {
+    (0..64).filter(move |item| selected >> item & 1 == 1)
+}
+
+/// The selection with a further item.
+fn with(selected: u64, item: usize) -> u64 {
+    selected | 1 << item
 }
 
 fn read(words: &[u64], [number, time, packed]: [usize; 3]) -> Row {
