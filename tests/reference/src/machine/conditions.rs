@@ -1,6 +1,7 @@
 //! What stands on a condition item, found by searching the record.
 
 use super::{Machine, Observation};
+use crate::answer::Refusal;
 use crate::faults::{Fault, FaultSet};
 use crate::value::{Level, Value};
 
@@ -102,15 +103,21 @@ impl<F: FaultSet> Machine<F> {
         }
     }
 
-    /// A further code while as many stand as may.
-    pub(super) fn is_crowded(&self, item: usize, value: Value) -> bool {
+    /// No further code while as many stand as may.
+    pub(super) fn not_crowded(&self, item: usize, value: Value) -> Result<(), Refusal> {
+        if self.faults.has(Fault::SpentBeforeCrowded) {
+            self.not_spent()?;
+        }
         if !is_raised(value) || self.faults.has(Fault::NinthPushesOut) {
-            return false;
+            return Ok(());
         }
         let most = if self.faults.has(Fault::EighthCrowded) { MOST_CODES - 1 } else { MOST_CODES };
         let standing = self.standing(item, self.last());
         let replaces = standing.iter().any(|row| self.concerns(row.value, value));
-        standing.len() >= most && (!replaces || self.faults.has(Fault::ReplacingCrowded))
+        if standing.len() >= most && (!replaces || self.faults.has(Fault::ReplacingCrowded)) {
+            return Err(Refusal::Crowded);
+        }
+        Ok(())
     }
 
     /// Whether a planted fault takes a repeated level for crowded.

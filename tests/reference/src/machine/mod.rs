@@ -149,18 +149,14 @@ impl<F: FaultSet> Machine<F> {
         if self.faults.has(Fault::SpentBeforeSame) {
             self.not_spent()?;
         }
-        let condition = category == CONDITION;
-        if condition && self.is_crowded_before_same(item, value) {
+        if category == CONDITION && self.is_crowded_before_same(item, value) {
             return Err(Refusal::Crowded);
         }
         if self.is_same(category, item, value) {
             return Ok(None);
         }
-        if self.faults.has(Fault::SpentBeforeCrowded) {
-            self.not_spent()?;
-        }
-        if condition && self.is_crowded(item, value) {
-            return Err(Refusal::Crowded);
+        if category == CONDITION {
+            self.not_crowded(item, value)?;
         }
         self.not_spent()?;
         let time = if time == 0 && !self.faults.has(Fault::MissingTimeKept) { host } else { time };
