@@ -2,6 +2,7 @@
 //! store layer and the machine that forgets nothing, compared call by call.
 
 pub mod batches;
+pub mod by_hand;
 pub mod call;
 pub mod client;
 pub mod damaged;

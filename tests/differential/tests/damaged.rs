@@ -1,10 +1,10 @@
 //! Damaged stores, case by case, with the answers laid down by name. A call tests what it reads of
 //! a store and nothing else, whatever the store was made by.
 
+use differential::by_hand::ByHand;
 use differential::call::{Answer, Call, Start};
 use differential::fixture::{core, names, record, start, UNTOUCHED};
 use differential::pair::Pair;
-use differential::under_test::UnderTest;
 use reference::{Clean, Record, Value};
 
 const END: u64 = 1 << 63;
@@ -72,89 +72,14 @@ fn put_asset(bytes: &mut [u8], cell: usize, id: &[u8], length: u16) {
     bytes[BODY + 512 * cell + 2..][..510].fill(b'a' + cell as u8);
 }
 
-/// The calls over a store changed by hand.
-struct Damaged {
-    core: UnderTest,
-    start: Start,
+fn changed(change: impl FnOnce(&mut Start)) -> ByHand {
+    changed_of(&MODEL, change)
 }
 
-impl Damaged {
-    fn new(change: impl FnOnce(&mut Start)) -> Damaged {
-        Damaged::of(&MODEL, change)
-    }
-
-    fn of(model: &[u32], change: impl FnOnce(&mut Start)) -> Damaged {
-        let mut start = sound(model);
-        change(&mut start);
-        Damaged { core: core(), start }
-    }
-
-    /// One call over a fresh copy: its answer and what it left.
-    fn run(&self, call: &Call) -> (Answer, Start, Vec<u64>) {
-        let mut pair = Pair::over(&self.core, self.start.clone());
-        let answer = pair.call(call).unwrap_or_else(|what| panic!("{call:?}: {what}"));
-        let left = Start {
-            observations: pair.expected_observations.clone(),
-            assets: pair.expected_assets.clone(),
-            ..self.start.clone()
-        };
-        if answer.is_refused() {
-            assert!(left.observations == self.start.observations && left.assets == self.start.assets);
-        }
-        (answer, left, pair.reply)
-    }
-
-    fn observe(&self, item: u64, value: Value) -> u64 {
-        let value = (value.kind() << 32) + value.low(Clean);
-        match self.run(&Call::Observe { item, time: 7, host: 8, value }).0 {
-            Answer::Word(word) => word,
-            other => panic!("{other:?}"),
-        }
-    }
-
-    /// A delivery with room for so many answers: number and count, the answers, and the store left.
-    fn batch(&self, records: &[Record], room: usize) -> ((u64, u64), Vec<u64>, Vec<u64>) {
-        let answers = vec![UNTOUCHED; room];
-        let call = Call::ObserveBatch { records: records.to_vec(), host: 8, answers };
-        match self.run(&call) {
-            (Answer::Pair(number, count), left, answers) => ((number, count), answers, left.observations),
-            other => panic!("{:?}", other.0),
-        }
-    }
-
-    fn store(&self, id: &[u8]) -> (u64, Start) {
-        match self.run(&Call::StoreAsset { id: id.to_vec(), body: b"new".to_vec(), host: 9 }) {
-            (Answer::Word(word), left, _) => (word, left),
-            other => panic!("{:?}", other.0),
-        }
-    }
-
-    /// The reply's words, or the refusal's number.
-    fn ask_into(&self, text: &str, words: usize) -> Result<Vec<u64>, u64> {
-        let (answer, _, reply) = self.run(&Call::Request { text: text.into(), reply: vec![0; words] });
-        match answer {
-            Answer::Pair(0, _) => Ok(reply),
-            other => Err(other.refusal()),
-        }
-    }
-
-    /// A delivery of so many records that is refused: its number.
-    fn refused_batch(&self, records: usize, room: usize) -> u64 {
-        let ((number, count), answers, _) = self.batch(&vec![record(9, 7, Value::Event(1)); records], room);
-        assert_eq!((count, answers), (0, vec![UNTOUCHED; room]));
-        number
-    }
-
-    fn ask(&self, text: &str) -> Result<Vec<u64>, u64> {
-        self.ask_into(text, 40)
-    }
-
-    fn body(&self, id: &[u8]) -> (u64, u64) {
-        match self.run(&Call::Body { id: id.to_vec() }).0 {
-            Answer::Part(start, length) => (start, length),
-            other => panic!("{other:?}"),
-        }
-    }
+fn changed_of(model: &[u32], change: impl FnOnce(&mut Start)) -> ByHand {
+    let mut start = sound(model);
+    change(&mut start);
+    ByHand::new(start)
 }
 
 #[test]
@@ -187,7 +112,7 @@ fn heads_of_the_observation_store() {
         (3, END, STORE),
     ];
     for (word, value, expected) in cases {
-        let damaged = Damaged::new(|start| start.observations[word] = value);
+        let damaged = changed(|start| start.observations[word] = value);
         assert_eq!(damaged.observe(0, Value::Event(1)), expected, "word {word} is {value}");
         if expected == STORE {
             assert_eq!(damaged.ask("/current"), Err(2), "word {word} is {value}");
@@ -201,11 +126,11 @@ fn heads_of_the_observation_store() {
 fn lengths_of_the_stores() {
     for change in [-1isize, 1] {
         let longer = |length: usize| (length as isize + change) as usize;
-        let damaged = Damaged::new(|start| start.observations.resize(longer(start.observations.len()), 0));
+        let damaged = changed(|start| start.observations.resize(longer(start.observations.len()), 0));
         assert_eq!(damaged.observe(9, Value::Event(1)), STORE);
         assert_eq!(damaged.ask("/assets"), Err(2));
         assert_eq!(damaged.body(b"T").1, 5);
-        let damaged = Damaged::new(|start| start.assets.resize(longer(start.assets.len()), 0));
+        let damaged = changed(|start| start.assets.resize(longer(start.assets.len()), 0));
         assert_eq!(damaged.observe(9, Value::Event(1)), END + 4);
         assert_eq!(damaged.ask("/sample"), Err(2));
         assert_eq!(damaged.store(b"T").0, STORE);
@@ -215,7 +140,7 @@ fn lengths_of_the_stores() {
 
 #[test]
 fn the_model_comes_before_the_heads() {
-    let damaged = Damaged::new(|start| {
+    let damaged = changed(|start| {
         start.model[5] = 5 * 65_536;
         start.observations[0] = 0;
     });
@@ -231,7 +156,7 @@ fn the_model_comes_before_the_heads() {
 fn the_entry_about_to_be_overwritten() {
     let oldest = RING_PACKED + 2;
     for item in [3, 64, 256, 1 << 16, (1 << 24) - 1] {
-        let damaged = Damaged::new(|start| start.observations[oldest] = item << 40);
+        let damaged = changed(|start| start.observations[oldest] = item << 40);
         assert_eq!(damaged.observe(0, Value::Event(1)), STORE);
         assert_eq!(damaged.store(b"T").0, STORE);
         // Same, an item, a kind: all before it.
@@ -239,15 +164,15 @@ fn the_entry_about_to_be_overwritten() {
         assert_eq!(damaged.observe(3, Value::Event(1)), END + 4);
         assert_eq!(damaged.observe(0, Value::Sample(1)), END + 5);
         for place in [0, 1, 3] {
-            let damaged = Damaged::new(|start| start.observations[RING_PACKED + place] = item << 40);
+            let damaged = changed(|start| start.observations[RING_PACKED + place] = item << 40);
             assert_eq!(damaged.observe(0, Value::Event(1)), 7);
         }
     }
     // Kind and low bits are not tested.
-    let damaged = Damaged::new(|start| start.observations[oldest] = (1 << 40) + (255 << 32) + 5);
+    let damaged = changed(|start| start.observations[oldest] = (1 << 40) + (255 << 32) + 5);
     assert_eq!(damaged.observe(0, Value::Event(1)), 7);
     // Spent comes before it. With last at its end, the oldest stands at place (2^63 - 1) mod 4.
-    let damaged = Damaged::new(|start| {
+    let damaged = changed(|start| {
         start.observations[3] = END - 1;
         start.observations[RING_PACKED..RING_PACKED + N].fill(u64::MAX);
     });
@@ -257,7 +182,7 @@ fn the_entry_about_to_be_overwritten() {
 /// Before the ring is full, the place to be written is not read.
 #[test]
 fn an_unused_place_is_not_read() {
-    let damaged = Damaged::new(|start| {
+    let damaged = changed(|start| {
         start.observations[3] = 3;
         start.observations[RING_PACKED + 3] = u64::MAX;
     });
@@ -269,10 +194,10 @@ fn an_unused_place_is_not_read() {
 #[test]
 fn a_delivery_over_wrong_heads() {
     let sizes = [(0, 0), (0, 5), (3, 3), (3, 2), (256, 256), (257, 300), (257, 0)];
-    let head = Damaged::new(|start| start.observations[3] = END);
-    let longer = Damaged::new(|start| start.observations.push(0));
-    let empty = Damaged::new(|start| start.observations.clear());
-    let both = Damaged::new(|start| {
+    let head = changed(|start| start.observations[3] = END);
+    let longer = changed(|start| start.observations.push(0));
+    let empty = changed(|start| start.observations.clear());
+    let both = changed(|start| {
         start.model[5] = 5 * 65_536;
         start.observations[0] = 0;
     });
@@ -283,7 +208,7 @@ fn a_delivery_over_wrong_heads() {
         assert_eq!(both.refused_batch(records, room), 1, "{records} records, {room} words");
     }
     // The asset store is no part of it.
-    let assets = Damaged::new(|start| start.assets.clear());
+    let assets = changed(|start| start.assets.clear());
     assert_eq!(assets.refused_batch(257, 0), 16);
     assert_eq!(assets.refused_batch(3, 2), 15);
     assert_eq!(assets.batch(&[], 1).0, (0, 0));
@@ -295,7 +220,7 @@ fn a_delivery_over_wrong_heads() {
 fn a_delivery_meets_a_bad_entry() {
     // The first overwrites number 3 at place 2; place 3 is bad.
     for item in [3, 64, 256, 1 << 16, (1 << 24) - 1] {
-        let damaged = Damaged::new(|start| start.observations[RING_PACKED + 3] = item << 40);
+        let damaged = changed(|start| start.observations[RING_PACKED + 3] = item << 40);
         let records = [
             record(0, 7, Value::Event(1)),
             record(0, 7, Value::Event(2)),
@@ -309,7 +234,7 @@ fn a_delivery_meets_a_bad_entry() {
         assert_eq!(answers, [7, STORE, 0, END + 4, END + 5, STORE, UNTOUCHED]);
         assert_eq!((left[3], left[RING_PACKED + 3]), (7, item << 40));
         // With the first one bad none is recorded, and the delivery is accepted all the same.
-        let damaged = Damaged::new(|start| start.observations[RING_PACKED + 2] = item << 40);
+        let damaged = changed(|start| start.observations[RING_PACKED + 2] = item << 40);
         let (pair, answers, left) = damaged.batch(&records, 6);
         assert_eq!(pair, (0, 6));
         assert_eq!(answers, [STORE, STORE, STORE, END + 4, END + 5, STORE]);
@@ -320,7 +245,7 @@ fn a_delivery_meets_a_bad_entry() {
 /// Where an equal event is Same, a discrete one meets the bad entry.
 #[test]
 fn equal_records_and_a_bad_entry() {
-    let damaged = Damaged::of(&DISCRETE, |start| start.observations[RING_PACKED + 3] = 3 << 40);
+    let damaged = changed_of(&DISCRETE, |start| start.observations[RING_PACKED + 3] = 3 << 40);
     let [pulse, event] = [0, 2].map(|item| record(item, 7, Value::Event(1)));
     assert_eq!(damaged.batch(&[pulse, pulse, pulse, event], 4).1, [7, STORE, STORE, STORE]);
     assert_eq!(damaged.batch(&[event, event, pulse], 3).1, [7, 0, STORE]);
@@ -329,7 +254,7 @@ fn equal_records_and_a_bad_entry() {
 /// An entry that the delivery itself wrote is sound when its turn comes.
 #[test]
 fn a_delivery_turns_the_ring() {
-    let damaged = Damaged::new(|_| {});
+    let damaged = changed(|_| {});
     let records: Vec<Record> = (10..20).map(|value| record(1, value, Value::Sample(value as i32))).collect();
     let (pair, answers, left) = damaged.batch(&records, 10);
     assert_eq!((pair, answers), ((0, 10), (7..17).collect()));
@@ -340,7 +265,7 @@ fn a_delivery_turns_the_ring() {
 /// The last number is given out amid the delivery; a bad entry behind it is no longer met.
 #[test]
 fn a_delivery_spends_the_numbers() {
-    let damaged = Damaged::new(|start| {
+    let damaged = changed(|start| {
         start.observations[3] = END - 2;
         // 2^63 - 1 goes to place 2, and the number after it would go to place 3.
         start.observations[RING_PACKED + 3] = u64::MAX;
@@ -362,14 +287,14 @@ fn a_delivery_spends_the_numbers() {
 /// Without an asset-change item the ring is neither tested nor written, the head still tested.
 #[test]
 fn store_asset_without_its_item() {
-    let damaged = Damaged::of(&NO_ASSET_ITEM, |start| {
+    let damaged = changed_of(&NO_ASSET_ITEM, |start| {
         start.observations[RING_PACKED..RING_PACKED + N].fill(u64::MAX);
         start.observations[3] = END - 1;
     });
     let (cell, left) = damaged.store(b"V");
     assert_eq!(cell, 1);
     assert_eq!(left.observations, damaged.start.observations);
-    let damaged = Damaged::of(&NO_ASSET_ITEM, |start| start.observations[3] = END);
+    let damaged = changed_of(&NO_ASSET_ITEM, |start| start.observations[3] = END);
     assert_eq!(damaged.store(b"V").0, STORE);
 }
 
@@ -377,7 +302,7 @@ fn store_asset_without_its_item() {
 #[test]
 fn a_sample_tests_the_numbers_considered() {
     // Number 4 stands at place 3.
-    let damaged = Damaged::new(|start| start.observations[RING_PACKED + 3] = 3 << 40);
+    let damaged = changed(|start| start.observations[RING_PACKED + 3] = 3 << 40);
     assert_eq!(damaged.ask("/sample"), Err(2));
     assert_eq!(damaged.ask("/sample?from=4&count=1"), Err(2));
     assert_eq!(damaged.ask("/sample?path=//Device//DataItem[@type=\"EXECUTION\"]"), Err(2));
@@ -392,7 +317,7 @@ fn a_sample_tests_the_numbers_considered() {
 
 #[test]
 fn at_tests_what_it_passes() {
-    let damaged = Damaged::new(|start| start.observations[RING_PACKED + 3] = 3 << 40);
+    let damaged = changed(|start| start.observations[RING_PACKED + 3] = 3 << 40);
     assert!(damaged.ask("/current?at=3").is_ok());
     for at in 4..=6 {
         assert_eq!(damaged.ask(&format!("/current?at={at}")), Err(2));
@@ -405,21 +330,21 @@ fn at_tests_what_it_passes() {
 #[test]
 fn odd_words_are_delivered() {
     let odd = (1 << 40) + (255 << 32) + 0xdead_beef;
-    let damaged = Damaged::new(|start| start.observations[RING_PACKED] = odd);
+    let damaged = changed(|start| start.observations[RING_PACKED] = odd);
     assert_eq!(damaged.ask("/sample?from=5&count=1").unwrap()[..7], [1, 3, 6, 6, 5, 1005, odd]);
 }
 
 /// Latest words are copied untested, and Same compares them whole.
 #[test]
 fn latest_words_stand() {
-    let damaged = Damaged::new(|start| put_entry(start, LATEST, 0, [0, 77, u64::MAX]));
+    let damaged = changed(|start| put_entry(start, LATEST, 0, [0, 77, u64::MAX]));
     let reply = damaged.ask("/current?path=//Device//DataItem[@type=\"EXECUTION\"]").unwrap();
     assert_eq!(reply[..7], [1, 3, 6, 7, 0, 77, u64::MAX]);
     let event = Value::Event(9);
-    let damaged = Damaged::new(|start| start.observations[entry(LATEST, 0)[2]] = event.packed(0, Clean));
+    let damaged = changed(|start| start.observations[entry(LATEST, 0)[2]] = event.packed(0, Clean));
     assert_eq!(damaged.observe(0, event), 0);
     // The right value under another item's number is not the same word.
-    let damaged = Damaged::new(|start| start.observations[entry(LATEST, 0)[2]] = event.packed(1, Clean));
+    let damaged = changed(|start| start.observations[entry(LATEST, 0)[2]] = event.packed(1, Clean));
     assert_eq!(damaged.observe(0, event), 7);
 }
 
@@ -431,7 +356,7 @@ fn a_discrete_items_latest_entry_is_not_read() {
     let same = |item| event.packed(item, Clean);
     for word in [same(0), same(2), 0, 2 << 40, 1 << 40, 3 << 40, 0xdead_beef, u64::MAX] {
         for number in [0, 1, 7, u64::MAX] {
-            let damaged = Damaged::of(&DISCRETE, |start| {
+            let damaged = changed_of(&DISCRETE, |start| {
                 [0, 2].into_iter().for_each(|item| put_entry(start, LATEST, item, [number, number, word]));
             });
             assert_eq!(damaged.observe(0, event), 7, "{word:#x}");
@@ -451,7 +376,7 @@ fn a_discrete_items_latest_entry_is_not_read() {
 #[test]
 fn refusals_of_a_discrete_item_in_their_order() {
     let damaged = |spent: bool, head: bool, model: bool| {
-        Damaged::of(&DISCRETE, |start| {
+        changed_of(&DISCRETE, |start| {
             start.observations[RING_PACKED..RING_PACKED + N].fill(u64::MAX);
             start.observations[3] = if spent { END - 1 } else { 6 };
             start.observations[1] += u64::from(head);
@@ -485,12 +410,12 @@ fn refusals_of_a_discrete_item_in_their_order() {
 #[test]
 fn checkpoints_stand() {
     let execution = "/current?at=3&path=//Device//DataItem[@type=\"EXECUTION\"]";
-    let damaged = Damaged::new(|start| put_entry(start, CHECKPOINT, 0, [1_000_000, 77, u64::MAX]));
+    let damaged = changed(|start| put_entry(start, CHECKPOINT, 0, [1_000_000, 77, u64::MAX]));
     assert_eq!(damaged.ask(execution).unwrap()[..7], [1, 3, 6, 7, 1_000_000, 77, u64::MAX]);
-    let damaged = Damaged::new(|start| start.observations[CHECKPOINT] = 0);
+    let damaged = changed(|start| start.observations[CHECKPOINT] = 0);
     assert_eq!(damaged.ask(execution).unwrap()[..4], [0, 3, 6, 7]);
     // An entry of the ring wins.
-    let damaged = Damaged::new(|start| start.observations[entry(CHECKPOINT, 1)[0]] = 1_000_000);
+    let damaged = changed(|start| start.observations[entry(CHECKPOINT, 1)[0]] = 1_000_000);
     let position = "/current?at=4&path=//Device//DataItem[@type=\"POSITION\"]";
     assert_eq!(damaged.ask(position).unwrap()[..5], [1, 3, 6, 7, 4]);
 }
@@ -498,7 +423,7 @@ fn checkpoints_stand() {
 #[test]
 fn heads_of_the_asset_store() {
     for (byte, value) in [(0, 0), (0, 1), (0, 3), (0, 129), (0, 255), (1, 3), (1, 255)] {
-        let damaged = Damaged::new(|start| start.assets[byte] = value);
+        let damaged = changed(|start| start.assets[byte] = value);
         assert_eq!(damaged.store(b"T").0, STORE, "byte {byte} is {value}");
         assert_eq!(damaged.ask("/sample"), Err(2), "byte {byte} is {value}");
         assert_eq!(damaged.body(b"T").1, 0, "byte {byte} is {value}");
@@ -510,7 +435,7 @@ fn heads_of_the_asset_store() {
 #[test]
 fn stored_lengths() {
     for length in [0u16, 511, 512, 65_535] {
-        let damaged = Damaged::new(|start| put_asset(&mut start.assets, 1, b"U", length));
+        let damaged = changed(|start| put_asset(&mut start.assets, 1, b"U", length));
         assert_eq!(damaged.ask("/asset/T").unwrap()[..6], [1, 2, 2, 0, 0, 5]);
         assert_eq!(damaged.ask("/asset/U"), Err(2));
         assert_eq!(damaged.ask("/asset/T;U"), Err(2));
@@ -524,14 +449,14 @@ fn stored_lengths() {
         assert_eq!(cell, 1);
         assert_eq!(left.assets[BODY..BODY + 2], length.to_be_bytes());
         // Above u it is not read.
-        let damaged = Damaged::new(|start| {
+        let damaged = changed(|start| {
             put_asset(&mut start.assets, 1, b"U", length);
             start.assets[1] = 1;
         });
         assert_eq!(damaged.ask("/assets").unwrap()[..6], [1, 1, 2, 0, 0, 5]);
         assert_eq!(damaged.ask("/asset/U"), Err(13));
     }
-    let damaged = Damaged::new(|start| put_asset(&mut start.assets, 1, b"U", 510));
+    let damaged = changed(|start| put_asset(&mut start.assets, 1, b"U", 510));
     assert_eq!(damaged.ask("/asset/U").unwrap()[..6], [1, 2, 2, 0, 1, 510]);
     assert_eq!(damaged.body(b"U"), ((BODY + 512 + 2) as u64, 510));
 }
@@ -539,7 +464,7 @@ fn stored_lengths() {
 /// Where two cells hold the same id the lower one counts, and storing removes that one only.
 #[test]
 fn two_cells_with_one_id() {
-    let damaged = Damaged::new(|start| put_asset(&mut start.assets, 1, b"T", 6));
+    let damaged = changed(|start| put_asset(&mut start.assets, 1, b"T", 6));
     assert_eq!(damaged.ask("/asset/T").unwrap()[..6], [1, 2, 2, 0, 0, 5]);
     assert_eq!(damaged.body(b"T"), ((BODY + 2) as u64, 5));
     let (cell, left) = damaged.store(b"T");
@@ -552,15 +477,15 @@ fn two_cells_with_one_id() {
 /// A cell holds an id when the id and then zeros to its end stand there.
 #[test]
 fn id_cells() {
-    let damaged = Damaged::new(|start| start.assets[ID + 31] = b'x');
+    let damaged = changed(|start| start.assets[ID + 31] = b'x');
     assert_eq!(damaged.ask("/asset/T"), Err(13));
     assert_eq!(damaged.body(b"T").1, 0);
-    let damaged = Damaged::new(|_| {});
+    let damaged = changed(|_| {});
     assert_eq!(damaged.body(b"T").1, 5);
     // Ids that cannot be stored find nothing, though the padded cell begins with them.
     for id in [&b"T\0"[..], b"", b"\0", b"T\0\0\0"] {
         assert_eq!(damaged.body(id).1, 0);
     }
-    let damaged = Damaged::new(|start| put_asset(&mut start.assets, 0, b"T x", 5));
+    let damaged = changed(|start| put_asset(&mut start.assets, 0, b"T x", 5));
     assert_eq!(damaged.body(b"T x").1, 0);
 }
