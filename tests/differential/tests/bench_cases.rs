@@ -50,6 +50,21 @@ fn cases_through_the_calls() {
     }
 }
 
+/// The store behind them has 106 words, and these of them are not 0.
+#[test]
+fn the_cases_store() {
+    let core = core();
+    let session = prepared(&core);
+    let words = &session.pair.expected_observations;
+    assert_eq!(words.len(), 106);
+    assert_eq!(words[..4], [3, 2, 1, 4]);
+    assert_eq!(words[4..7], [1030, 1000, 1010]);
+    assert_eq!(words[7..10], [1_108_101_562_367, 1_099_511_627_776, 1_103_806_600_072]);
+    let entries: Vec<(usize, u64)> = (10..106).map(|at| (at, words[at])).filter(|word| word.1 != 0).collect();
+    let latest = [(10, 1), (18, 4), (26, 1000), (34, 1030), (50, 1_108_101_562_367)];
+    assert_eq!(entries, [&latest[..], &[(58, 1), (74, 1000)]].concat());
+}
+
 /// `benchcase` reads one request and prints number and k, then the reply's words.
 #[cfg(feature = "program")]
 mod program {

@@ -131,6 +131,28 @@ fn wide_native_codes_are_refused() {
             assert_eq!(observe(Value::Condition(level, code)), Err(Refusal::Kind));
         }
     }
-    assert_eq!(observe(Value::Condition(Level::Normal, 1)), Err(Refusal::Kind));
-    assert_eq!(observe(Value::Condition(Level::Warning, (1 << 24) - 1)), Ok(Observed::Recorded(2)));
+    let largest = (1 << 24) - 1;
+    assert_eq!(observe(Value::Condition(Level::Normal, largest)), Ok(Observed::Same));
+    assert_eq!(observe(Value::Condition(Level::Warning, largest)), Ok(Observed::Recorded(2)));
+    assert_eq!(observe(Value::Condition(Level::Normal, largest)), Ok(Observed::Recorded(3)));
+}
+
+/// Eight codes stand on an item, through the wrapper's own sizes; a ninth has its refusal's name.
+#[test]
+fn a_ninth_code_by_its_name() {
+    let (model, names) = ([1, 1, 0, 2 * 65_536], names(&["SYSTEM"]));
+    let mut observations = vec![0; mtcore::observation_words(3, 1)];
+    assert_eq!(observations.len(), 4 + 2 * 3 + 48);
+    let mut assets = vec![0; mtcore::asset_bytes(1)];
+    let sizes = Sizes { places: 3, cells: 1, origin: 1 };
+    mtcore::start(&model, &names, &mut observations, &mut assets, sizes, 1).unwrap();
+    let mut observe = |level, code| {
+        mtcore::observe(&model, &names, &mut observations, 0, 1, 1, Value::Condition(level, code))
+    };
+    for code in 1..=8 {
+        assert_eq!(observe(Level::Warning, code), Ok(Observed::Recorded(1 + u64::from(code))));
+    }
+    assert_eq!(observe(Level::Fault, 9), Err(Refusal::Crowded));
+    assert_eq!(observe(Level::Normal, 9), Ok(Observed::Same));
+    assert_eq!((Refusal::Crowded.number(), Refusal::from_number(19)), (19, Some(Refusal::Crowded)));
 }

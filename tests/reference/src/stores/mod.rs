@@ -164,7 +164,7 @@ impl<F: FaultSet> Stores<F> {
         if self.same_before_form(head, words, item, packed) {
             return Ok(None);
         }
-        let latest = head.standing(words, Table::Latest, item, Fault::ObserveFormUntested, faults)?;
+        let mut latest = head.standing(words, Table::Latest, item, Fault::ObserveFormUntested, faults)?;
         if latest.is_crowded_before_same(packed, faults) {
             return Err(Refusal::Crowded);
         }
@@ -180,9 +180,9 @@ impl<F: FaultSet> Stores<F> {
         if latest.is_crowded_for(packed, faults) {
             return Err(Refusal::Crowded);
         }
-        let room = head.room(words, item, faults)?;
-        let newest = Newest { item, time, packed, standing: Some(latest) };
-        Ok(Some(head.record(words, room, newest, faults)))
+        let place = head.make_room(words, item, faults)?;
+        let newest = Newest { item, time, packed, standing: Some(&mut latest) };
+        Ok(Some(head.record(words, place, newest, faults)))
     }
 
     fn is_same_condition(
@@ -240,9 +240,9 @@ impl<F: FaultSet> Stores<F> {
             return Err(Refusal::Store);
         }
         head.test_other(words, Table::Latest, item, self.faults)?;
-        let room = head.room(words, item, self.faults)?;
+        let place = head.make_room(words, item, self.faults)?;
         let newest = Newest { item, time, packed, standing: None };
-        let number = head.record(words, room, newest, self.faults);
+        let number = head.record(words, place, newest, self.faults);
         if latest.packed == packed && self.faults.has(Fault::RepeatLeavesLatest) {
             head.set_latest(words, item, latest);
         }
@@ -280,21 +280,21 @@ impl<F: FaultSet> Stores<F> {
             return Err(Refusal::Asset);
         }
         let event_for = model.asset_item(self.faults);
-        let room = event_for.map(|item| head.room(words, item, self.faults)).transpose();
-        if room.is_err() && self.faults.has(Fault::StoredThoughSpent) {
+        let place = event_for.map(|item| head.make_room(words, item, self.faults)).transpose();
+        if place.is_err() && self.faults.has(Fault::StoredThoughSpent) {
             cells.store(bytes, id, body, self.faults);
         }
-        let room = room?;
+        let place = place?;
         let before = cells.find(bytes, id, self.faults);
         let cell = cells.store(bytes, id, body, self.faults) as u64;
-        if let Some((item, room)) = event_for.zip(room) {
+        if let Some((item, place)) = event_for.zip(place) {
             let moved_from = before.filter(|_| self.faults.has(Fault::EventCodeBeforeMove));
             let code = moved_from.map_or(cell, |at| at as u64);
             let packed = ((item as u64) << 40) + (EVENT_KIND << 32) + code;
             let equal = head.is_latest(words, item, packed, Clean);
             if !(equal && self.faults.has(Fault::EqualEventDropped)) {
                 let newest = Newest { item, time: host, packed, standing: None };
-                head.record(words, room, newest, self.faults);
+                head.record(words, place, newest, self.faults);
             }
         }
         Ok(cell)

@@ -26,27 +26,19 @@ pub enum Table {
     Checkpoint,
 }
 
-/// Where a further observation goes, and what leaves the ring for it.
-pub struct Room {
-    place: usize,
-    leaves: Option<Leaving>,
-}
-
 /// An observation to be recorded.
-pub struct Newest {
+pub struct Newest<'s> {
     pub item: usize,
     pub time: u64,
     pub packed: u64,
     /// What stands on the item so far, where it is a condition item.
-    pub standing: Option<Standing>,
+    pub standing: Option<&'s mut Standing>,
 }
 
-/// An entry on its way out of the ring.
-struct Leaving {
-    item: usize,
-    row: Row,
-    /// What then stands in a condition item's checkpoint.
-    standing: Option<Standing>,
+/// Entries of the ring that lie side by side.
+struct Run<'a> {
+    times: &'a [u64],
+    packed: &'a [u64],
 }
 
 /// The checked head of an observation store, with the model it was checked against. It stands for the
@@ -241,8 +233,14 @@ impl<'m> Head<'m> {
         (recorded >= self.n()).then(|| self.last + 1 - self.n().min(self.last + 1))
     }
 
-    /// Room for an observation of the item: a number is left, and what leaves the ring is sound.
-    pub fn room<F: FaultSet>(&self, words: &[u64], item: usize, faults: F) -> Result<Room, Refusal> {
+    /// The last check ahead of an observation of the item: a number is left, and what leaves the ring is
+    /// sound. That goes into its checkpoint, and its place is free.
+    pub fn make_room<F: FaultSet>(
+        &self,
+        words: &mut [u64],
+        item: usize,
+        faults: F,
+    ) -> Result<usize, Refusal> {
         self.not_spent(faults)?;
         let place = self.place(self.last + 1, faults);
         let pushed_out = self.pushed_out();
@@ -252,37 +250,37 @@ impl<'m> Head<'m> {
         if read && !sound && !faults.has(Fault::OverwrittenUntested) {
             return Err(Refusal::Store);
         }
-        let Some(number) = pushed_out else {
-            return Ok(Room { place, leaves: None });
-        };
-        let row = Row { number, time: words[self.ring_time(place)], packed };
-        let leaves = self.leaving(words, row, item, faults)?;
-        Ok(Room { place, leaves })
+        if let Some(number) = pushed_out {
+            let row = Row { number, time: words[self.ring_time(place)], packed };
+            self.leave_ring(words, row, item, faults)?;
+        }
+        Ok(place)
     }
 
-    /// What the entry that leaves the ring makes of its item's checkpoint.
-    fn leaving<F: FaultSet>(
+    /// Takes an entry that leaves the ring into its item's checkpoint, where it can.
+    fn leave_ring<F: FaultSet>(
         &self,
-        words: &[u64],
+        words: &mut [u64],
         mut row: Row,
         new_item: usize,
         faults: F,
-    ) -> Result<Option<Leaving>, Refusal> {
+    ) -> Result<(), Refusal> {
         let own = item_of(row.packed) as usize;
         let item = if faults.has(Fault::CheckpointOfNewItem) { new_item } else { own };
         // The item is not there only where a fault let an unsound entry through.
         if item >= self.m || faults.has(Fault::CheckpointNotUpdated) {
-            return Ok(None);
+            return Ok(());
         }
         if faults.has(Fault::CheckpointWrittenOnce) && self.checkpoint(words, item).is_some() {
-            return Ok(None);
+            return Ok(());
         }
         if faults.has(Fault::CheckpointWithNewNumber) {
             row.number = self.last + 1;
         }
         if !self.is_condition(item) {
             self.test_other(words, Table::Checkpoint, item, faults)?;
-            return Ok(Some(Leaving { item, row, standing: None }));
+            write(words, self.entry_at(Table::Checkpoint, item), row);
+            return Ok(());
         }
         let untested = Fault::OverwritingFormUntested;
         let mut standing = self.standing(words, Table::Checkpoint, item, untested, faults)?;
@@ -290,7 +288,8 @@ impl<'m> Head<'m> {
         if standing.is_overfull() && !faults.has(Fault::NinthLostOverwriting) {
             return Err(Refusal::Store);
         }
-        Ok(Some(Leaving { item, row, standing: Some(standing) }))
+        self.set_standing(words, Table::Checkpoint, item, &standing);
+        Ok(())
     }
 
     /// Makes the entry about to be overwritten a sound one: a planted fault.
@@ -298,26 +297,19 @@ impl<'m> Head<'m> {
         words[self.ring_packed(self.place(self.last + 1, faults))] = 0;
     }
 
-    /// Records an observation under the next number, where there is room.
-    pub fn record<F: FaultSet>(&self, words: &mut [u64], room: Room, newest: Newest, faults: F) -> u64 {
-        match room.leaves {
-            Some(Leaving { item, standing: Some(standing), .. }) => {
-                self.set_standing(words, Table::Checkpoint, item, &standing);
-            }
-            Some(Leaving { item, row, .. }) => write(words, self.entry_at(Table::Checkpoint, item), row),
-            None => {}
-        }
+    /// Records an observation under the next number, at a place that is free.
+    pub fn record<F: FaultSet>(&self, words: &mut [u64], place: usize, newest: Newest, faults: F) -> u64 {
         let Newest { item, mut time, packed, standing } = newest;
         if faults.has(Fault::TimesMadeToRise) {
             time = time.max(self.latest(words, item).time);
         }
         let row = Row { number: self.last + 1, time, packed };
-        words[self.ring_time(room.place)] = time;
-        words[self.ring_packed(room.place)] = packed;
+        words[self.ring_time(place)] = time;
+        words[self.ring_packed(place)] = packed;
         match standing {
-            Some(mut standing) => {
+            Some(standing) => {
                 standing.step(row, faults);
-                self.set_standing(words, Table::Latest, item, &standing);
+                self.set_standing(words, Table::Latest, item, standing);
             }
             None => self.set_latest(words, item, row),
         }
@@ -325,23 +317,30 @@ impl<'m> Head<'m> {
         row.number
     }
 
-    /// The ring's entries of the numbers, oldest first: the run up to the ring's end, then the
-    /// run from its beginning.
+    /// The ring's entries of the numbers, oldest first.
     pub fn entries<'a, F: FaultSet>(
         &self,
         words: &'a [u64],
         numbers: Range<u64>,
         faults: F,
     ) -> impl Iterator<Item = Row> + 'a {
+        let [upper, lower] = self.runs(words, &numbers, faults);
+        let words = |run: Run<'a>| run.times.iter().zip(run.packed);
+        words(upper).chain(words(lower)).zip(numbers.start..).map(|((&time, &packed), number)| Row {
+            number,
+            time,
+            packed,
+        })
+    }
+
+    /// The same as they lie: the run up to the ring's end, then the run from its beginning.
+    fn runs<'a, F: FaultSet>(&self, words: &'a [u64], numbers: &Range<u64>, faults: F) -> [Run<'a>; 2] {
         let count = (numbers.end.saturating_sub(numbers.start) as usize).min(self.n);
         let start = self.place(numbers.start, faults);
         let upper = count.min(self.n - start);
         let (times, packed) = words[HEAD..HEAD + 2 * self.n].split_at(self.n);
-        let run = |places: Range<usize>| times[places.clone()].iter().zip(&packed[places]);
-        run(start..start + upper)
-            .chain(run(0..count - upper))
-            .zip(numbers.start..)
-            .map(|((&time, &packed), number)| Row { number, time, packed })
+        let run = |places: Range<usize>| Run { times: &times[places.clone()], packed: &packed[places] };
+        [run(start..start + upper), run(0..count - upper)]
     }
 
     /// What the items stood at, from the held numbers up to `at`. Condition items are looked at where they
@@ -356,18 +355,12 @@ impl<'m> Head<'m> {
         let end = if faults.has(Fault::AtExclusive) { at } else { at + 1 };
         let held = self.first(faults)..end;
         let mut state = self.state_before(words, held.clone(), selected, faults)?;
-        let mut sound = true;
-        self.entries(words, held, faults).for_each(|row| {
-            sound &= self.item_valid(row.packed, faults);
-            let item = (item_of(row.packed) & 63) as usize;
-            state.newest[item] = row.number;
-            if state.conditions >> item & 1 == 1 {
-                state.standing[item].step(row, faults);
-            }
-        });
-        sound |= faults.has(Fault::RingUntested);
+        let [upper, lower] = self.runs(words, &held, faults);
+        let amid = held.start + upper.packed.len() as u64;
+        let sound = state.take(self, held.start, upper, faults) & state.take(self, amid, lower, faults);
         let overfull = state.standing.iter().any(Standing::is_overfull);
-        if !sound || (overfull && !faults.has(Fault::NinthLostAt)) {
+        let unsound = !sound && !faults.has(Fault::RingUntested);
+        if unsound || (overfull && !faults.has(Fault::NinthLostAt)) {
             return Err(Refusal::Store);
         }
         if faults.has(Fault::AtFromLatest) {
@@ -464,6 +457,21 @@ pub struct State {
 
 impl State {
     pub const NONE: State = State { newest: [0; 64], conditions: 0, standing: Vec::new() };
+
+    /// Takes in entries from a number on. Whether all their items are there.
+    fn take<F: FaultSet>(&mut self, head: &Head, from: u64, run: Run, faults: F) -> bool {
+        let State { newest, conditions, standing } = self;
+        let mut sound = true;
+        for ((&time, &packed), number) in run.times.iter().zip(run.packed).zip(from..) {
+            sound &= head.item_valid(packed, faults);
+            let item = (item_of(packed) & 63) as usize;
+            newest[item] = number;
+            if *conditions >> item & 1 == 1 {
+                standing[item].step(Row { number, time, packed }, faults);
+            }
+        }
+        sound
+    }
 }
 
 /// Writes a whole fresh store: one Unavailable for each item, numbered from b.
