@@ -53,6 +53,24 @@ pub fn observe_equal_discrete(stage: &Stage) -> Observe {
     Observe { name, steps: stage.discrete_items().map(step).collect(), recorded: true }
 }
 
+/// On a stage with conditions: each code that stands, at its other level and back.
+pub fn observe_condition(stage: &Stage) -> Observe {
+    let name = format!("observe, a condition of eight, {} name cells", stage.shape.cells);
+    let items: Vec<usize> = stage::condition_items().collect();
+    let mut steps = Vec::new();
+    for change in [OTHER_LEVEL, 0] {
+        for entry in 0..stage::CODES {
+            let step =
+                |&item: &usize| Step { item: item as u64, value: stage.standing(item, entry) ^ change };
+            steps.extend(items.iter().map(step));
+        }
+    }
+    Observe { name, steps, recorded: true }
+}
+
+/// Between Warning, 1, and Fault, 2.
+const OTHER_LEVEL: u64 = 3 << 24;
+
 impl Call for Observe {
     fn name(&self) -> &str {
         &self.name
@@ -198,8 +216,26 @@ pub fn current_at(stage: &Stage) -> Request {
 pub fn current_at_last(stage: &Stage) -> Request {
     let ring_words = stage.packed_words(stage.held());
     let text = format!("/current?at={}", stage.last());
-    Request { ring_words, ..Request::new("current?at, the last number", text, 0, stage.shape.m as u64) }
+    Request { ring_words, ..Request::new(AT_LAST, text, 0, stage.shape.m as u64) }
 }
+
+/// On a stage with conditions: eight items with eight rows each.
+pub fn current_conditions(stage: &Stage) -> Request {
+    Request { name: CURRENT_CONDITIONS.into(), rows: rows_of_conditions(stage), ..current(stage) }
+}
+
+pub fn current_at_conditions(stage: &Stage) -> Request {
+    Request { name: AT_CONDITIONS.into(), rows: rows_of_conditions(stage), ..current_at_last(stage) }
+}
+
+fn rows_of_conditions(stage: &Stage) -> u64 {
+    let further = stage::condition_items().count() * (stage::CODES - 1);
+    (stage.shape.m + further) as u64
+}
+
+pub const CURRENT_CONDITIONS: &str = "current, eight items with eight conditions";
+pub const AT_LAST: &str = "current?at, the last number";
+pub const AT_CONDITIONS: &str = "current?at, the last number, a tenth conditions";
 
 pub fn named_assets() -> Request {
     let ids: Vec<_> = [5, 64, 127].map(|number| String::from_utf8(stage::id(number)).expect("ASCII")).into();

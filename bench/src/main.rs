@@ -33,6 +33,7 @@ fn main() {
     let rows = calls_of_a_full_box(rounds, wanted.as_deref().unwrap_or(""));
     table::print_calls(&rows);
     table::print_deliveries(&rows, &NAME_CELLS);
+    table::print_conditions(&rows);
     table::print_floors(&rows);
     table::print_cold(&longest_calls(wanted.as_deref().unwrap_or("")));
     if wanted.is_none() {
@@ -74,6 +75,10 @@ fn calls_of_a_full_box(rounds: usize, wanted: &str) -> Vec<Row> {
     rows.add(&calls::current(&stage), &stage);
     rows.add(&calls::current_at(&stage), &stage);
     rows.add(&calls::current_at_last(&stage), &stage);
+    let conditions = stage.with_conditions();
+    rows.add(&calls::observe_condition(&conditions), &conditions);
+    rows.add(&calls::current_conditions(&conditions), &conditions);
+    rows.add(&calls::current_at_conditions(&conditions), &conditions);
     rows.add(&calls::named_assets(), &stage);
     rows.add(&calls::all_assets(), &stage);
     rows.add(&calls::refused_text(), &stage);

@@ -2,6 +2,7 @@
 
 use crate::calls::RECORDS;
 use crate::sides;
+use differential::offers::condition;
 use differential::rng::Rng;
 use differential::worlds::cell;
 use reference::stores::{asset_bytes, observation_words};
@@ -61,8 +62,16 @@ impl Stage {
             answers: vec![0; RECORDS],
         };
         stage.begin();
-        stage.fill_assets();
-        stage.fill_ring();
+        stage.fill_ring(steps(shape, shape.n / 4 * 7));
+        stage
+    }
+
+    /// The same with conditions: about a tenth of what was recorded is of eight items, on each of which eight
+    /// codes stand.
+    pub fn with_conditions(&self) -> Stage {
+        let mut stage = self.clone();
+        stage.begin();
+        stage.fill_ring(with_conditions(stage.shape, stage.shape.n / 4 * 7));
         stage
     }
 
@@ -81,11 +90,13 @@ impl Stage {
         items.filter(|(_, &word)| word / CATEGORY == DISCRETE).map(|(item, _)| item)
     }
 
+    /// A start, and the assets.
     fn begin(&mut self) {
         let Shape { n, a, .. } = self.shape;
         let Stage { model, names, observations, assets, .. } = self;
         let begun = sides::reference().start(model, names, observations, assets, n as u64, a as u64, 1, HOST);
         assert_eq!(begun, (0, 0));
+        self.fill_assets();
     }
 
     fn fill_assets(&mut self) {
@@ -99,8 +110,8 @@ impl Stage {
     }
 
     /// Seven quarters of the ring, so that the oldest half runs over the ring's end.
-    fn fill_ring(&mut self) {
-        for Step { item, value } in steps(self.shape, self.shape.n / 4 * 7) {
+    fn fill_ring(&mut self, steps: Vec<Step>) {
+        for Step { item, value } in steps {
             let Stage { model, names, observations, .. } = self;
             let number = sides::reference().observe(model, names, observations, item, HOST, HOST, value);
             assert!((1..1 << 63).contains(&number));
@@ -146,29 +157,53 @@ impl Stage {
 
     /// The newest value of an item, as observe takes it.
     pub fn latest(&self, item: usize) -> u64 {
+        self.standing(item, 0)
+    }
+
+    /// The value of one of an item's entries, as observe takes it.
+    pub fn standing(&self, item: usize, entry: usize) -> u64 {
         let Shape { n, m, .. } = self.shape;
-        self.observations[4 + 2 * n + 2 * m + item] % (1 << 40)
+        self.observations[4 + 2 * n + CODES * (2 * m + item) + entry] % (1 << 40)
     }
 }
 
-/// Changing values for items in a mixed order; the asset-change item, the last, is left out.
+/// Codes on each of the items that conditions stand on, as many as may.
+pub const CODES: usize = 8;
+
+/// The items that conditions stand on, where any do.
+pub fn condition_items() -> impl Iterator<Item = usize> {
+    (0..8).map(|item| 3 * item + 2)
+}
+
+/// Changing values for items in a mixed order. Condition items are left out, and the asset-change item, the
+/// last.
 pub fn steps(shape: Shape, count: usize) -> Vec<Step> {
     let mut rng = Rng::new(shape.m as u64);
+    let items: Vec<u64> = (0..shape.m as u64 - 1).filter(|item| item % 3 != 2).collect();
     let step = |index| {
-        let item = rng.below(shape.m as u64 - 1);
+        let item = *rng.pick(&items);
         Step { item, value: value(item, index as u64 + 1) }
     };
     (0..count).map(step).collect()
 }
 
-/// A value of the item's category, by a running number.
-fn value(item: u64, number: u64) -> u64 {
-    let low = number % (1 << 24);
-    match item % 3 {
-        0 => (1 << 32) + low,
-        1 => (2 << 32) + low,
-        _ => (3 << 32) + (1 << 24) + low,
+/// The same with conditions in the place of about a tenth: items and codes in turn, whose levels change from
+/// round to round.
+fn with_conditions(shape: Shape, count: usize) -> Vec<Step> {
+    let mut rng = Rng::new(shape.n as u64);
+    let items: Vec<usize> = condition_items().collect();
+    let mut steps = steps(shape, count);
+    for (turn, step) in steps.iter_mut().filter(|_| rng.percent(10)).enumerate() {
+        let (code, round) = (turn / items.len() % CODES, turn / items.len() / CODES);
+        let item = items[turn % items.len()] as u64;
+        *step = Step { item, value: condition(1 + round as u64 % 2, code as u64 + 1) };
     }
+    steps
+}
+
+/// A sample or an event, by a running number.
+fn value(item: u64, number: u64) -> u64 {
+    ((item % 3 + 1) << 32) + number % (1 << 24)
 }
 
 /// Ids of twelve bytes that differ in their last.

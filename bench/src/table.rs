@@ -48,6 +48,33 @@ pub fn print_deliveries(rows: &[Row], name_cells: &[usize]) {
     }
 }
 
+/// What `at` over a ring with conditions may take of the time over one without.
+const OF_WITHOUT: f64 = 2.0;
+
+/// The calls about conditions, those that have a row. A missed aim is said and fails nothing.
+pub fn print_conditions(rows: &[Row]) {
+    let of_conditions: Vec<&Row> = rows.iter().filter(|row| row.name.contains("condition")).collect();
+    if of_conditions.is_empty() {
+        return;
+    }
+    println!("\nConditions, with their aims:\n");
+    println!("| call | core ns | core / reference | aim | core / without conditions | aim |");
+    println!("|---|---:|---:|---|---:|---|");
+    for row in of_conditions {
+        let without = rows.iter().find(|other| other.name == calls::AT_LAST);
+        let without = without.filter(|_| row.name == calls::AT_CONDITIONS).map(|other| other.core);
+        println!(
+            "| {} | {} | {} | {} | {} | {} |",
+            row.name,
+            nanoseconds(row.core),
+            ratio(row.core, row.reference),
+            aim(row.core / row.reference, OF_REFERENCE),
+            without.map_or("–".into(), |without| ratio(row.core, without)),
+            without.map_or("–".into(), |without| aim(row.core / without, OF_WITHOUT)),
+        );
+    }
+}
+
 /// Judged as it is printed, to a hundredth.
 fn aim(ratio: f64, most: f64) -> String {
     let kept = if (100.0 * ratio).round() <= 100.0 * most { "kept" } else { "MISSED" };
