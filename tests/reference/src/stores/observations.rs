@@ -382,10 +382,10 @@ impl<'m> Head<'m> {
     ) -> Result<State, Refusal> {
         let mut state = State::NONE;
         for item in items(self.tested(selected, faults)) {
-            if self.cleared_unasked(words, held.clone(), item, faults) {
-                continue;
+            let unasked = self.cleared_unasked(words, held.clone(), item, faults);
+            if !unasked && !faults.has(Fault::AtFormUntested) {
+                self.used(words, Table::Checkpoint, item, faults)?;
             }
-            self.standing(words, Table::Checkpoint, item, Fault::AtFormUntested, faults)?;
         }
         let stepped = if faults.has(Fault::NineUnselectedRefused) { u64::MAX } else { selected };
         state.conditions = self.conditions(stepped);
