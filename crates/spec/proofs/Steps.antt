@@ -53,12 +53,15 @@ unfolding usedRows
 used-three [] t = tt
 used-three (r ∷ rs) t = by-test (eqb (getD r 0 0) 0) (λ e. rw e tt) (λ e. rw e (t .0, used-three rs (t .1)))
 
+three-more : (r : List ℕ) (rs : List (List ℕ)) → length r ≡ 3 → Threes rs → Threes (r ∷ rs)
+three-more r rs h t = (h, t)
+
 entered-three : (own : ℕ) (r : List ℕ) (es : List (List ℕ)) → length r ≡ 3 → Threes es → Threes (entered own r es)
 unfolding entered
 entered-three own r [] h t = (h, tt)
 entered-three own r (e ∷ es) h t =
-    by-test (activeAs own (codeField (packed r)) (packed e)) (λ f. rw f (h, t .1))
-    (λ f. rw f (t .0, entered-three own r es h (t .1)))
+    by-test (activeAs own (codeField (packed r)) (packed e)) (λ f. rw f (three-more r es h (t .1)))
+    (λ f. rw f (three-more e (entered own r es) (t .0) (entered-three own r es h (t .1))))
 
 cleared-three : (own c : ℕ) (es : List (List ℕ)) → Threes es → Threes (cleared own c es)
 unfolding cleared
@@ -67,7 +70,7 @@ cleared-three own c (e ∷ es) t =
     by-test (activeAs own c (packed e)) (λ f. rw f (t .1)) (λ f. rw f (t .0, cleared-three own c es (t .1)))
 
 alone-three : (r : List ℕ) (es : List (List ℕ)) → length r ≡ 3 → Threes es → Threes (orAlone r es)
-alone-three r [] h t = (h, tt)
+alone-three r [] h t = three-more r [] h tt
 alone-three r (e ∷ es) h t = t
 
 pub step-three : (own : ℕ) (es : List (List ℕ)) (r : List ℕ) → length r ≡ 3 → Threes es → Threes (step own es r)
