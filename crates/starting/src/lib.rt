@@ -1,4 +1,4 @@
-// What start does behind the check of model and names: the sizes and lengths are refused, or both stores are made anew.
+// What start does behind the check of model and names: sizes and lengths are refused, or both stores are made anew.
 ghost use mathlib.Core.Path.{_≡_};
 ghost use Prim.Native.Nat.{_≤_};
 ghost use Rattle.spec.specs.Model.{Sizes, maxItems, items, category};
