@@ -29,13 +29,10 @@ module _ (ms : List ℕ) (key : ℕ) {j : ℕ} (e : j ≡ placeOf key ms) where
   unfolding clearedJudged
   cleared-none h = rw (← e, h)
 
-  pub cleared-free : (j ≡ 8 → ⊥) → getD ms j 0 ≡ 0 → Repeated ≡ clearedJudged ms key
+  pub cleared-by : (j ≡ 8 → ⊥) → {mark : ℕ} → getD ms j 0 ≡ mark → {found : Judged} → found ≡ repeatedIf (eqb mark 0)
+      → found ≡ clearedJudged ms key
   unfolding clearedJudged
-  cleared-free h z = rw (← e, ne-eqb j 8 h, z)
-
-  pub cleared-there : (j ≡ 8 → ⊥) → (getD ms j 0 ≡ 0 → ⊥) → New ≡ clearedJudged ms key
-  unfolding clearedJudged
-  cleared-there h z = rw (← e, ne-eqb j 8 h, ne-eqb (getD ms j 0) 0 z)
+  cleared-by h z q = q ∙ rw (← e, ne-eqb j 8 h, z)
 
   module _ (rs : List (List ℕ)) (word : ℕ) where
     pub raised-none : j ≡ 8 → Crowded ≡ raisedJudged rs ms key word
@@ -48,13 +45,9 @@ module _ (ms : List ℕ) (key : ℕ) {j : ℕ} (e : j ≡ placeOf key ms) where
       raised-free z = rw (← e, ne-eqb j 8 h, z)
 
       module _ (z : getD ms j 0 ≡ 0 → ⊥) {number time there : ℕ} (r : getD rs j [] ≡ number ∷ time ∷ there ∷ []) where
-        pub raised-same : there ≡ word → Repeated ≡ raisedJudged rs ms key word
+        pub raised-by : {found : Judged} → found ≡ repeatedIf (eqb there word) → found ≡ raisedJudged rs ms key word
         unfolding raisedJudged
-        raised-same q = rw (← e, ne-eqb j 8 h, ne-eqb (getD ms j 0) 0 z, r, eq-eqb there word q)
-
-        pub raised-level : (there ≡ word → ⊥) → New ≡ raisedJudged rs ms key word
-        unfolding raisedJudged
-        raised-level q = rw (← e, ne-eqb j 8 h, ne-eqb (getD ms j 0) 0 z, r, ne-eqb there word q)
+        raised-by q = q ∙ rw (← e, ne-eqb j 8 h, ne-eqb (getD ms j 0) 0 z, r)
 
 -- ---- the branches are what is found
 

@@ -159,10 +159,7 @@ fn judge_raised(st: &[u64], w: u64, t: u64, k: u64, marks: &[u64], key: u64, wor
         return Judged::New;
     }
     let row = observations::row_at(st, w, t, k + j);
-    if row.packed == word {
-        return Judged::Repeated;
-    }
-    Judged::New
+    repeated_if(row.packed == word)
 }
 
 // What observe finds of a Normal whose code, not 0, has this key: it repeats where no entry has it.
@@ -174,10 +171,7 @@ fn judge_cleared(marks: &[u64], key: u64) -> Judged
     if j == spec::ENTRIES {
         return Judged::Repeated;
     }
-    if marks[j as usize] == 0 {
-        return Judged::Repeated;
-    }
-    Judged::New
+    repeated_if(marks[j as usize] == 0)
 }
 
 // What observe finds in item own's eight latest entries, of a packed word.

@@ -1,7 +1,7 @@
 -- The place of the key decides, and the row there.
 use lib.Seq.{getD-take}
 use Rattle.entries.proofs.Filling.{row-of}
-use Rattle.entries.proofs.Judging.{raised-none, raised-free, raised-same, raised-level}
+use Rattle.entries.proofs.Judging.{raised-none, raised-free, raised-by}
 use native.Mathlib.Omega.{arith}
 use Prim.Native.Nat.{_<_}
 use mathlib.Core.Path.{sym, _∙_}
@@ -35,6 +35,9 @@ add-row-at c = search needs
 row-at-requires : tie.Need-row-at-requires
 row-at-requires c κs = search needs
 
+repeated-if-requires : tie.Need-repeated-if-requires
+repeated-if-requires c κs = search needs
+
 returns-3 : tie.Need-returns-3
 returns-3 c =
     let r = c .before .before in
@@ -44,20 +47,8 @@ returns-3 c =
     let s = f .before .before .before in
     let h : f .find .result < 8 = omega (arith, n .if1 .left) in
     let t = getD-take 8 (s .args .marks .now) (f .find .result) 0 h in
-    raised-same _ _ (f .find .ensures .0) _ _ (n .if1 .left) (λ z. u .if2 .left (sym t ∙ z))
-    (row-of (s .args .st .now) _ _ 8 _ _ h ∙ r .row-at .ensures) (c .if3 .taken)
-
-returns-4 : tie.Need-returns-4
-returns-4 c =
-    let r = c .before .before in
-    let u = r .before in
-    let n = u .before .before in
-    let f = n .before in
-    let s = f .before .before .before in
-    let h : f .find .result < 8 = omega (arith, n .if1 .left) in
-    let t = getD-take 8 (s .args .marks .now) (f .find .result) 0 h in
-    raised-level _ _ (f .find .ensures .0) _ _ (n .if1 .left) (λ z. u .if2 .left (sym t ∙ z))
-    (row-of (s .args .st .now) _ _ 8 _ _ h ∙ r .row-at .ensures) (c .if3 .left)
+    raised-by _ _ (f .find .ensures .0) _ _ (n .if1 .left) (λ z. u .if2 .left (sym t ∙ z))
+    (row-of (s .args .st .now) _ _ 8 _ _ h ∙ r .row-at .ensures) (c .repeated-if .ensures)
 
 pub judge-raised-spec : {M : Type 1} → statement M
 judge-raised-spec =
@@ -70,5 +61,5 @@ judge-raised-spec =
     returns-2
     add-row-at
     row-at-requires
-    returns-3
-    returns-4)
+    repeated-if-requires
+    returns-3)
