@@ -3,7 +3,7 @@
 use Prim.Native.Nat.{ℕ, suc, _+_, _-_, _*_, _^_, _≤_, _<_}
 use mathlib.Core.Path.{_≡_, refl, sym, _∙_}
 use mathlib.Core.Logic.{_≢_, inl, inr}
-use mathlib.Core.Bool.{Bool, true, false, cond}
+use mathlib.Core.Bool.{Bool, true, false, cond, true≢false, false≢true}
 use mathlib.Core.List.{List, [], _∷_, _++_}
 use native.Mathlib.Omega.{arith}
 use native.Mathlib.Nat.{sub-zero, add-zero}
@@ -19,7 +19,7 @@ use Rattle.spec.specs.Entries.{step, usedRows, formOk}
 use Rattle.spec.specs.Observations.{maxNumber, ringSize, base, last, lastAt, ringAt, latestAt, checkpointAt, place}
 use Rattle.spec.specs.Observations.{Head, itemAt, itemRows, isCondition, overwrites, overwritten, setNewest, evict}
 use Rattle.spec.specs.Observations.{evictOk, add, blank, addAll, startStore, latestOk}
-use Rattle.spec.specs.Calls.{roomFor}
+use Rattle.spec.specs.Calls.{roomFor, added}
 use Rattle.spec.specs.Reference.{Observation}
 use Rattle.spec.specs.declared.Refusal.the-variants.{Spent, Store}
 use Rattle.spec.specs.declared.Value.the-variants.{Unavailable}
@@ -35,7 +35,15 @@ use Rattle.spec.proofs.Rows.{form-ok, evict-ok}
 use Rattle.spec.proofs.Start.{blank-rep}
 use Rattle.observations.specs.Ring.{ringTime, ringWord}
 use Rattle.entries.specs.Forms.{Table, takesOne}
-use Rattle.recording.specs.Writing.{Overwriting, InTable, Starting, overwritable}
+use Rattle.recording.specs.Writing.{InRing, Overwriting, InTable, Starting, overwritable, Tried}
+
+-- ---- a way that was tried, and one that was not open
+
+pub tried : {Open : Type 0} {old new after : List ℕ} → Open → after ≡ new → Tried true Open old new after
+tried o e = record { done = λ t. (o, e); left = λ t. absurd (true≢false t) }
+
+pub untried : {Open : Type 0} {old new after : List ℕ} → after ≡ old → Tried false Open old new after
+untried e = record { done = λ t. absurd (false≢true t); left = λ t. e }
 
 -- ---- a table that takes an observation; k is the number of items that the code has
 
@@ -105,11 +113,11 @@ module _ (cat : ℕ → ℕ) (n m b s p w : ℕ) (st : List ℕ) (hp : p ≡ pla
     item-there = rw (hi, hw, hp)
 
     -- what its item's checkpoint asks
-    pub goes-in : Overwriting cat n m b s st → m ≤ maxItems → InTable cat m (checkpointAt n m) i st
-    goes-in o k =
+    pub goes-in : Overwriting cat n m b s st → InTable cat m (checkpointAt n m) i st
+    goes-in o =
         record {
           low = rw item-there (evict-item cat n m b s st (o .ok) (le-leb _ _ u));
-          room = omega (arith, o .len);
+          room = omega (arith, o .ring .len);
           form = over-form cat n m st w i hi (sym (by-word u) ∙ o .ok);
         }
 
@@ -118,9 +126,23 @@ module _ (cat : ℕ → ℕ) (n m b s p w : ℕ) (st : List ℕ) (hp : p ≡ pla
     unfolding evict row
     evicted e t ht q = rw (le-leb _ _ u, q, ht, hi, hw, hp)
 
+    -- as its one row, where its item has no conditions
+    pub plain-evicted : (e : List ℕ) (time k t : ℕ) → i < m → cat i ≢ 2 → k ≡ m → t ≡ checkpointAt n k
+        → time ≡ ringTime st n p → e ≡ put st t (8 * k) (8 * i) ((s - n) ∷ time ∷ w ∷ [])
+        → Tried true (evictOk cat n m b s st ≡ true) st (evict cat n m b s st) e
+    plain-evicted e time k t l c ek et ht q =
+        tried (by-word u ∙ sym (over-plain cat n m st w i hi l c))
+        (evicted e time ht (newest-row cat st (checkpointAt n m) m m i refl _ e c (rw (et, ek) at q)))
+
 pub not-evicted : (cat : ℕ → ℕ) (n m b s : ℕ) (st : List ℕ) → s - b < n → st ≡ evict cat n m b s st
 unfolding evict
 not-evicted cat n m b s st u = rw (lt-leb _ _ u)
+
+-- an unused place is free
+pub free-place : (cat : ℕ → ℕ) (n m b s : ℕ) (st : List ℕ) → s - b < n
+    → Tried true (evictOk cat n m b s st ≡ true) st (evict cat n m b s st) st
+unfolding evictOk
+free-place cat n m b s st u = tried (rw (lt-leb _ _ u)) (not-evicted cat n m b s st u)
 
 -- ---- the room for a number
 
@@ -145,17 +167,29 @@ module _ (cat : ℕ → ℕ) (st : List ℕ) (m n b l : ℕ) (hn : n ≡ ringSiz
         let e = by-word cat n m b (l + 1) p w st hp hw u in
         rw (left, ← e, hn, hb, hl, add-one (last st))
 
+    -- what may be overwritten leaves room
+    pub room-left : evictOk cat n m b (l + 1) st ≡ true → roomFor cat m st ≡ Fine
+    unfolding roomFor
+    room-left ok = rw (left, rw (hn, hb, hl, add-one (last st)) at ok)
+
 -- ---- adding
 
--- a head with room for a number: the next one may be written
-pub next-fits : {cat : ℕ → ℕ} {m n b l : ℕ} {st : List ℕ} → n ≡ ringSize st → b ≡ base st → l ≡ last st → Head m st
-    → roomFor cat m st ≡ Fine → Overwriting cat n m b (l + 1) st
-next-fits {cat} {m} {n} {b} {l} {st} en eb el h e =
+-- the next number has its place, and with room for it may be written
+pub next-ring : {m n b l : ℕ} {st : List ℕ} → n ≡ ringSize st → b ≡ base st → l ≡ last st → Head m st
+    → InRing n m b (l + 1) st
+next-ring en eb el h =
     record {
       n-pos = omega (arith, h .n-pos);
       n-max = omega (arith, h .n-max);
       b-s = omega (arith, h .b-last);
       len = rw en (h .len);
+    }
+
+pub next-fits : {cat : ℕ → ℕ} {m n b l : ℕ} {st : List ℕ} → n ≡ ringSize st → b ≡ base st → l ≡ last st → Head m st
+    → roomFor cat m st ≡ Fine → Overwriting cat n m b (l + 1) st
+next-fits {cat} {m} {n} {b} {l} {st} en eb el h e =
+    record {
+      ring = next-ring en eb el h;
       ok = rw (en, eb, el, add-one (last st)) (room-for cat m st e .1);
     }
 
@@ -165,10 +199,10 @@ pub latest-form : (cat : ℕ → ℕ) (n m : ℕ) (st : List ℕ) (i : ℕ) → 
 unfolding latestOk
 latest-form cat n m st i ok c = form-less i (itemRows st (latestAt n) m i) (rw c at ok)
 
-module _ {cat : ℕ → ℕ} {n m b s item : ℕ} {st : List ℕ} (o : Overwriting cat n m b s st) (k : m ≤ maxItems) where
-  pub latest-in : item < m → (isCondition cat item ≡ true → formOk item 0 (itemRows st (latestAt n) m item) ≡ true)
-      → InTable cat m (latestAt n) item st
-  latest-in l f = record { low = l; room = omega (arith, o .len); form = f }
+pub latest-in : {cat : ℕ → ℕ} {n m b s item : ℕ} {st : List ℕ} → Overwriting cat n m b s st → item < m
+    → (isCondition cat item ≡ true → formOk item 0 (itemRows st (latestAt n) m item) ≡ true)
+    → InTable cat m (latestAt n) item st
+latest-in o l f = record { low = l; room = omega (arith, o .ring .len); form = f }
 
 -- the latest stays through the eviction and the ring's entry
 module _ (cat : ℕ → ℕ) (n m b s : ℕ) (st : List ℕ) (o : Overwriting cat n m b s st) where
@@ -215,6 +249,11 @@ pub written : (cat : ℕ → ℕ) (n m b s item time word p t : ℕ) (st x y z v
 unfolding add
 written cat n m b s item time word p t st x y z v ex ep ey et ez ev = rw (ev, ez, et, ey, ex, ep)
 
+-- the next number, by what the head has
+pub added-next : (cat : ℕ → ℕ) (m n b l item time word : ℕ) (st v : List ℕ) → n ≡ ringSize st → b ≡ base st
+    → l ≡ last st → v ≡ add cat n m b (l + 1) item time word st → v ≡ added cat m st item time word
+added-next cat m n b l item time word st v hn hb hl q = rw (hn, hb, hl, add-one (last st)) at q
+
 -- ---- start
 
 -- start's loop: k items are added, as the reference model holds them, and the rest makes the whole
@@ -253,16 +292,13 @@ module _ {cat : ℕ → ℕ} {n m b host k : ℕ} {st : List ℕ} (f : Filling c
   pub filling-fits : Starting n m b → Overwriting cat n m b (b + k) st
   filling-fits s =
       record {
-        n-pos = s .n-pos;
-        n-max = s .n-max;
-        b-s = omega arith;
-        len = f .rep .words;
+        ring = record { n-pos = s .n-pos; n-max = s .n-max; b-s = omega arith; len = f .rep .words };
         ok = rw (f .count) at at-count;
       }
 
-  pub filling-in : Starting n m b → m ≤ maxItems → k < m → InTable cat m (latestAt n) k st
-  filling-in s h l =
-      latest-in (filling-fits s) h l
+  pub filling-in : Starting n m b → k < m → InTable cat m (latestAt n) k st
+  filling-in s l =
+      latest-in (filling-fits s) l
       (λ c.
       form-ok cat (latestAt n) m (f .held) st (f .rep .latest) (right cat n m b (f .held) st (f .rep)) k l c
       (few-all cat n m b (f .held) st (f .rep) k c) 0 (omega arith))

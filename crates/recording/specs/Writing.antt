@@ -1,7 +1,7 @@
 -- What a number that is written, a table that takes an observation and a start need of the store.
 use Prim.Native.Nat.{ℕ, suc, _+_, _*_, _≤_, _<_}
 use mathlib.Core.Path.{_≡_}
-use mathlib.Core.Bool.{Bool, true, _&&_, _||_, not}
+use mathlib.Core.Bool.{Bool, true, false, _&&_, _||_, not}
 use mathlib.Core.List.{List, [], _∷_}
 use lib.Dec.{leb, ltb}
 use lib.ListN.{length}
@@ -10,12 +10,16 @@ use Rattle.spec.specs.Entries.{formOk}
 use Rattle.spec.specs.Observations.{maxRing, maxNumber, storeWords, checkpointAt, itemRows, isCondition, stepped}
 use Rattle.spec.specs.Observations.{evictOk}
 
--- number s may be added: what it overwrites, if anything, has an item below m whose checkpoint takes it
-pub record Overwriting (cat : ℕ → ℕ) (n m b s : ℕ) (st : List ℕ) : Type 0 where
+-- number s has a place in the ring of a store of these sizes
+pub record InRing (n m b s : ℕ) (st : List ℕ) : Type 0 where
   pub n-pos : 1 ≤ n
   pub n-max : n ≤ maxRing
   pub b-s : b ≤ s
   pub len : length st ≡ storeWords n m
+
+-- and may be added: what it overwrites, if anything, has an item below m whose checkpoint takes it
+pub record Overwriting (cat : ℕ → ℕ) (n m b s : ℕ) (st : List ℕ) : Type 0 where
+  pub ring : InRing n m b s st
   pub ok : evictOk cat n m b s st ≡ true
 
 -- an item's rows of the table at word t: a condition item's have their written form
@@ -32,6 +36,11 @@ overwritable cat n m st word =
     && (not (isCondition cat i)
     || (formOk i 0 (itemRows st (checkpointAt n m) m i)
     && leb (length (stepped st (checkpointAt n m) m i (0 ∷ 0 ∷ word ∷ []))) 8))
+
+-- a way that was tried: where it was open, new words behind it; where it was not, the old ones
+pub record Tried (r : Bool) (Open : Type 0) (old new after : List ℕ) : Type 0 where
+  pub done : r ≡ true → Open × (after ≡ new)
+  pub left : r ≡ false → after ≡ old
 
 -- the sizes and the first number that start accepts
 pub record Starting (n m b : ℕ) : Type 0 where

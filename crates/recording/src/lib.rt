@@ -1,14 +1,15 @@
 // Numbers given to observations: whether one is left, adding with eviction, and the store that start makes.
 ghost use mathlib.Core.Path.{_≡_};
-ghost use mathlib.Core.Bool.{true};
+ghost use mathlib.Core.Bool.{true, false};
+ghost use mathlib.Core.List.{[], _∷_};
 ghost use Prim.Native.Nat.{_<_};
 ghost use lib.ListN.{length};
 ghost use Rattle.spec.specs.Model.{Sizes, items, category};
-ghost use Rattle.spec.specs.Observations.{Head, ringSize, latestAt, storeWords, place, evict, add, latestOk};
-ghost use Rattle.spec.specs.Observations.{startStore};
+ghost use Rattle.spec.specs.Observations.{Head, ringSize, latestAt, storeWords, setNewest, evict, add, latestOk};
+ghost use Rattle.spec.specs.Observations.{isCondition, evictOk, startStore};
 ghost use Rattle.spec.specs.Calls.{roomFor, added};
 ghost use Rattle.spec.specs.declared.Verdict.the-variants.{Fine};
-ghost use Rattle.recording.specs.Writing.{Overwriting, Starting, InTable, overwritable};
+ghost use Rattle.recording.specs.Writing.{InRing, Overwriting, Starting, InTable, overwritable, Tried};
 use spec::Refusal;
 use spec::Value;
 use spec::Verdict;
@@ -57,34 +58,45 @@ pub fn room_for(model: &[u32], st: &[u64]) -> Verdict
     Verdict::Refused(Refusal::Store)
 }
 
-// The entry at place p, which number s is about to overwrite, if any, goes to its item's checkpoint.
-fn evict(model: &[u32], st: &mut [u64], n: u64, b: u64, s: u64, p: u64)
+// The table at word t takes an observation of the item: the entries of a condition item, or another's one row.
+fn set_newest(model: &[u32], st: &mut [u64], t: u64, item: u64, number: u64, time: u64, word: u64)
+    requires { ⌜ Sizes (now model) ⌝ }
+    requires { ⌜ InTable (category (now model)) (items (now model)) t item (now st) ⌝ }
+    ensures { λ r. ⌜
+        now (st .exit)
+        ≡ setNewest (category (now (model .entry))) (now (st .entry)) t (items (now (model .entry))) item
+        (number ∷ time ∷ word ∷ [])
+        ⌝ }
+{
+    let w = spec::ENTRIES * model::items(model);
+    let k = spec::ENTRIES * item;
+    let category = model::category(model, item);
+    if category == spec::CONDITION {
+        entries::step(st, w, t, k, item, number, time, word);
+    } else {
+        observations::put_row(st, w, t, k, number, time, word);
+    }
+}
+
+// The entry that number s is about to overwrite, if any, goes to its item's checkpoint.
+fn evict(model: &[u32], st: &mut [u64], n: u64, b: u64, s: u64)
     requires { ⌜ Sizes (now model) ⌝ }
     requires { ⌜ Overwriting (category (now model)) n (items (now model)) b s (now st) ⌝ }
-    requires { ⌜ p ≡ place n b s ⌝ }
-    requires { ⌜ p < n ⌝ }
     ensures { λ r. ⌜
         now (st .exit) ≡ evict (category (now (model .entry))) n (items (now (model .entry))) b s (now (st .entry))
         ⌝ }
 {
     if n <= s - b {
-        let time = observations::ring_time(st, n, p);
-        let word = observations::ring_word(st, n, p);
+        let oldest = observations::place(n, b, s);
+        let time = observations::ring_time(st, n, oldest);
+        let word = observations::ring_word(st, n, oldest);
         let item = value::item_of(word);
-        let m = model::items(model);
-        let checkpoint = observations::checkpoint_at(n, m);
-        let w = spec::ENTRIES * m;
-        let k = spec::ENTRIES * item;
-        if model::category(model, item) == spec::CONDITION {
-            entries::step(st, w, checkpoint, k, item, s - n, time, word);
-        } else {
-            observations::put_row(st, w, checkpoint, k, s - n, time, word);
-        }
+        let checkpoint = observations::checkpoint_at(n, model::items(model));
+        set_newest(model, st, checkpoint, item, s - n, time, word);
     }
 }
 
-// Number s: the overwritten entry's checkpoint, the ring, the item's latest, and last. The category is asked here and
-// in evict, so that the step of entries is a call of its own and a plain item's record stays short enough to inline.
+// Number s: the overwritten entry's checkpoint, the ring, the item's latest, and last.
 fn write(model: &[u32], st: &mut [u64], n: u64, b: u64, s: u64, item: u64, time: u64, word: u64)
     requires { ⌜ Sizes (now model) ⌝ }
     requires { ⌜ Overwriting (category (now model)) n (items (now model)) b s (now st) ⌝ }
@@ -94,17 +106,11 @@ fn write(model: &[u32], st: &mut [u64], n: u64, b: u64, s: u64, item: u64, time:
         ≡ add (category (now (model .entry))) n (items (now (model .entry))) b s item time word (now (st .entry))
         ⌝ }
 {
+    evict(model, st, n, b, s);
     let p = observations::place(n, b, s);
-    evict(model, st, n, b, s, p);
     observations::put_ring(st, n, p, time, word);
     let latest = observations::latest_at(n);
-    let w = spec::ENTRIES * model::items(model);
-    let k = spec::ENTRIES * item;
-    if model::category(model, item) == spec::CONDITION {
-        entries::step(st, w, latest, k, item, s, time, word);
-    } else {
-        observations::put_row(st, w, latest, k, s, time, word);
-    }
+    set_newest(model, st, latest, item, s, time, word);
     observations::set_last(st, s);
 }
 
@@ -125,6 +131,70 @@ pub fn add(model: &[u32], st: &mut [u64], item: u64, time: u64, word: u64)
     let b = observations::base(st, m);
     let last = observations::last(st, m);
     write(model, st, n, b, last + 1, item, time, word);
+}
+
+// The entry that number s is about to overwrite, if any, goes to its item's checkpoint as its one row. False, and
+// nothing is changed, where it has no item of the model or one with conditions.
+fn evict_plain(model: &[u32], st: &mut [u64], n: u64, b: u64, s: u64) -> bool
+    requires { ⌜ Sizes (now model) ⌝ }
+    requires { ⌜ InRing n (items (now model)) b s (now st) ⌝ }
+    ensures { λ r. ⌜
+        (let old = now (st .entry) in
+        let cat = category (now (model .entry)) in
+        let m = items (now (model .entry)) in
+        Tried r (evictOk cat n m b s old ≡ true) old (evict cat n m b s old) (now (st .exit)))
+        ⌝ }
+{
+    if s - b < n {
+        return true;
+    }
+    let m = model::items(model);
+    let at = observations::place(n, b, s);
+    let time = observations::ring_time(st, n, at);
+    let word = observations::ring_word(st, n, at);
+    let item = value::item_of(word);
+    if m <= item {
+        return false;
+    }
+    if model::category(model, item) == spec::CONDITION {
+        return false;
+    }
+    let t = observations::checkpoint_at(n, m);
+    let k = spec::ENTRIES * item;
+    observations::put_row(st, spec::ENTRIES * m, t, k, s - n, time, word);
+    true
+}
+
+// The short way of room_for and add, which most observations take: one more of an item without conditions, where the
+// entry that it overwrites, if any, is of such an item too. False, and nothing is changed, where there is more to it.
+pub fn add_plain(model: &[u32], st: &mut [u64], item: u64, time: u64, word: u64) -> bool
+    requires { ⌜ Sizes (now model) ⌝ }
+    requires { ⌜ Head (items (now model)) (now st) ⌝ }
+    requires { ⌜ (item < items (now model)) × (isCondition (category (now model)) item ≡ false) ⌝ }
+    ensures { λ r. ⌜
+        (let old = now (st .entry) in
+        let cat = category (now (model .entry)) in
+        let m = items (now (model .entry)) in
+        Tried r (roomFor cat m old ≡ Fine) old (added cat m old item time word) (now (st .exit)))
+        ⌝ }
+{
+    let m = model::items(model);
+    let n = observations::ring_size(st, m);
+    let b = observations::base(st, m);
+    let s = observations::last(st, m) + 1;
+    if spec::MAX_NUMBER < s {
+        return false;
+    }
+    if !evict_plain(model, st, n, b, s) {
+        return false;
+    }
+    let at = observations::place(n, b, s);
+    observations::put_ring(st, n, at, time, word);
+    let latest = observations::latest_at(n);
+    let k = spec::ENTRIES * item;
+    observations::put_row(st, spec::ENTRIES * m, latest, k, s, time, word);
+    observations::set_last(st, s);
+    true
 }
 
 // The store that start makes, whatever stood there: each item in turn Unavailable, the first with number b.

@@ -1,6 +1,6 @@
 // The value of an observation: which an item takes, its packed word, and back.
 ghost use mathlib.Core.Path.{_≡_};
-ghost use Prim.Native.Nat.{_<_, _^_};
+ghost use Prim.Native.Nat.{_+_, _*_, _<_, _^_};
 ghost use Rattle.spec.specs.Value.{lowWord, levelNumber, valueWord, pack, itemOf, nativeOk, takes};
 ghost use Rattle.spec.specs.Value.{sampleOf, levelOf, decodeKind, decode};
 use spec::Level;
@@ -135,4 +135,27 @@ pub fn decode(word: u64) -> Value
         return condition_of(low);
     }
     Value::Condition(Level::Normal, 4294967295)
+}
+
+// Whether an item of the category takes the value of a word: takes of decode, by the word alone.
+pub fn takes_word(category: u64, word: u64) -> bool
+    ensures { λ r. ⌜ r ≡ takes category (decode word) ⌝ }
+{
+    let kind = word / 4294967296;
+    if category < 2 {
+        return kind == category + 1 || word == 0;
+    }
+    if category == spec::CONDITION {
+        let front = word / 16777216;
+        return word == 0 || (768 <= front && front <= 770);
+    }
+    category == spec::DISCRETE && (kind == 2 || word == 0)
+}
+
+// The packed word of an item and the word of a value: any item below 2^24 fits.
+pub fn pack_word(item: u64, word: u64) -> u64
+    requires { ⌜ (item < 2 ^ 24) × (word < 2 ^ 40) ⌝ }
+    ensures { λ r. ⌜ r ≡ item * 2 ^ 40 + word ⌝ }
+{
+    item * 1099511627776 + word
 }

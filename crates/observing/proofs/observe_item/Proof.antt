@@ -3,10 +3,9 @@ use mathlib.Core.Path.{_≡_, refl}
 use native.Mathlib.Omega.{arith}
 use borrow.Author.Tests.{not-true, not-false}
 use Rattle.spec.specs.Model.{items, category}
-use Rattle.spec.specs.Calls.{roomFor, observeBy, observeItem}
-use Rattle.spec.proofs.Words.{told}
-use Rattle.entries.specs.declared.Judged.{Judged}
-use Rattle.observing.proofs.Laws.{foundGives, item-refused, kind-refused, by-found, new-latest}
+use Rattle.spec.specs.Calls.{observeItem}
+use Rattle.observing.specs.Found.{observedBy}
+use Rattle.observing.proofs.Laws.{item-refused, kind-refused, passed, short-done}
 use borrow.Author.Needs.{needs}
 use Rattle.observing.proofs.observe_item.Statement.{statement}
 use Rattle.observing.proofs.observe_item.Tie as tie
@@ -36,72 +35,55 @@ returns-2 c =
 pack-requires : tie.Need-pack-requires
 pack-requires c κs = search needs
 
-find-requires : tie.Need-find-requires
-find-requires c κs = search needs
-
-enum-told : tie.Need-enum-told
-enum-told c = search needs
-
-enum-told-2 : tie.Need-enum-told-2
-enum-told-2 c = search needs
-
-enum-told-3 : tie.Need-enum-told-3
-enum-told-3 c = search needs
-
-enum-told-4 : tie.Need-enum-told-4
-enum-told-4 c = search needs
-
-record-requires : tie.Need-record-requires
-record-requires c κs =
-    let v = c .before in
-    let f = v .before .before in
-    let p = f .before .before .before .before .before .before .before .before .before .before .pre in
-    let new = told (f .find .ensures) (v .enum-told4 .given .1) in
-    (p .0, (p .1, (omega arith, new-latest _ _ _ _ _ _ new)))
-
-same-length : tie.Need-same-length
-same-length c = search needs
-
--- behind the tests, what is found decides
-by-find : (c : tie.After-find) (j : Judged) → c .find .result ≡ j →
-    let p = c .before .before in
-    let a = p .before .before .before .before .before .before .before .before .args in
-    let cat = category (a .model .now) in
-    let m = items (a .model .now) in
+-- behind the checks, what is found decides
+through : (c : tie.After-observe-short) →
+    let a = c .before .before .before .before .before .before .before .before .before .before .args in
     let st = a .observations .now in
     observeItem (a .model .now) st (a .item) (a .time) (a .value)
-    ≡ foundGives j (observeBy (roomFor cat m st) cat m st (a .item) (a .time) (p .pack .result)) st
-by-find c j e =
+    ≡ observedBy (category (a .model .now)) (items (a .model .now)) st (a .item) (a .time)
+    (c .before .before .pack .result)
+through c =
     let p = c .before .before in
     let t = p .before .before in
     let k = t .before in
     let i = k .before in
-    by-found _ _ _ _ _ _ (i .before .items .ensures .0) (i .if1 .left) _ (k .category .ensures)
-    (t .takes .ensures) (not-false _ (p .before .if2 .left)) _ (p .pack .ensures) (c .find .ensures) e
+    passed _ _ _ _ _ _ (i .before .items .ensures .0) (i .if1 .left) _ (k .category .ensures) (t .takes .ensures)
+    (not-false _ (p .before .if2 .left)) _ (p .pack .ensures)
+
+observe-short-requires : tie.Need-observe-short-requires
+observe-short-requires c κs = search needs
+
+short-answer-requires : tie.Need-short-answer-requires
+short-answer-requires c κs = search needs
+
+same-length : tie.Need-same-length
+same-length c = search needs
 
 returns-3 : tie.Need-returns-3
-returns-3 c = rw (by-find (c .before .before) _ (c .enum-told .given .1)) (refl, refl)
+returns-3 c =
+    let t = c .before in
+    let o = t .before .before .before in
+    rw (through o) (short-done (o .observe-short .ensures) (t .if3 .taken) (c .short-answer .ensures))
+
+observe-long-requires : tie.Need-observe-long-requires
+observe-long-requires c κs =
+    let t = c .before in
+    let o = t .before .before .before in
+    let k = o .before .before .before .before .before in
+    let p = k .before .before .before .before .before .pre in
+    let e = o .observe-short .ensures in
+    let u = e .left (t .if3 .left) in
+    (p .0, (rw u (p .1), ((omega arith, k .category .ensures), rw u (e .new (t .if3 .left)))))
 
 same-length-2 : tie.Need-same-length-2
 same-length-2 c = search needs
 
 returns-4 : tie.Need-returns-4
-returns-4 c = rw (by-find (c .before .before) _ (c .enum-told2 .given .1)) (refl, refl)
-
-same-length-3 : tie.Need-same-length-3
-same-length-3 c = search needs
-
-returns-5 : tie.Need-returns-5
-returns-5 c = rw (by-find (c .before .before) _ (c .enum-told3 .given .1)) (refl, refl)
-
-same-length-4 : tie.Need-same-length-4
-same-length-4 c = search needs
-
-returns-6 : tie.Need-returns-6
-returns-6 c =
-    let r = c .before .before in
-    let v = r .before .before in
-    rw (by-find (v .before .before) _ (v .enum-told4 .given .1)) (r .record .ensures)
+returns-4 c =
+    let l = c .before .before in
+    let t = l .before .before in
+    let o = t .before .before .before in
+    rw (through o) (rw (o .observe-short .ensures .left (t .if3 .left)) at (l .observe-long .ensures))
 
 pub observe-item-spec : {M : Type 1} → statement M
 observe-item-spec =
@@ -113,17 +95,10 @@ observe-item-spec =
     takes-requires
     returns-2
     pack-requires
-    find-requires
-    enum-told
-    enum-told-2
-    enum-told-3
-    enum-told-4
-    record-requires
+    observe-short-requires
+    short-answer-requires
     same-length
     returns-3
+    observe-long-requires
     same-length-2
-    returns-4
-    same-length-3
-    returns-5
-    same-length-4
-    returns-6)
+    returns-4)

@@ -28,7 +28,7 @@ write-requires c κs =
     let p = n .before .before .before .before .before .pre in
     let o = next-fits (n .ring-size .ensures .0) (b .base .ensures) (l .last .ensures .0) (p .1 .0) (p .1 .1 .0) in
     let f = latest-form _ _ _ _ _ (p .1 .1 .1 .1) in
-    (p .0, (o, latest-in o (p .0 .m-max) (p .1 .1 .1 .0) (rw (n .ring-size .ensures .0) f)))
+    (p .0, (o, latest-in o (p .1 .1 .1 .0) (rw (n .ring-size .ensures .0) f)))
 
 same-length : tie.Need-same-length
 same-length c = search needs

@@ -38,7 +38,7 @@ write-requires c κs =
     let l = c .before .before .before in
     let p = l .before .before .before .before .before .before .before .before .pre in
     let f = l .loop .inv in
-    (p .0, (filling-fits f (p .1 .0), filling-in f (p .1 .0) (p .0 .m-max) (omega arith)))
+    (p .0, (filling-fits f (p .1 .0), filling-in f (p .1 .0) (omega arith)))
 
 add-item : tie.Need-add-item Inv-loop μ-loop
 add-item c = search needs
