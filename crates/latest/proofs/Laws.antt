@@ -1,6 +1,7 @@
 -- Laws of the latest entries: an item's used rows one after another, and the rows beyond the first of each item.
 use Prim.Native.Nat.{ℕ, zero, suc, _+_, _-_, _*_, _^_, _≤_, _<_}
 use mathlib.Core.Path.{_≡_, refl, sym, ap, _∙_}
+use mathlib.Core.Logic.{_≢_}
 use mathlib.Core.Bool.{Bool, true, false, cond, _&&_, _||_, not, and-false}
 use mathlib.Core.List.{List, [], _∷_}
 use native.Mathlib.Numerals.{add-one}
@@ -8,17 +9,19 @@ use native.Mathlib.Omega.{arith}
 use lib.Count.{ones}
 use lib.Dec.{leb, eqb}
 use lib.ListN.{length, getD, set}
-use borrow.Author.Tests.{eq-eqb, ne-eqb, le-leb, lt-leb}
+use borrow.Author.Tests.{eq-eqb, ne-eqb, le-leb, lt-leb, leb-true, leb-false, eqb-true, eqb-false}
 use Rattle.spec.specs.Words.{every, bit, row}
-use Rattle.spec.specs.Blocks.{tableRows, extraRows}
+use Rattle.spec.specs.Blocks.{tableRows, flatRows, extraRows}
 use Rattle.spec.specs.Entries.{usedRows, formOk}
 use Rattle.spec.specs.Model.{maxItems}
 use Rattle.spec.specs.Observations.{Head, ringSize, latestAt, isCondition, itemRows, latestRows}
 use Rattle.spec.specs.Observations.{currentOk, currentRows}
 use Rattle.spec.specs.Reply.{numbers, pairs}
-use Rattle.spec.proofs.Words.{and-right, by-cond, every-no, every-yes, every-end}
+use Rattle.spec.proofs.Words.{by-test, and-left, and-right, by-cond, every-at, every-no, every-yes, every-end}
 use Rattle.spec.proofs.Bits.{rows-ones}
 use Rattle.spec.proofs.Pass.{current-count}
+use Rattle.entries.proofs.Filling.{rows-many}
+use Rattle.entries.proofs.Marks.{used-max}
 use Rattle.entries.specs.Forms.{Table, filled}
 use Rattle.entries.specs.declared.Filled.the-variants.{Used, Broken as Unformed}
 use Rattle.rows.specs.Rows.{rowsAt, rowsInto}
@@ -26,7 +29,7 @@ use Rattle.rows.specs.declared.Counted.the-variants.{Count, Broken}
 use Rattle.rows.proofs.Writing.{rows-more}
 use Rattle.rows.proofs.Flat.{Left, left-start, FlatWriting, flat-start, flat-room, flat-more, flat-skip, flat-end}
 use Rattle.rows.proofs.Laws.{count-is, broken-is}
-use Rattle.latest.specs.Latest.{extraIn}
+use Rattle.latest.specs.Latest.{extraIn, firstRow, firstRows}
 
 -- ---- eight rows from row x on, one after another
 
@@ -55,25 +58,23 @@ module _ (st : List ℕ) (t w x j : ℕ) where
   unfolding tableRows usedRows
   used-end h = let q : 8 - j ≡ 0 = omega arith in rw q
 
--- eight rows have at most eight used ones
-used-few : (rs : List (List ℕ)) → length (usedRows rs) ≤ length rs
-unfolding usedRows
-used-few [] = omega arith
-used-few (r ∷ rs) =
-    by-cond (λ x. length x ≤ suc (length rs)) (eqb (getD r 0 0) 0) [] (r ∷ usedRows rs)
-    (λ e. omega arith) (λ e. omega (arith, used-few rs))
+no-rows : (rs : List (List ℕ)) → length rs ≡ 0 → rs ≡ []
+no-rows [] e = refl
+no-rows (r ∷ rs) e = absurd (omega arith)
 
-table-length : (st : List ℕ) (t w n k : ℕ) → length (tableRows st t w n k) ≡ n
-unfolding tableRows
-table-length st t w zero k = refl
-table-length st t w (suc n) k = ap suc (table-length st t w n (suc k))
+-- behind as many turns as there are entries, or rows left
+pub used-over : (st : List ℕ) (t w x j k d c most : ℕ) → (most < 8 → most ≡ k - d) → most ≤ j → c ≡ d + j
+    → c + length (usedFrom st t w x j) ≤ k → usedFrom st t w x j ≡ []
+used-over st t w x j k d c most h b e f =
+    by-test (leb 8 most) (λ i. used-end st t w x j (omega (arith, leb-true 8 most i)))
+    (λ i. no-rows _ (omega (arith, h (omega (arith, leb-false 8 most i)))))
 
 latest-few : (cat : ℕ → ℕ) (N m : ℕ) (st : List ℕ) (i : ℕ) → length (latestRows cat N m st i) ≤ 8
 latest-few cat N m st i =
     by-cond (λ x. length x ≤ 8) (isCondition cat i) _ _
     (λ e.
     let rs = itemRows st (latestAt N) m i in
-    omega (arith, used-few rs, table-length st (latestAt N) (8 * m) 8 (8 * i)))
+    omega (arith, used-max rs, rows-many st (latestAt N) (8 * m) 8 (8 * i)))
     (λ e. omega arith)
 
 -- ---- rows beyond the first of each
@@ -324,3 +325,99 @@ module _ {cat : ℕ → ℕ} {m : ℕ} {st : List ℕ} {selection k : ℕ} {o l 
           let r : b ≡ rowsAt l c (k + 2 * c) (latestRows cat (ringSize st) m st i) =
           rw (plain-rows st i ea en et cat e) eb in
           record { put = rw one at (flat-more (v .put) h s r) }
+
+-- ---- one row of each
+
+-- c of the k rows are written: the first entries of the selected items below i
+pub record Firsts (m : ℕ) (st : List ℕ) (selection k : ℕ) (o l : List ℕ) (c i : ℕ) : Type 0 where
+  pub put : FlatWriting (bit selection) (firstRow st m) m k o l c i
+
+pub firsts-start : (m : ℕ) (st : List ℕ) (selection k : ℕ) (o : List ℕ) → k ≡ length (firstRows st m selection)
+    → Firsts m st selection k o o 0 0
+unfolding firstRows
+firsts-start m st selection k o e = record { put = flat-start _ _ m k o e }
+
+module _ {m : ℕ} {st : List ℕ} {selection k : ℕ} {o l : List ℕ} {c i : ℕ} (v : Firsts m st selection k o l c i) where
+  pub firsts-end : m ≤ i → l ≡ rowsInto o k (firstRows st m selection)
+  unfolding firstRows
+  firsts-end h = flat-end (v .put) h
+
+  pub firsts-out : i < m → bit selection i ≡ false → Firsts m st selection k o l c (i + 1)
+  firsts-out h s = record { put = flat-skip (v .put) h s }
+
+  module _ (h : i < m) (s : bit selection i ≡ true) where
+    pub firsts-room : c < k
+    firsts-room = omega (arith, flat-room (v .put) h s)
+
+    pub firsts-more : {n t : ℕ} → n ≡ ringSize st → t ≡ latestAt n → {b : List ℕ}
+        → b ≡ rowsAt l c (k + 2 * c) (tableRows st t (8 * m) 1 (8 * i)) → Firsts m st selection k o b (c + 1) (i + 1)
+    unfolding tableRows
+    firsts-more en et eb = record { put = flat-more (v .put) h s (rw (et, en) at eb) }
+
+-- where each selected item has one row, it is its first entry
+used-one : (r : List ℕ) (rs : List (List ℕ)) → length (usedRows (r ∷ rs)) ≡ 1 → usedRows (r ∷ rs) ≡ r ∷ []
+unfolding usedRows
+used-one r rs e =
+    by-test (eqb (getD r 0 0) 0)
+    (λ t. absurd (let z : _≡_ {A = ℕ} 0 1 = rw t at e in omega arith))
+    (λ t. rw t (ap (λ (x : List (List ℕ)). r ∷ x) (no-rows (usedRows rs) (let z = rw t at e in omega arith))))
+
+used-first : (st : List ℕ) (t w x : ℕ) → length (usedRows (tableRows st t w 8 x)) ≡ 1
+    → usedRows (tableRows st t w 8 x) ≡ row st t w x 3 ∷ []
+unfolding tableRows
+used-first st t w x e = used-one _ _ e
+
+flat-same : (p : ℕ → Bool) (v u : ℕ → List (List ℕ)) (n s : ℕ)
+    → ((i : ℕ) → s ≤ i → i < s + n → p i ≡ true → v i ≡ u i) → flatRows p v n s ≡ flatRows p u n s
+unfolding flatRows
+flat-same p v u zero s f = refl
+flat-same p v u (suc n) s f =
+    let q = flat-same p v u n (suc s) (λ i h g. f i (omega arith) (omega arith)) in
+    by-test (p s) (λ t. rw (t, f s (omega arith) (omega arith) t, q)) (λ t. rw (t, q))
+
+extra-at : (p : ℕ → Bool) (v : ℕ → List (List ℕ)) (n s : ℕ) → extraRows p v n s ≡ 0 → (i : ℕ) → s ≤ i → i < s + n
+    → p i ≡ true → length (v i) ≤ 1
+unfolding extraRows
+extra-at p v zero s e i h g t = absurd (omega arith)
+extra-at p v (suc n) s e i h g t =
+    by-test (eqb i s)
+    (λ b. let z = rw (← eqb-true i s b, t) at e in omega arith)
+    (λ b.
+    let q = eqb-false i s b in
+    let z : s ≢ i = (λ y. q (sym y)) in
+    extra-at p v n (suc s) (omega arith) i (omega arith) (omega arith) t)
+
+module _ (cat : ℕ → ℕ) (m : ℕ) (st : List ℕ) (selection : ℕ)
+    (ok : currentOk cat (ringSize st) m st selection ≡ true) where
+  first-alone : (i : ℕ) → i < m → bit selection i ≡ true → length (latestRows cat (ringSize st) m st i) ≤ 1
+      → latestRows cat (ringSize st) m st i ≡ firstRow st m i
+  unfolding currentOk formOk
+  first-alone i h b l =
+      by-test (isCondition cat i)
+      (λ c.
+      let f = and-left (leb 1 (length (usedRows (itemRows st (latestAt (ringSize st)) m i)))) _
+      (rw (b, c) at (every-at _ m 0 i ok (omega arith) (omega arith))) in
+      let g : 1 ≤ length (usedRows (itemRows st (latestAt (ringSize st)) m i)) = leb-true 1 _ f in
+      let u : length (usedRows (itemRows st (latestAt (ringSize st)) m i)) ≤ 1 = rw c at l in
+      rw c (used-first st (latestAt (ringSize st)) (8 * m) (8 * i) (omega (arith, g, u))))
+      (λ c. rw c)
+
+  all-first : {k : ℕ} → selection < 2 ^ m → k ≡ length (currentRows cat (ringSize st) m st selection)
+      → k ≡ ones selection → currentRows cat (ringSize st) m st selection ≡ firstRows st m selection
+  unfolding currentRows firstRows
+  all-first h e o =
+      let v : ℕ → List ℕ = λ i. [] in
+      let z : allExtra cat m st selection ≡ 0 =
+      omega (arith, rows-ones selection v m h, current-count cat (ringSize st) m st selection v ok) in
+      flat-same (bit selection) (latestRows cat (ringSize st) m st) (firstRow st m) m 0
+      (λ i l g b.
+      first-alone i (omega arith) b (extra-at (bit selection) (latestRows cat (ringSize st) m st) m 0 z i l g b))
+
+  module _ {k a : ℕ} (h : selection < 2 ^ m) (e : k ≡ length (currentRows cat (ringSize st) m st selection))
+      (o : k ≡ ones selection) (ea : a ≡ m) where
+    pub first-count : k ≡ length (firstRows st a selection)
+    first-count = rw (ea, ← all-first h e o) e
+
+    pub first-all : {b : List ℕ} (l : List ℕ) → b ≡ rowsInto l k (firstRows st a selection)
+        → b ≡ rowsInto l k (currentRows cat (ringSize st) m st selection)
+    first-all l eb = rw (all-first h e o, ← ea) eb

@@ -1,14 +1,15 @@
 // The rows of current: the latest entries of the selected items, counted and written.
 ghost use mathlib.Core.Path.{_≡_};
-ghost use Prim.Native.Nat.{_+_, _*_, _≤_, _<_};
+ghost use mathlib.Core.Bool.{true};
+ghost use Prim.Native.Nat.{_+_, _*_, _^_, _≤_, _<_};
 ghost use lib.ListN.{length};
 ghost use Rattle.spec.specs.Blocks.{tableRows};
 ghost use Rattle.spec.specs.Entries.{usedRows};
-ghost use Rattle.spec.specs.Model.{Sizes, items, category};
-ghost use Rattle.spec.specs.Observations.{Head, ringSize, currentRows};
+ghost use Rattle.spec.specs.Model.{Sizes, maxItems, items, category};
+ghost use Rattle.spec.specs.Observations.{Head, ringSize, currentRows, currentOk};
 ghost use Rattle.entries.specs.Forms.{Table};
 ghost use Rattle.rows.specs.Rows.{rowsAt, rowsInto};
-ghost use Rattle.latest.specs.Latest.{extraIn};
+ghost use Rattle.latest.specs.Latest.{extraIn, firstRows};
 use entries::Filled;
 use rows::Counted;
 
@@ -42,6 +43,13 @@ pub fn extra(model: &[u32], st: &[u64], selection: u64) -> Counted
     Counted::Count(extra)
 }
 
+// The lesser of two.
+fn fewer(a: u64, b: u64) -> u64
+    ensures { λ r. ⌜ (r ≤ a) × (r < a → r ≡ b) ⌝ }
+{
+    if b < a { b } else { a }
+}
+
 // The used ones of eight entries, the rows from row x on of the table of w rows at word t, where `done` of the k rows
 // are written; how many are written then.
 fn write_entries(st: &[u64], w: u64, t: u64, x: u64, done: u64, k: u64, out: &mut [u64]) -> u64
@@ -53,9 +61,11 @@ fn write_entries(st: &[u64], w: u64, t: u64, x: u64, done: u64, k: u64, out: &mu
         ≡ rowsAt (now (out .entry)) done (k + 2 * done) (usedRows (tableRows (now (st .entry)) t w 8 x))
         ⌝ }
 {
+    // a number of turns that the compiler doesn't know keeps it from writing the loop out eight times
+    let most = fewer(spec::ENTRIES, k - done);
     let mut c = done;
     let mut j: u64 = 0;
-    while j < spec::ENTRIES {
+    while j < most {
         let row = observations::row_at(st, w, t, x + j);
         if row.number == 0 {
             return c;
@@ -79,8 +89,28 @@ fn write_first(st: &[u64], w: u64, t: u64, x: u64, done: u64, k: u64, out: &mut 
     rows::write_row(out, done, k + 2 * done, row.number, row.time, row.packed);
 }
 
-// Current: the rows of the selected items' latest entries, which are k.
-pub fn write_latest(model: &[u32], st: &[u64], selection: u64, k: u64, out: &mut [u64])
+// The first entry of each selected item, where these are the k rows.
+fn write_firsts(st: &[u64], m: u64, selection: u64, k: u64, out: &mut [u64])
+    requires { ⌜ Head m (now st) ⌝ }
+    requires { ⌜ m ≤ maxItems ⌝ }
+    requires { ⌜ (k ≡ length (firstRows (now st) m selection)) × (3 * k ≤ length (now out)) ⌝ }
+    ensures { λ r. ⌜ now (out .exit) ≡ rowsInto (now (out .entry)) k (firstRows (now (st .entry)) m selection) ⌝ }
+{
+    let w = spec::ENTRIES * m;
+    let t = observations::latest_at(observations::ring_size(st, m));
+    let mut c: u64 = 0;
+    let mut i: u64 = 0;
+    while i < m {
+        if selection::has(selection, i) {
+            write_first(st, w, t, spec::ENTRIES * i, c, k, out);
+            c += 1;
+        }
+        i += 1;
+    }
+}
+
+// The rows of the selected items' latest entries, which are k: of each as many as it has.
+fn write_each(model: &[u32], st: &[u64], selection: u64, k: u64, out: &mut [u64])
     requires { ⌜ Sizes (now model) ⌝ }
     requires { ⌜ Head (items (now model)) (now st) ⌝ }
     requires { ⌜
@@ -109,5 +139,33 @@ pub fn write_latest(model: &[u32], st: &[u64], selection: u64, k: u64, out: &mut
             }
         }
         i += 1;
+    }
+}
+
+// Current: the rows of the selected items' latest entries, which are k. Most often there is one to an item, whatever
+// its category.
+pub fn write_latest(model: &[u32], st: &[u64], selection: u64, k: u64, out: &mut [u64])
+    requires { ⌜ Sizes (now model) ⌝ }
+    requires { ⌜ Head (items (now model)) (now st) ⌝ }
+    requires { ⌜
+        (let cat = category (now model) in
+        let m = items (now model) in
+        (selection < 2 ^ m) × (currentOk cat (ringSize (now st)) m (now st) selection ≡ true))
+        ⌝ }
+    requires { ⌜
+        k ≡ length (currentRows (category (now model)) (ringSize (now st)) (items (now model)) (now st) selection)
+        ⌝ }
+    requires { ⌜ 3 * k ≤ length (now out) ⌝ }
+    ensures { λ r. ⌜
+        (let cat = category (now (model .entry)) in
+        let m = items (now (model .entry)) in
+        let rows = currentRows cat (ringSize (now (st .entry))) m (now (st .entry)) selection in
+        now (out .exit) ≡ rowsInto (now (out .entry)) k rows)
+        ⌝ }
+{
+    if k == selection::count(selection) {
+        write_firsts(st, model::items(model), selection, k, out);
+    } else {
+        write_each(model, st, selection, k, out);
     }
 }

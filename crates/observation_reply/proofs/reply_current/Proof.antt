@@ -7,7 +7,7 @@ use Rattle.spec.specs.Model.{items, category}
 use Rattle.spec.proofs.Words.{told}
 use Rattle.rows.specs.declared.Counted.the-variants.{Count}
 use Rattle.latest.specs.Latest.{extraIn}
-use Rattle.latest.proofs.Laws.{extra-few}
+use Rattle.latest.proofs.Laws.{extra-few, extra-ok}
 use Rattle.reply.proofs.Laws.{behind, lends, both}
 use Rattle.observation_reply.proofs.Laws.{current-broken, current-many, current-short, current-whole}
 use borrow.Author.Needs.{needs}
@@ -105,7 +105,10 @@ write-latest-requires c κs =
     let p = s .pre in
     let n = current-many _ _ (s .args .st .now) (s .args .selection) (s .args .reply .now) (extra-is x) (p .1 .1)
     (coun .count .ensures .0) in
-    (p .0, (p .1 .0, (n, lends (fs .fit-sizes .ensures) (not-false _ (if1 .if1 .left)) _ (omega arith))))
+    let ok = extra-ok (category (s .args .model .now)) _ _ _ (extra-is x) in (
+      p .0,
+      (p .1 .0, ((p .1 .1, ok), (n, lends (fs .fit-sizes .ensures) (not-false _ (if1 .if1 .left)) _ (omega arith)))),
+    )
 
 same-length-2 : tie.Need-same-length-2
 same-length-2 c = search needs
