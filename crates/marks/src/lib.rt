@@ -2,12 +2,14 @@
 // its entry's row, from 1 on, times 2^32, and a key: 0 where the entry isn't active, else its code and 1. An unused
 // entry's mark is 0.
 ghost use mathlib.Core.Path.{_≡_};
+ghost use mathlib.Core.Bool.{true, not};
 ghost use Prim.Native.Nat.{_+_, _*_, _^_, _≤_, _<_};
 ghost use lib.ListN.{length};
 ghost use lib.Seq.{sets};
 ghost use Rattle.spec.specs.Entries.{normal, codeField};
 ghost use Rattle.marks.specs.Marks.{markOf, placeIn, keyIn, keyOf, eightAt, placeOf};
 ghost use Rattle.marks.specs.Marks.{raisedFor, clearedFor, changeFor, without, aloneWith, changed, ChangeFits};
+ghost use Rattle.marks.specs.Marked.{isFull};
 
 // A mark's place is counted in these.
 const PLACE: u64 = 4294967296;
@@ -203,4 +205,23 @@ pub fn apply(words: &mut [u64], k: usize, change: Change, x: u64)
         Change::Stay => {}
         Change::Full => {}
     }
+}
+
+// A Warning or Fault where others are active, done to their marks at once, x being its own: to its code's place, or
+// behind the last; false behind eight. Most observations of a condition are this one.
+pub fn raise(marks: &mut [u64], k: usize, key: u64, x: u64) -> bool
+    requires { ⌜ k + 8 ≤ length (now marks) ⌝ }
+    ensures { λ r. ⌜ r ≡ not (isFull (raisedFor key (eightAt (now (marks .entry)) k))) ⌝ }
+    ensures { λ r. ⌜
+        (r ≡ true →
+        let ms = eightAt (now (marks .entry)) k in
+        now (marks .exit) ≡ sets (now (marks .entry)) k (changed 0 (raisedFor key ms) x ms))
+        ⌝ }
+{
+    let j = find(marks, k, key);
+    if j == spec::ENTRIES {
+        return false;
+    }
+    marks[k + (j as usize)] = x;
+    true
 }

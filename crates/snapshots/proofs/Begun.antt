@@ -1,4 +1,4 @@
--- The marks that the checkpoints give: each selected item's eight, and what a loop that writes them knows.
+-- The marks that the checkpoints give: each condition item's eight, and what a loop that writes them knows.
 use Prim.Native.Nat.{ℕ, zero, suc, _+_, _-_, _*_, _≤_, _<_}
 use mathlib.Core.Path.{_≡_, refl, sym, ap, _∙_}
 use mathlib.Core.Bool.{Bool, true, false, cond, _||_, not}
@@ -6,27 +6,26 @@ use mathlib.Core.List.{List, [], _∷_, map}
 use native.Mathlib.Numerals.{add-one}
 use native.Mathlib.Omega.{arith}
 use lib.Dec.{eqb}
-use lib.ListN.{length, getD, set, drop, replicate, length-replicate, replicate-append-replicate}
+use lib.ListN.{length, getD, drop, replicate, length-replicate, replicate-append-replicate}
 use lib.Seq.{sets, length-sets}
 use borrow.Author.Tests.{ne-eqb, eqb-true, eqb-false, lt-ltb}
 use Rattle.spec.specs.Words.{bit, every, row}
 use Rattle.spec.specs.Model.{maxItems}
 use Rattle.spec.specs.Blocks.{tableRows, padded, unused}
 use Rattle.spec.specs.Entries.{eachRow, zeroRow, usedRows, formOk, packed}
-use Rattle.spec.specs.Observations.{ringSize, checkpointAt, itemRows, itemRow}
+use Rattle.spec.specs.Observations.{ringSize, checkpointAt, itemRows}
 use Rattle.spec.proofs.Words.{by-test, and-left, and-right, every-no, every-yes, every-end}
 use Rattle.spec.proofs.Steps.{used-formed}
 use Rattle.marks.specs.Marks.{markOf, keyOf, eightAt}
-use Rattle.marks.proofs.Laws.{put-is, sets-same}
 use Rattle.marks.proofs.Steps.{key-small, mark-place}
 use Rattle.entries.specs.Forms.{marksOf, filled}
-use Rattle.entries.specs.declared.Filled.the-variants.{Used, Broken}
+use Rattle.entries.specs.declared.Filled.the-variants.{Used}
 use Rattle.entries.proofs.Marks.{length-marks, form-zeros, marks-of}
-use Rattle.entries.proofs.Laws.{filled-broken, filled-used}
+use Rattle.entries.proofs.Laws.{filled-used}
 use Rattle.entries.proofs.Filling.{rows-many}
-use Rattle.snapshots.specs.Snapshots.{plainMarks, firstMarks, firstOk, begun, formsOk, rowOf, usedPlaces}
+use Rattle.snapshots.specs.Snapshots.{begun, formsOk, rowOf}
 use Rattle.snapshots.proofs.Eights.{eight-same, eight-other}
-use Rattle.snapshots.proofs.Held.{noPlace, noMark, rowIn, Holding, Newest}
+use Rattle.snapshots.proofs.Held.{noPlace, noMark, rowIn, Holding}
 
 -- ---- a condition item's
 
@@ -85,10 +84,12 @@ module _ (m : ℕ) (st : List ℕ) (f i : ℕ) where
       by-test (eqb (getD r 0 0) 0)
       (λ c.
       let z = zeros-none r rs h c in
-      rw c (ap (λ (y : List (List ℕ)). unused ∷ y) (rw (e, zero-used rs z) at (first-rows n (suc j) (omega arith) (rw e (zeros-again rs z))))))
+      rw c (ap (λ (y : List (List ℕ)). unused ∷ y) (rw (e, zero-used rs z) at
+      (first-rows n (suc j) (omega arith) (rw e (zeros-again rs z))))))
       (λ c.
       let q = mark-place (suc j) (keyOf i (packed r)) (key-small i (packed r)) in
-      rw (c, q, ne-eqb (suc j) 0 (λ e. omega arith), first-row j (omega arith)) (ap (λ (y : List (List ℕ)). r ∷ y) (rw e at (first-rows n (suc j) (omega arith) (rw e (zeros-some r rs h c))))))
+      rw (c, q, ne-eqb (suc j) 0 (λ e. omega arith), first-row j (omega arith))
+      (ap (λ (y : List (List ℕ)). r ∷ y) (rw e at (first-rows n (suc j) (omega arith) (rw e (zeros-some r rs h c))))))
 
   -- the marks of a checkpoint in its written form hold its used entries
   pub first-holding : formOk i 0 (itemRows st (checkpointAt (ringSize st) m) m i) ≡ true
@@ -106,82 +107,55 @@ module _ (m : ℕ) (st : List ℕ) (f i : ℕ) where
         placed = first-placed i 1 rs (omega arith);
       }
 
-  -- of an item that isn't stepped
-  pub first-newest : Newest m st f i (itemRow st (checkpointAt (ringSize st) m) m i)
-      (plainMarks (itemRow st (checkpointAt (ringSize st) m) m i))
-  unfolding usedPlaces
-  first-newest =
-      let r = itemRow st (checkpointAt (ringSize st) m) m i in
-      let q : 8 * i + 0 ≡ 8 * i = omega arith in
-      record {
-        mark = cond (eqb (getD r 0 0) 0) 0 (markOf 1 0);
-        alone = refl;
-        rows = by-test (eqb (getD r 0 0) 0) (λ c. rw c) (λ c. rw c (ap (λ (x : ℕ). row st (checkpointAt (ringSize st) m) (8 * m) x 3 ∷ []) q));
-      }
-
 -- ---- one item's, as they are written
 
 -- where the table of checkpoints begins
-pub table-at : (m : ℕ) (st : List ℕ) {n t : ℕ} → t ≡ checkpointAt n m → n ≡ ringSize st → t ≡ checkpointAt (ringSize st) m
+pub table-at : (m : ℕ) (st : List ℕ) {n t : ℕ} → t ≡ checkpointAt n m → n ≡ ringSize st
+    → t ≡ checkpointAt (ringSize st) m
 table-at m st e h = e ∙ rw h
 
-module _ (c : Bool) (st : List ℕ) (t m i : ℕ) (l : List ℕ) where
-  pub first-broken : c ≡ true → Broken ≡ filled i (itemRows st t m i) → false ≡ firstOk c st t m i
-  first-broken b e = rw (b, filled-broken i (itemRows st t m i) e)
-
-  pub first-filled : {n : ℕ} {r : List ℕ} → c ≡ true → Used n ≡ filled i (itemRows st t m i)
-      → (formOk i 0 (itemRows st t m i) ≡ true → r ≡ sets l (8 * i) (marksOf i 1 (itemRows st t m i)))
-      → (true ≡ firstOk c st t m i) × (r ≡ sets l (8 * i) (firstMarks c st t m i))
-  first-filled b e g =
-      let f = filled-used i (itemRows st t m i) e .0 in
-      (rw (b, f), rw b (g f))
-
-  module _ (b : c ≡ false) (room : 8 * i + 8 ≤ length l) (free : eightAt l (8 * i) ≡ replicate 8 0)
-      {x y z : ℕ} (e : itemRow st t m i ≡ x ∷ y ∷ z ∷ []) where
-    pub first-used : {w : ℕ} → (x ≡ 0 → ⊥) → w ≡ markOf 1 0
-        → (true ≡ firstOk c st t m i) × (set l (8 * i) w ≡ sets l (8 * i) (firstMarks c st t m i))
-    first-used n ew =
-        let q : 8 * i + 0 ≡ 8 * i = omega arith in
-        (rw b, rw (b, e, ne-eqb x 0 n, ew) (rw (q, free) at (put-is l (8 * i) 0 (markOf 1 0) room (omega arith))))
-
-    pub first-unused : x ≡ 0 → (true ≡ firstOk c st t m i) × (l ≡ sets l (8 * i) (firstMarks c st t m i))
-    first-unused n = (rw b, rw (b, e, n) (sym (rw free at (sets-same 8 l (8 * i) room))))
+pub first-filled : (st : List ℕ) (t m i : ℕ) (l : List ℕ) {n : ℕ} {r : List ℕ} → Used n ≡ filled i (itemRows st t m i)
+    → (formOk i 0 (itemRows st t m i) ≡ true → r ≡ sets l (8 * i) (marksOf i 1 (itemRows st t m i)))
+    → (true ≡ formOk i 0 (itemRows st t m i)) × (r ≡ sets l (8 * i) (marksOf i 1 (itemRows st t m i)))
+first-filled st t m i l e g =
+    let f = filled-used i (itemRows st t m i) e .0 in
+    (sym f, g f)
 
 -- ---- all items
 
-length-first : (c : Bool) (st : List ℕ) (t m i : ℕ) → length (firstMarks c st t m i) ≡ 8
-length-first true st t m i = length-marks i 1 (itemRows st t m i) ∙ rows-many st t (8 * m) 8 (8 * i)
-length-first false st t m i = refl
+module _ (steps m : ℕ) (st : List ℕ) where
+  abbrev marksAt : ℕ → List ℕ
+  marksAt i = marksOf i 1 (itemRows st (checkpointAt (ringSize st) m) m i)
 
-module _ (selection steps m : ℕ) (st : List ℕ) where
+  length-at : (i : ℕ) → length (marksAt i) ≡ 8
+  length-at i =
+      let t = checkpointAt (ringSize st) m in
+      length-marks i 1 (itemRows st t m i) ∙ rows-many st t (8 * m) 8 (8 * i)
+
   -- the marks behind item i
   abbrev pub begunItem : ℕ → List ℕ → List ℕ
-  begunItem i l = cond (bit selection i) (sets l (8 * i) (firstMarks (bit steps i) st (checkpointAt (ringSize st) m) m i)) l
+  begunItem i l = cond (bit steps i) (sets l (8 * i) (marksAt i)) l
 
   pub length-item : (i : ℕ) (l : List ℕ) → length (begunItem i l) ≡ length l
-  length-item i l = by-test (bit selection i)
-      (λ t. rw t (length-sets l (8 * i) (firstMarks (bit steps i) st (checkpointAt (ringSize st) m) m i)))
-      (λ t. rw t)
+  length-item i l = by-test (bit steps i) (λ t. rw t (length-sets l (8 * i) (marksAt i))) (λ t. rw t)
 
   pub item-other : (i j : ℕ) (l : List ℕ) → (i ≡ j → ⊥) → eightAt (begunItem i l) (8 * j) ≡ eightAt l (8 * j)
   item-other i j l n =
-      by-test (bit selection i)
-      (λ t. rw t (eight-other (firstMarks (bit steps i) st (checkpointAt (ringSize st) m) m i) l j i (length-first (bit steps i) st (checkpointAt (ringSize st) m) m i) n))
-      (λ t. rw t)
+      by-test (bit steps i) (λ t. rw t (eight-other (marksAt i) l j i (length-at i) n)) (λ t. rw t)
 
-  pub length-begun : (k j : ℕ) (l : List ℕ) → length (begun selection steps m st k j l) ≡ length l
+  pub length-begun : (k j : ℕ) (l : List ℕ) → length (begun steps m st k j l) ≡ length l
   unfolding begun
   length-begun zero j l = refl
   length-begun (suc k) j l = length-begun k (suc j) (begunItem j l) ∙ length-item j l
 
-  begun-below : (k j : ℕ) (l : List ℕ) (i : ℕ) → i < j → eightAt (begun selection steps m st k j l) (8 * i) ≡ eightAt l (8 * i)
+  begun-below : (k j : ℕ) (l : List ℕ) (i : ℕ) → i < j → eightAt (begun steps m st k j l) (8 * i) ≡ eightAt l (8 * i)
   unfolding begun
   begun-below zero j l i h = refl
   begun-below (suc k) j l i h =
       begun-below k (suc j) (begunItem j l) i (omega arith) ∙ item-other j i l (λ e. omega arith)
 
-  pub begun-at : (k j : ℕ) (l : List ℕ) (i : ℕ) → j ≤ i → i < j + k → 8 * i + 8 ≤ length l → bit selection i ≡ true
-      → eightAt (begun selection steps m st k j l) (8 * i) ≡ firstMarks (bit steps i) st (checkpointAt (ringSize st) m) m i
+  pub begun-at : (k j : ℕ) (l : List ℕ) (i : ℕ) → j ≤ i → i < j + k → 8 * i + 8 ≤ length l → bit steps i ≡ true
+      → eightAt (begun steps m st k j l) (8 * i) ≡ marksAt i
   unfolding begun
   begun-at zero j l i h g n b = absurd (omega arith)
   begun-at (suc k) j l i h g n b =
@@ -189,31 +163,40 @@ module _ (selection steps m : ℕ) (st : List ℕ) where
       (λ t.
       let e : j ≡ i = eqb-true j i t in
       begun-below k (suc j) (begunItem j l) i (omega arith)
-      ∙ rw (e, b) (eight-same (firstMarks (bit steps i) st (checkpointAt (ringSize st) m) m i) l i (length-first (bit steps i) st (checkpointAt (ringSize st) m) m i) n))
+      ∙ rw (e, b) (eight-same (marksAt i) l i (length-at i) n))
       (λ t.
       let e = eqb-false j i t in
       begun-at k (suc j) (begunItem j l) i (omega arith) (omega arith) (rw (length-item j l) n) b)
 
+  -- another item's eight stay as they were
+  pub begun-others : (k j : ℕ) (l : List ℕ) (i : ℕ) → bit steps i ≡ false
+      → eightAt (begun steps m st k j l) (8 * i) ≡ eightAt l (8 * i)
+  unfolding begun
+  begun-others zero j l i b = refl
+  begun-others (suc k) j l i b =
+      begun-others k (suc j) (begunItem j l) i b
+      ∙ by-test (eqb j i) (λ t. rw (eqb-true j i t, b)) (λ t. item-other j i l (eqb-false j i t))
+
 -- ---- a loop over the items: l are the marks behind those below i, and those from i on have none; they were o
-pub record Beginning (selection steps m : ℕ) (st : List ℕ) (o l : List ℕ) (i : ℕ) : Type 0 where
+pub record Beginning (steps m : ℕ) (st : List ℕ) (o l : List ℕ) (i : ℕ) : Type 0 where
   pub same : length l ≡ length o
   pub len : length l ≡ 8 * maxItems
   pub free : (j : ℕ) → i ≤ j → j < maxItems → eightAt l (8 * j) ≡ replicate 8 0
-  pub ok : formsOk selection steps m st
-      ≡ every (λ i. not (bit selection i) || firstOk (bit steps i) st (checkpointAt (ringSize st) m) m i) (m - i) i
-  pub marks : begun selection steps m st m 0 o ≡ begun selection steps m st (m - i) i l
+  pub ok : formsOk steps m st
+      ≡ every (λ i. not (bit steps i) || formOk i 0 (itemRows st (checkpointAt (ringSize st) m) m i)) (m - i) i
+  pub marks : begun steps m st m 0 o ≡ begun steps m st (m - i) i l
 
-zeros-eight : (n k : ℕ) → k + 8 ≤ n → eightAt (replicate {A = ℕ} n 0) k ≡ replicate 8 0
+pub zeros-eight : (n k : ℕ) → k + 8 ≤ n → eightAt (replicate {A = ℕ} n 0) k ≡ replicate 8 0
 zeros-eight n zero h =
     let q : 8 + (n - 8) ≡ n = omega arith in
     rw (← q, ← replicate-append-replicate {A = ℕ} 8 (n - 8) 0)
 zeros-eight zero (suc k) h = absurd (omega arith)
 zeros-eight (suc n) (suc k) h = zeros-eight n k (omega arith)
 
-pub beginning-start : (selection steps m : ℕ) (st o : List ℕ) → o ≡ replicate (8 * maxItems) 0
-    → Beginning selection steps m st o o 0
+pub beginning-start : (steps m : ℕ) (st o : List ℕ) → o ≡ replicate (8 * maxItems) 0
+    → Beginning steps m st o o 0
 unfolding formsOk
-beginning-start selection steps m st o e =
+beginning-start steps m st o e =
     let q : m - 0 ≡ m = omega arith in
     record {
       same = refl;
@@ -223,14 +206,14 @@ beginning-start selection steps m st o e =
       marks = rw q;
     }
 
-module _ {selection steps m : ℕ} {st o l : List ℕ} {i : ℕ} (v : Beginning selection steps m st o l i) where
+module _ {steps m : ℕ} {st o l : List ℕ} {i : ℕ} (v : Beginning steps m st o l i) where
   module _ (h : i < m) where
-    next : begun selection steps m st (m - i) i l ≡ begun selection steps m st (m - (i + 1)) (i + 1) (begunItem selection steps m st i l)
+    next : begun steps m st (m - i) i l ≡ begun steps m st (m - (i + 1)) (i + 1) (begunItem steps m st i l)
     unfolding begun
     next = let q : m - i ≡ suc (m - (i + 1)) = omega arith in rw (q, add-one i)
 
-    -- item i isn't selected
-    pub beginning-skip : bit selection i ≡ false → Beginning selection steps m st o l (i + 1)
+    -- item i is no condition item
+    pub beginning-skip : bit steps i ≡ false → Beginning steps m st o l (i + 1)
     beginning-skip b =
         record {
           same = v .same;
@@ -240,27 +223,27 @@ module _ {selection steps m : ℕ} {st o l : List ℕ} {i : ℕ} (v : Beginning 
           marks = v .marks ∙ (next ∙ rw b);
         }
 
-    module _ (b : bit selection i ≡ true) {w : ℕ} (ew : w ≡ checkpointAt (ringSize st) m) {c : Bool} (ec : c ≡ bit steps i)
-        {t : Bool} (e : t ≡ firstOk c st w m i) where
+    module _ (b : bit steps i ≡ true) {w : ℕ} (ew : w ≡ checkpointAt (ringSize st) m)
+        {t : Bool} (e : t ≡ formOk i 0 (itemRows st w m i)) where
       -- its form is broken
-      pub beginning-broken : t ≡ false → false ≡ formsOk selection steps m st
-      beginning-broken z = every-no _ _ i m (v .ok) h (rw (b, ← ec, ← ew, ← e, z))
+      pub beginning-broken : t ≡ false → false ≡ formsOk steps m st
+      beginning-broken z = every-no _ _ i m (v .ok) h (rw (b, ← ew, ← e, z))
 
-      pub beginning-more : {r : List ℕ} → t ≡ true → r ≡ sets l (8 * i) (firstMarks c st w m i)
-          → Beginning selection steps m st o r (i + 1)
+      pub beginning-more : {r : List ℕ} → t ≡ true → r ≡ sets l (8 * i) (marksOf i 1 (itemRows st w m i))
+          → Beginning steps m st o r (i + 1)
       beginning-more {r} z er =
-          let q : begunItem selection steps m st i l ≡ r = rw (b, ← ec, ← ew, er) in
+          let q : begunItem steps m st i l ≡ r = rw (b, ← ew, er) in
           record {
-            same = rw (← q, length-item selection steps m st i l) (v .same);
-            len = rw (← q, length-item selection steps m st i l) (v .len);
+            same = rw (← q, length-item steps m st i l) (v .same);
+            len = rw (← q, length-item steps m st i l) (v .len);
             free =
                 λ j g n.
-                rw (← q, item-other selection steps m st i j l (λ y. omega arith)) (v .free j (omega arith) n);
-            ok = every-yes _ _ i m (v .ok) h (rw (b, ← ec, ← ew, ← e, z));
+                rw (← q, item-other steps m st i j l (λ y. omega arith)) (v .free j (omega arith) n);
+            ok = every-yes _ _ i m (v .ok) h (rw (b, ← ew, ← e, z));
             marks = v .marks ∙ rw (next, q);
           }
 
-  pub beginning-end : m ≤ i → (true ≡ formsOk selection steps m st) × (l ≡ begun selection steps m st m 0 o)
+  pub beginning-end : m ≤ i → (true ≡ formsOk steps m st) × (l ≡ begun steps m st m 0 o)
   unfolding begun
   beginning-end h =
       let q : m - i ≡ 0 = omega arith in

@@ -1,19 +1,19 @@
--- What the marks hold along the pass: each condition item's entries, each other item's newest, and a ninth entry is
--- where there would be nine.
+-- What the marks hold along the pass: each condition item's entries, and a ninth entry is where there would be nine.
+-- The others' eight stay as they are.
 use Prim.Native.Nat.{ℕ, zero, suc, _+_, _-_, _*_, _≤_, _<_}
 use mathlib.Core.Path.{_≡_, refl, sym, ap, _∙_}
 use mathlib.Core.Bool.{Bool, true, false, cond, _&&_, _||_, not, and-false, true≢false}
 use mathlib.Core.List.{List, [], _∷_, map}
 use native.Mathlib.Omega.{arith}
-use lib.Dec.{leb, ltb, eqb, lit<}
-use lib.ListN.{length, set, replicate}
+use lib.Dec.{leb, ltb, eqb}
+use lib.ListN.{length}
 use borrow.Author.Tests.{eq-eqb, ne-eqb, eqb-true, le-ltb, le-leb, ltb-true, leb-false, not-true}
 use Rattle.spec.specs.Words.{bit, every}
 use Rattle.spec.specs.Value.{itemOf}
 use Rattle.spec.specs.Model.{maxItems}
 use Rattle.spec.specs.Blocks.{padded, unused}
 use Rattle.spec.specs.Entries.{step}
-use Rattle.spec.specs.Observations.{ringSize, base, itemAt, numbered, ringOk, entriesIn, newestIn, ifUsed}
+use Rattle.spec.specs.Observations.{ringSize, base, itemAt, numbered, ringOk, entriesIn}
 use Rattle.spec.proofs.Words.{by-test, not-so, every-at, every-of, and-left, and-right}
 use Rattle.spec.proofs.Steps.{Formed, step-formed}
 use Rattle.spec.proofs.Pass.{nine-ends}
@@ -21,7 +21,7 @@ use Rattle.marks.specs.Marks.{markOf, placeIn, keyOf, eightAt, changeFor, chang
 use Rattle.marks.specs.Marked.{Marked, isFull}
 use Rattle.marks.proofs.Steps.{changed-map, change-full, change-steps, marked-change, change-fits}
 use Rattle.marks.proofs.Steps.{marked-length, length-changed, key-small, mark-place, mark-key}
-use Rattle.snapshots.specs.Snapshots.{steppedEight, stepped, steppedOk, wordOf, numberStepped, passMarks, passOk}
+use Rattle.snapshots.specs.Snapshots.{steppedEight, steppedOk, wordOf, numberStepped, passMarks, passOk}
 use Rattle.snapshots.specs.Snapshots.{rowOf, usedPlaces}
 use Rattle.snapshots.proofs.Eights.{eight-stepped, length-all-stepped}
 
@@ -62,7 +62,8 @@ module _ (m : ℕ) (st : List ℕ) (f i : ℕ) where
       let t : map noPlace xs ≡ map noMark xs = (cc) in
       let a : rowIn m st f i x ≡ e = (cc) in
       let b : map (rowIn m st f i) xs ≡ padded (length xs) es = (cc) in
-      rw (q, n) (ap (λ (y : List ℕ). y ∷ map (rowOf m st f i) (usedPlaces xs)) (rw (q, n) at a) ∙ ap (λ (y : List (List ℕ)). e ∷ y) (held-rows es xs (k .2) b t))
+      rw (q, n) (ap (λ (y : List ℕ). y ∷ map (rowOf m st f i) (usedPlaces xs)) (rw (q, n) at a)
+      ∙ ap (λ (y : List (List ℕ)). e ∷ y) (held-rows es xs (k .2) b t))
 
   pub holding-rows : {es : List (List ℕ)} {ms : List ℕ} → Holding m st f i es ms
       → map (rowOf m st f i) (usedPlaces ms) ≡ es
@@ -91,7 +92,8 @@ module _ (m : ℕ) (st : List ℕ) (f i : ℕ) where
         record {
           eight = length-changed 0 c y ms (change-fits ms (v .eight) i (wordOf st s)) (v .eight);
           formed = step-formed i es r (v .formed);
-          marked = marked-change i es ms r (v .formed) (v .marked) (v .eight) y n (omega arith) (mark-key (s - f + 9) (keyOf i (wordOf st s)) k);
+          marked = marked-change i es ms r (v .formed) (v .marked) (v .eight) y n (omega arith)
+              (mark-key (s - f + 9) (keyOf i (wordOf st s)) k);
           rows =
               changed-map (rowIn m st f i) 0 c y ms
               ∙ (rw (new, v .rows) (change-steps i es ms r (v .formed) (v .marked) (v .eight)));
@@ -109,25 +111,6 @@ module _ (m : ℕ) (st : List ℕ) (f i : ℕ) where
         twice true = refl
         twice false = refl
 
--- ---- an item that isn't stepped: its first mark is its newest's, the others are 0
-
-pub record Newest (m : ℕ) (st : List ℕ) (f i : ℕ) (r : List ℕ) (ms : List ℕ) : Type 0 where
-  pub mark : ℕ
-  pub alone : ms ≡ mark ∷ replicate 7 0
-  pub rows : map (rowOf m st f i) (usedPlaces ms) ≡ ifUsed r
-
-newest-more : (m : ℕ) (st : List ℕ) (f i s : ℕ) → f ≤ s → 1 ≤ s → (r ms : List ℕ) → Newest m st f i r ms
-    → Newest m st f i (numbered (ringSize st) (base st) st s) (set ms 0 (markOf (s - f + 9) 0))
-unfolding usedPlaces
-newest-more m st f i s h g r ms v =
-    let p = mark-place (s - f + 9) 0 (lit< tt) in
-    record {
-      mark = markOf (s - f + 9) 0;
-      alone = rw (v .alone);
-      rows =
-          rw (v .alone, p, ne-eqb (s - f + 9) 0 (omega arith), ring-row m st f i s h, ne-eqb s 0 (omega arith));
-    }
-
 -- ---- all items, behind one number
 
 module _ (steps m : ℕ) (st : List ℕ) (f : ℕ) (few : m ≤ maxItems) where
@@ -143,35 +126,28 @@ module _ (steps m : ℕ) (st : List ℕ) (f : ℕ) (few : m ≤ maxItems) where
   module _ (s : ℕ) (l : List ℕ) (len : length l ≡ 8 * maxItems) (h : f ≤ s)
       (own : itemAt (ringSize st) (base st) st s < m) where
     eight-next : (i : ℕ) → i < m → eightAt (numberStepped steps st f s l) (8 * i)
-        ≡ cond (eqb (itemAt (ringSize st) (base st) st s) i)
-        (steppedEight steps i (s - f + 9) (wordOf st s) (eightAt l (8 * i))) (eightAt l (8 * i))
-    eight-next i g = eight-stepped steps (s - f + 9) (wordOf st s) i (itemOf (wordOf st s)) l len (omega arith) (omega arith)
+        ≡ cond (bit steps i && eqb (itemAt (ringSize st) (base st) st s) i)
+        (steppedEight i (s - f + 9) (wordOf st s) (eightAt l (8 * i))) (eightAt l (8 * i))
+    eight-next i g =
+        eight-stepped (s - f + 9) (wordOf st s) steps i (itemOf (wordOf st s)) l len (omega arith) (omega arith)
 
     held-next : (es : ℕ → List (List ℕ)) → Held l es
-        → steppedOk steps (itemOf (wordOf st s)) (wordOf st s) l ≡ true → Held (numberStepped steps st f s l) (entriesNext s es)
-    unfolding steppedOk steppedEight
+        → steppedOk steps (itemOf (wordOf st s)) (wordOf st s) l ≡ true
+        → Held (numberStepped steps st f s l) (entriesNext s es)
+    unfolding steppedOk
     held-next es v ok i g b =
         let j = itemAt (ringSize st) (base st) st s in
         by-test (eqb j i)
         (λ t.
         let e : j ≡ i = eqb-true j i t in
         let n : isFull (changeFor i (eightAt l (8 * i)) (wordOf st s)) ≡ false = not-true _ (rw (e, b) at ok) in
-        rw (eight-next i g, t, b) (holding-more m st f i s h (es i) (eightAt l (8 * i)) (v i g b) n))
-        (λ t. rw (eight-next i g, t) (v i g b))
-
-    newest-next : (i : ℕ) (r : List ℕ) → i < m → bit steps i ≡ false → 1 ≤ s → Newest m st f i r (eightAt l (8 * i))
-        → Newest m st f i (cond (eqb (itemAt (ringSize st) (base st) st s) i) (numbered (ringSize st) (base st) st s) r)
-        (eightAt (numberStepped steps st f s l) (8 * i))
-    unfolding steppedEight
-    newest-next i r g b p v =
-        by-test (eqb (itemAt (ringSize st) (base st) st s) i)
-        (λ t. rw (eight-next i g, t, b) (newest-more m st f i s h p r (eightAt l (8 * i)) v))
-        (λ t. rw (eight-next i g, t) v)
+        rw (eight-next i g, b, t) (holding-more m st f i s h (es i) (eightAt l (8 * i)) (v i g b) n))
+        (λ t. rw (eight-next i g, b, t) (v i g b))
 
   -- ---- behind k numbers
 
   length-next : (s : ℕ) (l : List ℕ) → length l ≡ 8 * maxItems → length (numberStepped steps st f s l) ≡ 8 * maxItems
-  length-next s l n = length-all-stepped steps (s - f + 9) (wordOf st s) (itemOf (wordOf st s)) l ∙ n
+  length-next s l n = length-all-stepped (s - f + 9) (wordOf st s) steps (itemOf (wordOf st s)) l ∙ n
 
   pub held-end : (k s : ℕ) (l : List ℕ) (es : ℕ → List (List ℕ)) → length l ≡ 8 * maxItems → f ≤ s → Held l es
       → passOk steps m st f k s l ≡ true
@@ -187,22 +163,29 @@ module _ (steps m : ℕ) (st : List ℕ) (f : ℕ) (few : m ≤ maxItems) where
       held-end k (suc s) (numberStepped steps st f s l) (entriesNext s es) (length-next s l n) (omega arith)
       (held-next s l n h a es v b) c
 
-  pub newest-end : (i : ℕ) → i < m → bit steps i ≡ false → (k s : ℕ) (l r : List ℕ) → length l ≡ 8 * maxItems → f ≤ s → 1 ≤ s
-      → Newest m st f i r (eightAt l (8 * i)) → passOk steps m st f k s l ≡ true
-      → Newest m st f i (newestIn (ringSize st) (base st) st i k s r) (eightAt (passMarks steps st f k s l) (8 * i))
-  unfolding passMarks passOk newestIn
-  newest-end i g e zero s l r n h p v ok = v
-  newest-end i g e (suc k) s l r n h p v ok =
+  pub length-passed : (k s : ℕ) (l : List ℕ) → length l ≡ 8 * maxItems
+      → length (passMarks steps st f k s l) ≡ 8 * maxItems
+  unfolding passMarks
+  length-passed zero s l n = n
+  length-passed (suc k) s l n = length-passed k (suc s) (numberStepped steps st f s l) (length-next s l n)
+
+  -- another item's eight stay as they were
+  pub others-end : (i : ℕ) → i < m → bit steps i ≡ false → (k s : ℕ) (l : List ℕ) → length l ≡ 8 * maxItems → f ≤ s
+      → passOk steps m st f k s l ≡ true → eightAt (passMarks steps st f k s l) (8 * i) ≡ eightAt l (8 * i)
+  unfolding passMarks passOk
+  others-end i g b zero s l n h ok = refl
+  others-end i g b (suc k) s l n h ok =
       let j = itemOf (wordOf st s) in
       let a = ltb-true j m (and-left (ltb j m) _ ok) in
       let c = and-right (steppedOk steps j (wordOf st s) l) _ (and-right (ltb j m) _ ok) in
-      newest-end i g e k (suc s) (numberStepped steps st f s l) _ (length-next s l n) (omega arith) (omega arith)
-      (newest-next s l n h a i r g e p v) c
+      others-end i g b k (suc s) (numberStepped steps st f s l) (length-next s l n) (omega arith) c
+      ∙ (eight-next s l n h a i g ∙ rw b)
 
   -- ---- refusal 2: the items are the model's, and no condition item comes to nine entries
 
   abbrev pub eightOk : ℕ → ℕ → (ℕ → List (List ℕ)) → Bool
-  eightOk k s es = every (λ i. not (bit steps i) || leb (length (entriesIn (ringSize st) (base st) st i k s (es i))) 8) m 0
+  eightOk k s es =
+      every (λ i. not (bit steps i) || leb (length (entriesIn (ringSize st) (base st) st i k s (es i))) 8) m 0
 
   -- nine entries behind number s are nine behind all
   nine-next : (k s : ℕ) (es : ℕ → List (List ℕ)) (j : ℕ) → j < m → bit steps j ≡ true
@@ -254,5 +237,6 @@ module _ (steps m : ℕ) (st : List ℕ) (f : ℕ) (few : m ≤ maxItems) where
       rw (a, b)
       (ok-is k (suc s) (numberStepped steps st f s l) (entriesNext s es) (length-next s l n) (omega arith)
       (held-next s l n h own es v b)))
-      (λ b. rw (a, b, ← ninth-next k s l es h v own b) (sym (and-false (ringOk (ringSize st) m (base st) st k (suc s))))))
+      (λ b. rw (a, b, ← ninth-next k s l es h v own b)
+      (sym (and-false (ringOk (ringSize st) m (base st) st k (suc s))))))
       (λ a. rw a)

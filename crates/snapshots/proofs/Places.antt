@@ -99,14 +99,16 @@ counting-start m selection l =
 module _ {m selection : ℕ} {l : List ℕ} {k i : ℕ} (v : Counting m selection l k i) where
   module _ (h : i < m) where
     count-next : heldCount selection l (m - i) i
-        ≡ cond (bit selection i) (length (itemPlaces l i) + heldCount selection l (m - (i + 1)) (i + 1)) (heldCount selection l (m - (i + 1)) (i + 1))
+        ≡ cond (bit selection i) (length (itemPlaces l i) + heldCount selection l (m - (i + 1)) (i + 1))
+        (heldCount selection l (m - (i + 1)) (i + 1))
     unfolding heldCount
     count-next = let q : m - i ≡ suc (m - (i + 1)) = omega arith in rw (q, add-one i)
 
     pub counting-more : {c : ℕ} → bit selection i ≡ true → (c ≡ length (itemPlaces l i)) × (c ≤ 8)
         → Counting m selection l (k + c) (i + 1)
     counting-more b e =
-        let n : heldCount selection l (m - i) i ≡ length (itemPlaces l i) + heldCount selection l (m - (i + 1)) (i + 1) =
+        let n : heldCount selection l (m - i) i ≡ length (itemPlaces l i) + heldCount selection l (m - (i + 1))
+        (i + 1) =
         count-next ∙ rw b in
         record { high = omega arith; few = omega (arith, v .few, e .1); rest = omega (arith, v .rest, n, e .0) }
 

@@ -1,25 +1,45 @@
 // The rows of current with at: each selected item's entries behind one pass over the ring, from its checkpoint on. An
 // entry is held as a mark: of the checkpoint by its place from 1 on, of the ring by its number, which is 9 for the
-// pass's first.
+// pass's first. A condition item's marks are stepped along the pass; of another the newest place is kept, by item.
 ghost use mathlib.Core.Path.{_≡_};
 ghost use mathlib.Core.List.{[], _∷_};
 ghost use mathlib.Core.Bool.{true, _&&_};
-ghost use Prim.Native.Nat.{suc, _+_, _-_, _*_, _^_, _<_, _≤_};
-ghost use lib.ListN.{length, replicate};
+ghost use Prim.Native.Nat.{ℕ, suc, _+_, _-_, _*_, _^_, _<_, _≤_};
+ghost use lib.ListN.{length, getD, replicate};
 ghost use lib.Seq.{sets};
 ghost use Rattle.spec.specs.Model.{Sizes, maxItems, items, category};
-ghost use Rattle.spec.specs.Observations.{Head, ringSize, base, last, checkpointAt, ringOk, atOk, atRows};
+ghost use Rattle.spec.specs.Entries.{formOk};
+ghost use Rattle.spec.specs.Observations.{Head, ringSize, base, last, checkpointAt, itemRows, itemRow};
+ghost use Rattle.spec.specs.Observations.{ringOk, atOk, atRows};
 ghost use Rattle.marks.specs.Marks.{eightAt};
-ghost use Rattle.rows.specs.Rows.{rowsAt, rowsInto, Run};
-ghost use Rattle.snapshots.specs.Snapshots.{stepsOf, firstMarks, firstOk, begun, formsOk};
-ghost use Rattle.snapshots.specs.Snapshots.{stepped, steppedOk, passMarks, passOk};
+ghost use Rattle.entries.specs.Forms.{marksOf};
+ghost use Rattle.rows.specs.Rows.{itemsOk, rowsAt, rowsInto, Run};
+ghost use Rattle.snapshots.specs.Snapshots.{stepsOf, begun, formsOk, steppedAt, fits, passMarks, passOk};
+ghost use Rattle.snapshots.specs.Snapshots.{seenFrom, Skipped, listed, Gathered, Pick, Each, pickMarks, pickOk};
+ghost use Rattle.snapshots.specs.Snapshots.{block, plainPlace, settled};
 ghost use Rattle.snapshots.specs.Snapshots.{rowOf, itemPlaces, markedRows, heldBy, heldCount};
 use entries::Filled;
-use marks::Change;
 use observations::Row;
 
 // The place of the pass's first number, behind those of the checkpoint's entries.
 const FIRST_PLACE: u64 = spec::ENTRIES + 1;
+
+// Numbers of the ring that are looked through at a time. A pick is a byte below it, and BLOCK itself is none.
+const BLOCK: u64 = 255;
+
+// Room for a block's picks and their end.
+const PICK_SLOTS: usize = 256;
+
+// Where a block that begins with number s ends, before e.
+fn block_end(s: u64, e: u64) -> u64
+    requires { ⌜ s ≤ e ⌝ }
+    ensures { λ r. ⌜ ((s ≤ r) × (r ≤ e)) × ((r - s ≤ block) × (s < e → s < r)) ⌝ }
+{
+    if e - s <= BLOCK {
+        return e;
+    }
+    s + BLOCK
+}
 
 // The selected condition items.
 fn steps_of(model: &[u32], selection: u64) -> u64
@@ -37,48 +57,38 @@ fn steps_of(model: &[u32], selection: u64) -> u64
     set
 }
 
-// The marks of item i's checkpoint to its eight words, which are 0: of a condition item each used entry's, of another
-// the first one's; false where a condition item's isn't in its written form.
-fn begin_item(st: &[u64], m: u64, t: u64, i: u64, condition: bool, marks: &mut [u64]) -> bool
+// The marks of condition item i's checkpoint to its eight words, which are 0; false where it isn't in its written form.
+fn begin_item(st: &[u64], m: u64, t: u64, i: u64, marks: &mut [u64]) -> bool
     requires { ⌜ Head m (now st) ⌝ }
     requires { ⌜ (m ≤ maxItems) × ((i < m) × (t ≡ checkpointAt (ringSize (now st)) m)) ⌝ }
     requires { ⌜ (length (now marks) ≡ 8 * maxItems) × (eightAt (now marks) (8 * i) ≡ replicate 8 0) ⌝ }
-    ensures { λ r. ⌜ r ≡ firstOk condition (now (st .entry)) t m i ⌝ }
+    ensures { λ r. ⌜ r ≡ formOk i 0 (itemRows (now (st .entry)) t m i) ⌝ }
     ensures { λ r. ⌜
         (r ≡ true →
-        now (marks .exit) ≡ sets (now (marks .entry)) (8 * i) (firstMarks condition (now (st .entry)) t m i))
+        now (marks .exit) ≡ sets (now (marks .entry)) (8 * i) (marksOf i 1 (itemRows (now (st .entry)) t m i)))
         ⌝ }
 {
     let w = spec::ENTRIES * m;
     let x = spec::ENTRIES * i;
-    if condition {
-        let Filled::Used(_) = entries::fill(st, w, t, x, i, marks, x as usize) else {
-            return false;
-        };
-        return true;
-    }
-    let row = observations::row_at(st, w, t, x);
-    if row.number != 0 {
-        marks[x as usize] = marks::mark_of(1, 0);
-    }
+    let Filled::Used(_) = entries::fill(st, w, t, x, i, marks, x as usize) else {
+        return false;
+    };
     true
 }
 
-// The marks of the selected items' checkpoints; false where one isn't in its written form.
-fn begin(st: &[u64], m: u64, selection: u64, steps: u64, marks: &mut [u64]) -> bool
+// The marks of the condition items' checkpoints; false where one isn't in its written form.
+fn begin(st: &[u64], m: u64, steps: u64, marks: &mut [u64]) -> bool
     requires { ⌜ Head m (now st) ⌝ }
     requires { ⌜ m ≤ maxItems ⌝ }
     requires { ⌜ now marks ≡ replicate (8 * maxItems) 0 ⌝ }
-    ensures { λ r. ⌜ r ≡ formsOk selection steps m (now (st .entry)) ⌝ }
-    ensures { λ r. ⌜
-        (r ≡ true → now (marks .exit) ≡ begun selection steps m (now (st .entry)) m 0 (now (marks .entry)))
-        ⌝ }
+    ensures { λ r. ⌜ r ≡ formsOk steps m (now (st .entry)) ⌝ }
+    ensures { λ r. ⌜ (r ≡ true → now (marks .exit) ≡ begun steps m (now (st .entry)) m 0 (now (marks .entry))) ⌝ }
 {
     let t = observations::checkpoint_at(observations::ring_size(st, m), m);
     let mut i: u64 = 0;
     while i < m {
-        if selection::has(selection, i) {
-            if !begin_item(st, m, t, i, selection::has(steps, i), marks) {
+        if selection::has(steps, i) {
+            if !begin_item(st, m, t, i, marks) {
                 return false;
             }
         }
@@ -87,32 +97,8 @@ fn begin(st: &[u64], m: u64, selection: u64, steps: u64, marks: &mut [u64]) -> b
     true
 }
 
-// A ring entry of item i, by its packed word and its place, to the marks; false where it would be a ninth entry.
-fn step_item(i: u64, steps: u64, place: u64, word: u64, marks: &mut [u64]) -> bool
-    requires { ⌜ (i < maxItems) × ((place < 2 ^ 31) × (length (now marks) ≡ 8 * maxItems)) ⌝ }
-    ensures { λ r. ⌜ r ≡ steppedOk steps i word (now (marks .entry)) ⌝ }
-    ensures { λ r. ⌜ (r ≡ true → now (marks .exit) ≡ stepped steps i place word (now (marks .entry))) ⌝ }
-{
-    let x = (spec::ENTRIES * i) as usize;
-    if !selection::has(steps, i) {
-        marks[x] = marks::mark_of(place, 0);
-        return true;
-    }
-    let change = marks::change_for(marks, x, i, word);
-    if let Change::Full = change {
-        return false;
-    }
-    marks::apply(
-        marks,
-        x,
-        change,
-        marks::mark_of(place, marks::key_of(i, word)),
-    );
-    true
-}
-
-// The numbers from s on up to e, from ring place p on, to the marks, while their items are of the model and not in
-// `steps`; the first that isn't, or e. Apart from the steps, which would take this loop's registers.
+// The numbers from s on up to e, from ring place p on, to the newest places, while their items are of the model and
+// not in `steps`; the first that isn't, or e. Most rings have few others, and a test for them is all that this costs.
 fn plain_run(
     st: &[u64],
     m: u64,
@@ -121,21 +107,14 @@ fn plain_run(
     f: u64,
     s: u64,
     e: u64,
-    marks: &mut [u64],
+    seen: &mut [u64],
 ) -> u64
     requires { ⌜ Head m (now st) ⌝ }
-    requires { ⌜ (m ≤ maxItems) × (length (now marks) ≡ 8 * maxItems) ⌝ }
-    requires { ⌜ Run (ringSize (now st)) (base (now st)) e s p ⌝ }
-    requires { ⌜ (f ≤ s) × (e - f ≤ ringSize (now st)) ⌝ }
-    ensures { λ r. ⌜ (s ≤ r) × Run (ringSize (now (st .entry))) (base (now (st .entry))) e r (p + (r - s)) ⌝ }
-    ensures { λ r. ⌜
-        passOk steps m (now (st .entry)) f (e - s) s (now (marks .entry))
-        ≡ passOk steps m (now (st .entry)) f (e - r) r (now (marks .exit))
-        ⌝ }
-    ensures { λ r. ⌜
-        passMarks steps (now (st .entry)) f (e - s) s (now (marks .entry))
-        ≡ passMarks steps (now (st .entry)) f (e - r) r (now (marks .exit))
-        ⌝ }
+    requires { ⌜ (m ≤ maxItems) × (length (now seen) ≡ maxItems) ⌝ }
+    requires { ⌜ Run (ringSize (now st)) (base (now st)) e s p × ((f ≤ s) × (e - f ≤ ringSize (now st))) ⌝ }
+    requires { ⌜ s ≤ e ⌝ }
+    ensures { λ r. ⌜ (s ≤ r) × (r ≤ e) ⌝ }
+    ensures { λ r. ⌜ Skipped steps m (now (st .entry)) f e s r (now (seen .entry)) (now (seen .exit)) ⌝ }
 {
     let n = observations::ring_size(st, m);
     let mut q = p;
@@ -145,11 +124,130 @@ fn plain_run(
         if m <= i || selection::has(steps, i) {
             return x;
         }
-        marks[(spec::ENTRIES * i) as usize] = marks::mark_of(x - f + FIRST_PLACE, 0);
+        seen[i as usize] = x - f + FIRST_PLACE;
         q += 1;
         x += 1;
     }
     x
+}
+
+// A block of numbers from s on up to e, from ring place p on, to the newest places; those of condition items to the
+// picks, by their distance from s, and none behind them. False where an item isn't the model's. No branch is told by
+// the item, which no predictor could tell.
+fn gather(
+    st: &[u64],
+    m: u64,
+    steps: u64,
+    p: u64,
+    f: u64,
+    s: u64,
+    e: u64,
+    seen: &mut [u64],
+    picks: &mut [u8],
+) -> bool
+    requires { ⌜ Head m (now st) ⌝ }
+    requires { ⌜ (m ≤ maxItems) × ((length (now seen) ≡ maxItems) × (length (now picks) ≡ suc block)) ⌝ }
+    requires { ⌜ Run (ringSize (now st)) (base (now st)) e s p × ((f ≤ s) × (e - f ≤ ringSize (now st))) ⌝ }
+    requires { ⌜ (s ≤ e) × (e - s ≤ block) ⌝ }
+    ensures { λ r. ⌜ r ≡ itemsOk m (now (st .entry)) s e ⌝ }
+    ensures { λ r. ⌜
+        (r ≡ true →
+        Gathered steps (now (st .entry)) f s e (now (seen .entry)) (now (seen .exit)) (now (picks .exit)))
+        ⌝ }
+{
+    let n = observations::ring_size(st, m);
+    let mut c: u64 = 0;
+    let mut q = p;
+    let mut x = s;
+    while x < e {
+        let i = value::item_of(observations::ring_word(st, n, q));
+        if m <= i {
+            return false;
+        }
+        seen[i as usize] = x - f + FIRST_PLACE;
+        picks[c as usize] = (x - s) as u8;
+        c += selection::bit_of(steps, i);
+        q += 1;
+        x += 1;
+    }
+    picks[c as usize] = BLOCK as u8;
+    true
+}
+
+// A ring entry of condition item i, by its packed word and its place, to the marks; false where it would be a ninth.
+fn step_item(i: u64, place: u64, word: u64, marks: &mut [u64]) -> bool
+    requires { ⌜ (i < maxItems) × ((place < 2 ^ 31) × (length (now marks) ≡ 8 * maxItems)) ⌝ }
+    ensures { λ r. ⌜ r ≡ fits i word (now (marks .entry)) ⌝ }
+    ensures { λ r. ⌜ (r ≡ true → now (marks .exit) ≡ steppedAt i place word (now (marks .entry))) ⌝ }
+{
+    let x = (spec::ENTRIES * i) as usize;
+    let key = marks::key_of(i, word);
+    let mark = marks::mark_of(place, key);
+    if key != 0 {
+        if marks::key_in(marks[x]) != 0 {
+            return marks::raise(marks, x, key, mark);
+        }
+    }
+    let change = marks::change_for(marks, x, i, word);
+    marks::apply(marks, x, change, mark);
+    true
+}
+
+// The picks of a block, which begins with number s at ring place p, to the marks; false where one would be a ninth.
+fn step_picks(st: &[u64], m: u64, p: u64, f: u64, s: u64, picks: &[u8], marks: &mut [u64]) -> bool
+    requires { ⌜ Head m (now st) ⌝ }
+    requires { ⌜ (m ≤ maxItems) × (length (now marks) ≡ 8 * maxItems) ⌝ }
+    requires { ⌜ (f ≤ s) × (length (listed (now picks)) < length (now picks)) ⌝ }
+    requires { ⌜ Each (Pick m (now st) f s p) (listed (now picks)) ⌝ }
+    ensures { λ r. ⌜ r ≡ pickOk (now (st .entry)) f s (listed (now (picks .entry))) (now (marks .entry)) ⌝ }
+    ensures { λ r. ⌜
+        (r ≡ true →
+        now (marks .exit) ≡ pickMarks (now (st .entry)) f s (listed (now (picks .entry))) (now (marks .entry)))
+        ⌝ }
+{
+    let n = observations::ring_size(st, m);
+    let mut t: usize = 0;
+    let mut j = picks[0] as u64;
+    while j != BLOCK {
+        let word = observations::ring_word(st, n, p + j);
+        if !step_item(value::item_of(word), s - f + j + FIRST_PLACE, word, marks) {
+            return false;
+        }
+        t += 1;
+        j = picks[t] as u64;
+    }
+    true
+}
+
+// A block of numbers from s on up to e, from ring place p on, to the newest places and the marks.
+fn step_block(
+    st: &[u64],
+    m: u64,
+    steps: u64,
+    p: u64,
+    f: u64,
+    s: u64,
+    e: u64,
+    seen: &mut [u64],
+    picks: &mut [u8],
+    marks: &mut [u64],
+) -> bool
+    requires { ⌜ Head m (now st) ⌝ }
+    requires { ⌜ (m ≤ maxItems) × ((length (now seen) ≡ maxItems) × (length (now picks) ≡ suc block)) ⌝ }
+    requires { ⌜ length (now marks) ≡ 8 * maxItems ⌝ }
+    requires { ⌜ Run (ringSize (now st)) (base (now st)) e s p × ((f ≤ s) × (e - f ≤ ringSize (now st))) ⌝ }
+    requires { ⌜ (s ≤ e) × (e - s ≤ block) ⌝ }
+    ensures { λ r. ⌜ r ≡ passOk steps m (now (st .entry)) f (e - s) s (now (marks .entry)) ⌝ }
+    ensures { λ r. ⌜
+        (r ≡ true →
+        (now (marks .exit) ≡ passMarks steps (now (st .entry)) f (e - s) s (now (marks .entry)))
+        × (now (seen .exit) ≡ seenFrom (now (st .entry)) f (e - s) s (now (seen .entry))))
+        ⌝ }
+{
+    if !gather(st, m, steps, p, f, s, e, seen, picks) {
+        return false;
+    }
+    step_picks(st, m, p, f, s, picks, marks)
 }
 
 // One run of the pass, over the numbers from s on up to e, from ring place p on; f is the pass's first number.
@@ -161,56 +259,93 @@ fn pass_run(
     f: u64,
     s: u64,
     e: u64,
+    seen: &mut [u64],
+    picks: &mut [u8],
     marks: &mut [u64],
 ) -> bool
     requires { ⌜ Head m (now st) ⌝ }
-    requires { ⌜ (m ≤ maxItems) × (length (now marks) ≡ 8 * maxItems) ⌝ }
+    requires { ⌜ (m ≤ maxItems) × ((length (now seen) ≡ maxItems) × (length (now picks) ≡ suc block)) ⌝ }
+    requires { ⌜ length (now marks) ≡ 8 * maxItems ⌝ }
     requires { ⌜ Run (ringSize (now st)) (base (now st)) e s p × ((f ≤ s) × (e - f ≤ ringSize (now st))) ⌝ }
     ensures { λ r. ⌜ r ≡ passOk steps m (now (st .entry)) f (e - s) s (now (marks .entry)) ⌝ }
     ensures { λ r. ⌜
-        (r ≡ true → now (marks .exit) ≡ passMarks steps (now (st .entry)) f (e - s) s (now (marks .entry)))
+        (r ≡ true →
+        (now (marks .exit) ≡ passMarks steps (now (st .entry)) f (e - s) s (now (marks .entry)))
+        × (now (seen .exit) ≡ seenFrom (now (st .entry)) f (e - s) s (now (seen .entry))))
         ⌝ }
 {
-    let n = observations::ring_size(st, m);
     let mut q = p;
     let mut x = s;
     while x < e {
-        let y = plain_run(st, m, steps, q, f, x, e, marks);
-        if e <= y {
-            return true;
-        }
+        let y = plain_run(st, m, steps, q, f, x, e, seen);
         q += y - x;
-        let word = observations::ring_word(st, n, q);
-        let i = value::item_of(word);
-        if m <= i {
+        let z = block_end(y, e);
+        if !step_block(st, m, steps, q, f, y, z, seen, picks, marks) {
             return false;
         }
-        if !step_item(i, steps, y - f + FIRST_PLACE, word, marks) {
-            return false;
-        }
-        q += 1;
-        x = y + 1;
+        q += z - y;
+        x = z;
     }
     true
 }
 
 // The pass over the numbers from f up to e, at most a ring of them.
-fn pass(st: &[u64], m: u64, steps: u64, f: u64, e: u64, marks: &mut [u64]) -> bool
+fn pass(st: &[u64], m: u64, steps: u64, f: u64, e: u64, seen: &mut [u64], marks: &mut [u64]) -> bool
     requires { ⌜ Head m (now st) ⌝ }
-    requires { ⌜ (m ≤ maxItems) × (length (now marks) ≡ 8 * maxItems) ⌝ }
+    requires { ⌜ (m ≤ maxItems) × ((length (now seen) ≡ maxItems) × (length (now marks) ≡ 8 * maxItems)) ⌝ }
     requires { ⌜ (base (now st) ≤ f) × ((f ≤ e) × (e - f ≤ ringSize (now st))) ⌝ }
     ensures { λ r. ⌜ r ≡ passOk steps m (now (st .entry)) f (e - f) f (now (marks .entry)) ⌝ }
     ensures { λ r. ⌜
-        (r ≡ true → now (marks .exit) ≡ passMarks steps (now (st .entry)) f (e - f) f (now (marks .entry)))
+        (r ≡ true →
+        (now (marks .exit) ≡ passMarks steps (now (st .entry)) f (e - f) f (now (marks .entry)))
+        × (now (seen .exit) ≡ seenFrom (now (st .entry)) f (e - f) f (now (seen .entry))))
         ⌝ }
 {
+    let mut picks = [0u8; PICK_SLOTS];
     let r = rows::runs(st, m, f, e);
     let p = r.place;
     let g = r.turn;
-    if !pass_run(st, m, steps, p, f, f, g, marks) {
+    if !pass_run(st, m, steps, p, f, f, g, seen, &mut picks, marks) {
         return false;
     }
-    pass_run(st, m, steps, 0, f, g, e, marks)
+    pass_run(st, m, steps, 0, f, g, e, seen, &mut picks, marks)
+}
+
+// The place of item i, which is not in `steps`: of its newest number, or of its checkpoint's first entry; 0 for none.
+fn plain_place(st: &[u64], m: u64, t: u64, i: u64, seen: u64) -> u64
+    requires { ⌜ Head m (now st) ⌝ }
+    requires { ⌜ (m ≤ maxItems) × ((i < m) × (t ≡ checkpointAt (ringSize (now st)) m)) ⌝ }
+    ensures { λ r. ⌜ (r ≡ plainPlace (itemRow (now (st .entry)) t m i) seen) × (r ≤ seen + 1) ⌝ }
+{
+    if seen != 0 {
+        return seen;
+    }
+    let row = observations::row_at(st, spec::ENTRIES * m, t, spec::ENTRIES * i);
+    if row.number == 0 {
+        return 0;
+    }
+    1
+}
+
+// The marks of the selected items that are not in `steps`, by their newest places.
+fn settle(st: &[u64], m: u64, selection: u64, steps: u64, seen: &[u64], marks: &mut [u64])
+    requires { ⌜ Head m (now st) ⌝ }
+    requires { ⌜ (m ≤ maxItems) × ((length (now seen) ≡ maxItems) × (length (now marks) ≡ 8 * maxItems)) ⌝ }
+    requires { ⌜ ((i : ℕ) → getD (now seen) i 0 + 1 < 2 ^ 31) ⌝ }
+    ensures { λ r. ⌜
+        now (marks .exit)
+        ≡ settled selection steps m (now (st .entry)) (now (seen .entry)) m 0 (now (marks .entry))
+        ⌝ }
+{
+    let t = observations::checkpoint_at(observations::ring_size(st, m), m);
+    let mut i: u64 = 0;
+    while i < m {
+        if selection::has(selection, i) && !selection::has(steps, i) {
+            let place = plain_place(st, m, t, i, seen[i as usize]);
+            marks[(spec::ENTRIES * i) as usize] = marks::mark_of(place, 0);
+        }
+        i += 1;
+    }
 }
 
 // Whether the numbers from f up to e, at most a ring of them, have items of the model, the selected condition items'
@@ -236,12 +371,17 @@ pub fn hold(model: &[u32], st: &[u64], selection: u64, f: u64, e: u64, marks: &m
         heldBy m st f (now (marks .exit)) selection ≡ atRows cat (ringSize st) m (base st) st selection (e - f) f)
         ⌝ }
 {
+    let mut seen = [0u64; spec::ITEM_SLOTS];
     let m = model::items(model);
     let steps = steps_of(model, selection);
-    if !begin(st, m, selection, steps, marks) {
+    if !begin(st, m, steps, marks) {
         return false;
     }
-    pass(st, m, steps, f, e, marks)
+    if !pass(st, m, steps, f, e, &mut seen, marks) {
+        return false;
+    }
+    settle(st, m, selection, steps, &seen, marks);
+    true
 }
 
 // How many of item i's marks are used.

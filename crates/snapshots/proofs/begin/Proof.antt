@@ -1,5 +1,6 @@
 use Rattle.spec.proofs.Words.{told}
-use Rattle.snapshots.proofs.Begun.{table-at, Beginning, beginning-start, beginning-skip, beginning-broken, beginning-more, beginning-end}
+use Rattle.snapshots.proofs.Begun.{table-at, Beginning, beginning-start, beginning-skip, beginning-broken}
+use Rattle.snapshots.proofs.Begun.{beginning-more, beginning-end}
 use mathlib.Core.Logic.{⊎-elim}
 use mathlib.Core.Bool.{false≢true}
 use borrow.Author.Tests.{not-true, not-false}
@@ -10,10 +11,10 @@ use Rattle.snapshots.proofs.begin.Statement.{statement}
 use Rattle.snapshots.proofs.begin.Tie as tie
 
 abbrev Inv-loop : tie.InvT-loop
-Inv-loop st m selection steps marks₀ t i₀ marks i = Beginning selection steps m st marks₀ marks i
+Inv-loop st m steps marks₀ t i₀ marks i = Beginning steps m st marks₀ marks i
 
 abbrev μ-loop : tie.MeasureT-loop
-μ-loop st m selection steps marks₀ t i₀ marks i = m - i
+μ-loop st m steps marks₀ t i₀ marks i = m - i
 
 ring-size-requires : tie.Need-ring-size-requires Inv-loop μ-loop
 ring-size-requires c κs = search needs
@@ -22,22 +23,49 @@ checkpoint-at-requires : tie.Need-checkpoint-at-requires Inv-loop μ-loop
 checkpoint-at-requires c κs = search needs
 
 loop-holds : tie.Need-loop-holds Inv-loop μ-loop
-loop-holds c = beginning-start _ _ _ _ _ (c .before .before .before .before .pre .1 .1)
+loop-holds c = beginning-start _ _ _ _ (c .before .before .before .before .pre .1 .1)
 
 has-requires : tie.Need-has-requires Inv-loop μ-loop
 has-requires c κs = search needs
 
-has-requires-2 : tie.Need-has-requires-2 Inv-loop μ-loop
-has-requires-2 c κs = search needs
-
 begin-item-requires : tie.Need-begin-item-requires Inv-loop μ-loop
-begin-item-requires c κs = let v = c .before .before .before .before .before .loop .inv in let s = c .before .before .before .before .before .before .before .before .before .before in let h = c .before .before .before .before .loop-test .taken in let t = table-at (c .before .before .before .before .before .before .before .before .before .before .args .m) (c .before .before .before .before .before .before .before .before .before .before .args .st .now) (c .before .before .before .before .before .before .checkpoint-at .ensures) (c .before .before .before .before .before .before .before .ring-size .ensures .0) in (s .pre .0, ((s .pre .1 .0, (h, t)), (v .len, v .free (c .before .before .before .before .before .loop .i) (omega arith) (omega arith))))
+begin-item-requires c κs =
+    let v = c .before .before .before .before .loop .inv in
+    let s = c .before .before .before .before .before .before .before .before .before in
+    let h = c .before .before .before .loop-test .taken in
+    let t = table-at (s .args .m) (s .args .st .now)
+    (c .before .before .before .before .before .checkpoint-at .ensures)
+    (c .before .before .before .before .before .before .ring-size .ensures .0) in (
+      s .pre .0,
+      (
+        (s .pre .1 .0, (h, t)),
+        (
+          v .len,
+          v .free (c .before .before .before .before .loop .i) (omega arith)
+              (omega arith),
+        ),
+      ),
+    )
 
 same-length : tie.Need-same-length Inv-loop μ-loop
-same-length c = let v = c .before .before .before .before .before .before .before .before .before .loop .inv in omega (arith, v .same)
+same-length c =
+    let v = c .before .before .before .before .before .before .before .before .loop .inv in
+    omega (arith, v .same)
 
 returns : tie.Need-returns Inv-loop μ-loop
-returns c = let v = c .before .before .before .before .before .before .before .before .before .loop .inv in let b = told (c .before .before .before .before .before .before .before .has .ensures) (c .before .before .before .before .before .before .if1 .taken) in let t = table-at (c .before .before .before .before .before .before .before .before .before .before .before .before .before .before .args .m) (c .before .before .before .before .before .before .before .before .before .before .before .before .before .before .args .st .now) (c .before .before .before .before .before .before .before .before .before .before .checkpoint-at .ensures) (c .before .before .before .before .before .before .before .before .before .before .before .ring-size .ensures .0) in (beginning-broken v (c .before .before .before .before .before .before .before .before .loop-test .taken) b t (c .before .before .before .before .before .has2 .ensures) (c .before .before .before .begin-item .ensures .0) (not-true _ (c .if2 .taken)), λ z. absurd (false≢true z))
+returns c =
+    let v = c .before .before .before .before .before .before .before .before .loop .inv in
+    let s =
+    c .before .before .before .before .before .before .before .before .before .before .before .before .before in
+    let b = told (c .before .before .before .before .before .before .has .ensures)
+    (c .before .before .before .before .before .if1 .taken) in
+    let t = table-at (s .args .m) (s .args .st .now)
+    (c .before .before .before .before .before .before .before .before .before .checkpoint-at .ensures)
+    (c .before .before .before .before .before .before .before .before .before .before .ring-size .ensures .0) in (
+      beginning-broken v (c .before .before .before .before .before .before .before .loop-test .taken) b t
+          (c .before .before .before .begin-item .ensures .0) (not-true _ (c .if2 .taken)),
+      λ z. absurd (false≢true z),
+    )
 
 add-i : tie.Need-add-i Inv-loop μ-loop
 add-i c = search needs
@@ -46,7 +74,16 @@ loop-less : tie.Need-loop-less Inv-loop μ-loop
 loop-less c = search needs
 
 loop-again : tie.Need-loop-again Inv-loop μ-loop
-loop-again c = let v = c .before .before .before .loop .inv in let h = c .before .before .loop-test .taken in let a = c .before .has .ensures in let t = table-at (c .before .before .before .before .before .before .before .before .args .m) (c .before .before .before .before .before .before .before .before .args .st .now) (c .before .before .before .before .checkpoint-at .ensures) (c .before .before .before .before .before .ring-size .ensures .0) in ⊎-elim (λ w. let y = not-false _ (w .6 .left) in rw (w .7) (beginning-more v h (told a (w .0 .taken)) t (w .1 .ensures) (w .3 .ensures .0) y (w .3 .ensures .1 y))) (λ w. rw (w .1) (beginning-skip v h (told a (w .0 .left)))) (c .if1 .came)
+loop-again c =
+    let v = c .before .before .before .loop .inv in
+    let s = c .before .before .before .before .before .before .before .before in
+    let h = c .before .before .loop-test .taken in
+    let a = c .before .has .ensures in
+    let t = table-at (s .args .m) (s .args .st .now) (c .before .before .before .before .checkpoint-at .ensures)
+    (c .before .before .before .before .before .ring-size .ensures .0) in
+    ⊎-elim (λ w. let y = not-false _ (w .5 .left) in rw (w .6) (beginning-more v h (told a (w .0 .taken)) t
+    (w .2 .ensures .0) y (w .2 .ensures .1 y))) (λ w. rw (w .1) (beginning-skip v h (told a (w .0 .left))))
+    (c .if1 .came)
 
 same-length-2 : tie.Need-same-length-2 Inv-loop μ-loop
 same-length-2 c = let v = c .before .loop .inv in v .same
@@ -64,7 +101,6 @@ begin-spec =
     checkpoint-at-requires
     loop-holds
     has-requires
-    has-requires-2
     begin-item-requires
     same-length
     returns

@@ -1,83 +1,215 @@
-use Rattle.snapshots.proofs.Passes.{Passing, passing-start, passing-over, passing-broken, passing-ninth, passing-more, passing-end}
-use mathlib.Core.Bool.{false≢true}
+use Rattle.snapshots.proofs.Passes.{Passing, passing-start, passing-skip, passing-no, passing-block, passing-end}
+use Rattle.snapshots.specs.Snapshots.{block}
+use Rattle.snapshots.proofs.Passes.{run-to, block-on}
 use borrow.Author.Tests.{not-true, not-false}
-use borrow.Author.Needs.{needs}
+use mathlib.Core.Bool.{false≢true}
 use native.Mathlib.Omega.{arith}
-use Prim.Native.Nat.{_-_}
+use lib.ListN.{length}
+use Prim.Native.Nat.{suc, _-_}
+use mathlib.Core.Path.{_≡_}
 use Rattle.snapshots.proofs.pass_run.Statement.{statement}
 use Rattle.snapshots.proofs.pass_run.Tie as tie
 
 abbrev Inv-loop : tie.InvT-loop
-Inv-loop st m steps p f s e marks₀ n q₀ x₀ marks q x = Passing steps m st f s e marks₀ marks x q
+Inv-loop st m steps p f s e seen₀ picks₀ marks₀ q₀ x₀ seen picks marks q x =
+    Passing steps m st f s e marks₀ marks seen₀ seen x q × (length picks ≡ suc block)
 
 abbrev μ-loop : tie.MeasureT-loop
-μ-loop st m steps p f s e marks₀ n q₀ x₀ marks q x = e - x
-
-ring-size-requires : tie.Need-ring-size-requires Inv-loop μ-loop
-ring-size-requires c κs = search needs
+μ-loop st m steps p f s e seen₀ picks₀ marks₀ q₀ x₀ seen picks marks q x = e - x
 
 loop-holds : tie.Need-loop-holds Inv-loop μ-loop
-loop-holds c = let s = c .before .before .before in passing-start _ _ _ _ _ _ _ _ (s .pre .1 .1 .0) (s .pre .1 .1 .1 .0) (s .pre .1 .0 .1)
+loop-holds c =
+    let s = c .before .before .before .before in (
+      passing-start _ _ _ _ _ _ _ _ _ (s .pre .1 .1 .1 .0) (s .pre .1 .1 .1 .1 .0) (s .pre .1 .1 .0)
+          (s .pre .1 .0 .1 .0),
+      s .pre .1 .0 .1 .1,
+    )
 
 plain-run-requires : tie.Need-plain-run-requires Inv-loop μ-loop
-plain-run-requires c κs = let v = c .before .before .loop .inv in let s = c .before .before .before .before .before .before .pre in (s .0, ((s .1 .0 .0, v .len), (v .run, (v .from, s .1 .1 .1 .1))))
-
-same-length : tie.Need-same-length Inv-loop μ-loop
-same-length c = search needs
-
-returns : tie.Need-returns Inv-loop μ-loop
-returns c = let v = c .before .before .before .before .before .before .loop .inv in let r = c .before .before .before .plain-run .ensures in let w = passing-over v (r .0 .0) (r .0 .1) (omega (arith, v .len)) (r .1 .0) (r .1 .1) in let z = passing-end w (c .if1 .taken) in (z .0, λ y. z .1)
+plain-run-requires c κs =
+    let in-loop = c .before in
+    let loop = in-loop .before in
+    let s = loop .before .before .before .before .before in
+    let v = loop .loop .inv in (
+      s .pre .0,
+      (
+        (s .pre .1 .0 .0, v .0 .wide),
+        (
+          (v .0 .run, (v .0 .from, s .pre .1 .1 .1 .1 .1)),
+          omega (
+            arith,
+            in-loop .loop-test .taken,
+          ),
+        ),
+      ),
+    )
 
 sub-q : tie.Need-sub-q Inv-loop μ-loop
-sub-q c = search needs
+sub-q c =
+    let plain-run = c .before .before in
+    let r = plain-run .plain-run .ensures in
+    omega (arith, r .0 .0)
 
 add-q : tie.Need-add-q Inv-loop μ-loop
-add-q c = search needs
+add-q c =
+    let plain-run = c .before .before in
+    let loop = plain-run .before .before .before in
+    let s = loop .before .before .before .before .before in
+    let v = loop .loop .inv in
+    let r = plain-run .plain-run .ensures in
+    let w = passing-skip (v .0) (r .0) (omega arith) (r .1) in
+    omega (arith, w .run .room, s .pre .0 .n-max)
 
-ring-word-requires : tie.Need-ring-word-requires Inv-loop μ-loop
-ring-word-requires c κs = search needs
+block-end-requires : tie.Need-block-end-requires Inv-loop μ-loop
+block-end-requires c κs =
+    let plain-run = c .before .before in
+    let r = plain-run .plain-run .ensures in
+    r .0 .1
 
-item-of-requires : tie.Need-item-of-requires Inv-loop μ-loop
-item-of-requires c κs = search needs
+step-block-requires : tie.Need-step-block-requires Inv-loop μ-loop
+step-block-requires c κs =
+    let block-end = c .before .before .before in
+    let plain-run = block-end .before .before .before in
+    let loop = plain-run .before .before .before in
+    let s = loop .before .before .before .before .before in
+    let v = loop .loop .inv in
+    let r = plain-run .plain-run .ensures in
+    let w = passing-skip (v .0) (r .0) (omega arith) (r .1) in
+    let b = block-end .block-end .ensures in (
+      s .pre .0,
+      (
+        (s .pre .1 .0 .0, (w .wide, v .1)),
+        (
+          v .0 .len,
+          (
+            (
+              run-to (w .run) (b .0 .0) (b .0 .1),
+              (
+                w .from,
+                omega (arith, b .0 .1, s .pre .1 .1 .1 .1 .1),
+              ),
+            ),
+            (b .0 .0, b .1 .0),
+          ),
+        ),
+      ),
+    )
+
+same-length : tie.Need-same-length Inv-loop μ-loop
+same-length c =
+    let v = c .before .before .before .before .before .before .before .before .before .before .before .before
+    .before .before .before .before .before .loop .inv in
+    omega (
+      arith,
+      v .0 .wide,
+      c .before .before .before .before .before .before .before .before .before .before
+          .before .before .before .before .before .before .before .before .before .before .before .before .pre .1 .0 .1
+          .0,
+    )
 
 same-length-2 : tie.Need-same-length-2 Inv-loop μ-loop
-same-length-2 c = search needs
-
-returns-2 : tie.Need-returns-2 Inv-loop μ-loop
-returns-2 c = let v = c .before .before .before .before .before .before .before .before .before .loop .inv in let r = c .before .before .before .before .before .before .plain-run .ensures in let w = passing-over v (r .0 .0) (r .0 .1) (omega (arith, v .len)) (r .1 .0) (r .1 .1) in (passing-broken w (c .before .before .before .if1 .left) (c .before .before .before .before .before .before .before .before .before .before .ring-size .ensures .0) (c .before .before .ring-word .ensures) (c .before .item-of .ensures) (c .if2 .taken), λ z. absurd (false≢true z))
-
-sub-step-item : tie.Need-sub-step-item Inv-loop μ-loop
-sub-step-item c = search needs
-
-add-step-item : tie.Need-add-step-item Inv-loop μ-loop
-add-step-item c = search needs
-
-step-item-requires : tie.Need-step-item-requires Inv-loop μ-loop
-step-item-requires c κs = search needs
+same-length-2 c =
+    let loop = c .before .before .before .before .before .before .before .before .before .before .before
+    .before .before .before .before .before .before in
+    let s = loop .before .before .before .before .before in
+    let v = loop .loop .inv in
+    omega (arith, v .1, s .pre .1 .0 .1 .1)
 
 same-length-3 : tie.Need-same-length-3 Inv-loop μ-loop
-same-length-3 c = search needs
+same-length-3 c =
+    let loop = c .before .before .before .before .before .before .before .before .before .before .before
+    .before .before .before .before .before .before in
+    let s = loop .before .before .before .before .before in
+    let v = loop .loop .inv in
+    omega (arith, v .0 .len, s .pre .1 .1 .0)
 
-returns-3 : tie.Need-returns-3 Inv-loop μ-loop
-returns-3 c = let v = c .before .before .before .before .before .before .before .before .before .before .before .before .before .before .loop .inv in let r = c .before .before .before .before .before .before .before .before .before .before .before .plain-run .ensures in let w = passing-over v (r .0 .0) (r .0 .1) (omega (arith, v .len)) (r .1 .0) (r .1 .1) in (passing-ninth w (c .before .before .before .before .before .before .before .before .if1 .left) (c .before .before .before .before .before .before .before .before .before .before .before .before .before .before .before .ring-size .ensures .0) (c .before .before .before .before .before .before .before .ring-word .ensures) (c .before .before .before .before .before .before .item-of .ensures) (c .before .before .before .before .before .if2 .left) (c .before .before .before .step-item .ensures .0) (not-true _ (c .if3 .taken)), λ z. absurd (false≢true z))
+returns : tie.Need-returns Inv-loop μ-loop
+returns c =
+    let step-block = c .before .before .before .before .before .before .before in
+    let block-end = step-block .before .before .before .before in
+    let plain-run = block-end .before .before .before in
+    let loop = plain-run .before .before .before in
+    let v = loop .loop .inv in
+    let r = plain-run .plain-run .ensures in
+    let w = passing-skip (v .0) (r .0) (omega arith) (r .1) in
+    let b = block-end .block-end .ensures in (
+      passing-no w (b .0 .0) (b .0 .1) (step-block .step-block .ensures .0) (not-true _ (c .if1 .taken)),
+      λ z. absurd
+          (false≢true z),
+    )
+
+sub-q-2 : tie.Need-sub-q-2 Inv-loop μ-loop
+sub-q-2 c =
+    let block-end = c .before .before .before .before .before .before .before .before .before .before .before in
+    let b = block-end .block-end .ensures in
+    omega (arith, b .0 .0)
 
 add-q-2 : tie.Need-add-q-2 Inv-loop μ-loop
-add-q-2 c = search needs
-
-add-x : tie.Need-add-x Inv-loop μ-loop
-add-x c = search needs
+add-q-2 c =
+    let block-end = c .before .before .before .before .before .before .before .before .before .before .before in
+    let plain-run = block-end .before .before .before in
+    let loop = plain-run .before .before .before in
+    let s = loop .before .before .before .before .before in
+    let v = loop .loop .inv in
+    let r = plain-run .plain-run .ensures in
+    let w = passing-skip (v .0) (r .0) (omega arith) (r .1) in
+    let b = block-end .block-end .ensures in
+    omega (arith, w .run .room, s .pre .0 .n-max, b .0 .0, b .0 .1)
 
 loop-less : tie.Need-loop-less Inv-loop μ-loop
-loop-less c = search needs
+loop-less c =
+    let block-end = c .before .before .before .before .before .before .before .before .before .before .before in
+    let plain-run = block-end .before .before .before in
+    let in-loop = plain-run .before .before in
+    let r = plain-run .plain-run .ensures in
+    let b = block-end .block-end .ensures in
+    let k = block-on (in-loop .loop-test .taken) (r .0) b in
+    omega (arith, k, b .0 .1)
 
 loop-again : tie.Need-loop-again Inv-loop μ-loop
-loop-again c = let v = c .before .before .before .before .before .before .before .before .before .before .before .before .before .before .loop .inv in let r = c .before .before .before .before .before .before .before .before .before .before .before .plain-run .ensures in let w = passing-over v (r .0 .0) (r .0 .1) (omega (arith, v .len)) (r .1 .0) (r .1 .1) in let y = not-false _ (c .if3 .left) in passing-more w (c .before .before .before .before .before .before .before .before .if1 .left) (c .before .before .before .before .before .before .before .before .before .before .before .before .before .before .before .ring-size .ensures .0) (c .before .before .before .before .before .before .before .ring-word .ensures) (c .before .before .before .before .before .before .item-of .ensures) (c .before .before .before .before .before .if2 .left) (c .before .before .before .step-item .ensures .0) y (c .before .before .before .step-item .ensures .1 y)
+loop-again c =
+    let s = c .before .before .before .before .before .before .before .before .before .before .before .before
+    .before .before .before .before .before .before .before .before .before .before in
+    let v = c .before .before .before .before .before .before .before .before .before .before .before .before
+    .before .before .before .before .before .loop .inv in
+    let r = c .before .before .before .before .before .before .before .before .before .before .before .before
+    .before .before .plain-run .ensures in
+    let w = passing-skip (v .0) (r .0) (omega arith) (r .1) in
+    let b = c .before .before .before .before .before .before .before .before .before .before .before .block-end
+    .ensures in
+    let y = not-false _ (c .if1 .left) in (
+      passing-block w (b .0 .0) (b .0 .1) (c .before .before .before .before .before .before .before .step-block
+          .ensures .0) y (omega arith) (omega arith) (c .before .before .before .before .before .before .before
+          .step-block .ensures .1 y),
+      omega (arith, v .1),
+    )
 
 same-length-4 : tie.Need-same-length-4 Inv-loop μ-loop
-same-length-4 c = let v = c .before .loop .inv in omega (arith, v .len)
+same-length-4 c =
+    let loop = c .before in
+    let s = loop .before .before .before .before .before in
+    let v = loop .loop .inv in
+    omega (arith, v .0 .wide, s .pre .1 .0 .1 .0)
 
-returns-4 : tie.Need-returns-4 Inv-loop μ-loop
-returns-4 c = let w = passing-end (c .before .loop .inv) (c .loop-test .left) in (w .0, λ z. w .1)
+same-length-5 : tie.Need-same-length-5 Inv-loop μ-loop
+same-length-5 c =
+    let loop = c .before in
+    let s = loop .before .before .before .before .before in
+    let v = loop .loop .inv in
+    omega (arith, v .1, s .pre .1 .0 .1 .1)
+
+same-length-6 : tie.Need-same-length-6 Inv-loop μ-loop
+same-length-6 c =
+    let loop = c .before in
+    let s = loop .before .before .before .before .before in
+    let v = loop .loop .inv in
+    omega (arith, v .0 .len, s .pre .1 .1 .0)
+
+returns-2 : tie.Need-returns-2 Inv-loop μ-loop
+returns-2 c =
+    let loop = c .before in
+    let w = passing-end (loop .loop .inv .0) (c .loop-test .left) in
+    (w .0, λ z. w .1)
 
 pub pass-run-spec : {M : Type 1} → statement M
 pass-run-spec =
@@ -85,25 +217,21 @@ pass-run-spec =
     (tie.spec
     Inv-loop
     μ-loop
-    ring-size-requires
     loop-holds
     plain-run-requires
-    same-length
-    returns
     sub-q
     add-q
-    ring-word-requires
-    item-of-requires
+    block-end-requires
+    step-block-requires
+    same-length
     same-length-2
-    returns-2
-    sub-step-item
-    add-step-item
-    step-item-requires
     same-length-3
-    returns-3
+    returns
+    sub-q-2
     add-q-2
-    add-x
     loop-less
     loop-again
     same-length-4
-    returns-4)
+    same-length-5
+    same-length-6
+    returns-2)

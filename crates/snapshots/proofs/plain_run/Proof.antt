@@ -1,23 +1,23 @@
-use Rattle.snapshots.proofs.Passes.{Passing, passing-start, passing-more}
-use Rattle.snapshots.proofs.Eights.{plain-step}
+use Rattle.snapshots.proofs.Passes.{Skipping, skipping-start, skipping-more}
 use borrow.Author.Needs.{needs}
-use native.Mathlib.Omega.{arith}
-use Prim.Native.Nat.{_+_, _-_, _≤_}
-use mathlib.Core.Path.{_≡_, refl, sym, _∙_}
+use Prim.Native.Nat.{_-_}
+use mathlib.Core.Path.{refl, sym, _∙_}
 use Rattle.snapshots.proofs.plain_run.Statement.{statement}
 use Rattle.snapshots.proofs.plain_run.Tie as tie
 
 abbrev Inv-loop : tie.InvT-loop
-Inv-loop st m steps p f s e marks₀ n q₀ x₀ marks q x = Passing steps m st f s e marks₀ marks x q × ((s ≤ x) × (q ≡ p + (x - s)))
+Inv-loop st m steps p f s e seen₀ n q₀ x₀ seen q x = Skipping steps m st f s e seen₀ seen x q
 
 abbrev μ-loop : tie.MeasureT-loop
-μ-loop st m steps p f s e marks₀ n q₀ x₀ marks q x = e - x
+μ-loop st m steps p f s e seen₀ n q₀ x₀ seen q x = e - x
 
 ring-size-requires : tie.Need-ring-size-requires Inv-loop μ-loop
 ring-size-requires c κs = search needs
 
 loop-holds : tie.Need-loop-holds Inv-loop μ-loop
-loop-holds c = let s = c .before .before .before in (passing-start _ _ _ _ _ _ _ _ (s .pre .1 .1 .0) (s .pre .1 .1 .1 .0) (s .pre .1 .0 .1), (omega arith, omega arith))
+loop-holds c =
+    let s = c .before .before .before in
+    skipping-start _ _ _ _ _ _ _ _ (s .pre .1 .1 .0 .0) (s .pre .1 .1 .1) (s .pre .1 .0 .1)
 
 ring-word-requires : tie.Need-ring-word-requires Inv-loop μ-loop
 ring-word-requires c κs = search needs
@@ -32,25 +32,22 @@ same-length : tie.Need-same-length Inv-loop μ-loop
 same-length c = search needs
 
 returns : tie.Need-returns Inv-loop μ-loop
-returns c = let v = c .before .before .before .before .loop .inv in let q = v .1 .1 in ((v .1 .0, rw q at (v .0 .run)), (v .0 .ok, v .0 .marks))
+returns c =
+    let loop = c .before .before .before .before in
+    let v = loop .loop .inv in
+    ((v .low, v .high), v .skipped)
 
-sub-mark-of : tie.Need-sub-mark-of Inv-loop μ-loop
-sub-mark-of c = search needs
+sub-seen : tie.Need-sub-seen Inv-loop μ-loop
+sub-seen c = search needs
 
-add-mark-of : tie.Need-add-mark-of Inv-loop μ-loop
-add-mark-of c = search needs
+add-seen : tie.Need-add-seen Inv-loop μ-loop
+add-seen c = search needs
 
-mark-of-requires : tie.Need-mark-of-requires Inv-loop μ-loop
-mark-of-requires c κs = search needs
+mul-seen : tie.Need-mul-seen Inv-loop μ-loop
+mul-seen c = search needs
 
-mul-marks : tie.Need-mul-marks Inv-loop μ-loop
-mul-marks c = search needs
-
-mul-marks-2 : tie.Need-mul-marks-2 Inv-loop μ-loop
-mul-marks-2 c = search needs
-
-slice-write-marks : tie.Need-slice-write-marks Inv-loop μ-loop
-slice-write-marks c = search needs
+slice-write-seen : tie.Need-slice-write-seen Inv-loop μ-loop
+slice-write-seen c = search needs
 
 add-q : tie.Need-add-q Inv-loop μ-loop
 add-q c = search needs
@@ -62,13 +59,26 @@ loop-less : tie.Need-loop-less Inv-loop μ-loop
 loop-less c = search needs
 
 loop-again : tie.Need-loop-again Inv-loop μ-loop
-loop-again c = let v = c .before .before .before .before .before .before .before .loop .inv in let s = c .before .before .before .before .before .before .before .before .before .before .before .args in let w = plain-step (s .steps) (c .before .before .before .before .item-of .result) (c .before .before .before .before .before .before .before .loop .x - s .f + 9) (c .before .before .before .before .before .ring-word .result) (c .before .before .before .before .before .before .before .loop .marks) (omega (arith, v .0 .len)) (sym (c .before .before .has .ensures) ∙ c .before .if2 .left) (c .mark-of .ensures) in (passing-more (v .0) (c .before .before .before .before .before .before .loop-test .taken) (c .before .before .before .before .before .before .before .before .ring-size .ensures .0) (c .before .before .before .before .before .ring-word .ensures) (c .before .before .before .before .item-of .ensures) (c .before .before .before .if1 .left) (w .0) refl (w .1), (omega arith, omega arith))
+loop-again c =
+    let has = c .before in
+    let else1 = has .before in
+    let item-of = else1 .before in
+    let ring-word = item-of .before in
+    let in-loop = ring-word .before in
+    let loop = in-loop .before in
+    let ring-size = loop .before in
+    skipping-more (loop .loop .inv) (in-loop .loop-test .taken) (ring-size .ring-size .ensures .0)
+    (ring-word .ring-word .ensures) (item-of .item-of .ensures) (else1 .if1 .left) (sym (has .has .ensures) ∙
+    c .if2 .left) refl
 
 same-length-2 : tie.Need-same-length-2 Inv-loop μ-loop
 same-length-2 c = search needs
 
 returns-2 : tie.Need-returns-2 Inv-loop μ-loop
-returns-2 c = let v = c .before .loop .inv in let q = v .1 .1 in ((v .1 .0, rw q at (v .0 .run)), (v .0 .ok, v .0 .marks))
+returns-2 c =
+    let loop = c .before in
+    let v = loop .loop .inv in
+    ((v .low, v .high), v .skipped)
 
 pub plain-run-spec : {M : Type 1} → statement M
 plain-run-spec =
@@ -83,12 +93,10 @@ plain-run-spec =
     has-requires
     same-length
     returns
-    sub-mark-of
-    add-mark-of
-    mark-of-requires
-    mul-marks
-    mul-marks-2
-    slice-write-marks
+    sub-seen
+    add-seen
+    mul-seen
+    slice-write-seen
     add-q
     add-x
     loop-less
