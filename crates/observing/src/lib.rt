@@ -17,7 +17,7 @@ use spec::Refusal;
 use spec::Value;
 use spec::Verdict;
 
-// No answer of the short way: the long one is gone.
+// No answer of the short way: the long one is to be taken.
 const LEFT: u64 = 18446744073709551615;
 
 // The time, or the host's where it is missing.
