@@ -1,41 +1,43 @@
 -- A table that takes an observation; the entry about to be overwritten, by its packed word, and one law to each branch
 -- of the room for a number; eviction and addition by their writes; start's turns.
-use Prim.Native.Nat.{ℕ, suc, _+_, _-_, _*_, _^_, _≤_, _<_}
-use mathlib.Core.Path.{_≡_, refl, sym, _∙_}
+use Prim.Native.Nat.{ℕ, zero, suc, _+_, _-_, _*_, _^_, _≤_, _<_}
+use mathlib.Core.Path.{_≡_, refl, sym, ap, _∙_}
 use mathlib.Core.Logic.{_≢_, inl, inr}
 use mathlib.Core.Bool.{Bool, true, false, cond, true≢false, false≢true}
 use mathlib.Core.List.{List, [], _∷_, _++_}
 use native.Mathlib.Omega.{arith}
-use native.Mathlib.Nat.{sub-zero, add-zero}
+use native.Mathlib.Nat.{sub-zero, add-zero, mod-eq-of-lt}
 use native.Mathlib.Numerals.{add-one}
-use lib.Dec.{leb, ltb}
-use lib.ListN.{length, set, length-append}
+use lib.Dec.{leb, ltb, eqb}
+use lib.ListN.{length, set, drop, length-append}
+use lib.Seq.{set-getD}
 use borrow.Author.Tests.{le-leb, lt-leb, lt-ltb, le-ltb, eq-eqb, ne-eqb}
 use Rattle.spec.specs.Words.{row, put}
 use Rattle.spec.specs.Model.{maxItems}
 use Rattle.spec.specs.Value.{itemOf, pack}
 use Rattle.spec.specs.Blocks.{tableRows, putRows, padded}
-use Rattle.spec.specs.Entries.{step, usedRows, formOk}
+use Rattle.spec.specs.Entries.{anyEntry, step, usedRows, formOk}
 use Rattle.spec.specs.Observations.{maxNumber, ringSize, base, last, lastAt, ringAt, latestAt, checkpointAt, place}
-use Rattle.spec.specs.Observations.{Head, itemAt, itemRows, isCondition, overwrites, overwritten, setNewest, evict}
+use Rattle.spec.specs.Observations.{Head, itemAt, itemRows, isCondition, overwrites, overwritten, setNewest, evict, stepped}
 use Rattle.spec.specs.Observations.{evictOk, add, blank, addAll, startStore, latestOk}
 use Rattle.spec.specs.Calls.{roomFor, added}
-use Rattle.spec.specs.Reference.{Observation}
+use Rattle.spec.specs.Reference.{Observation, newestOr}
+use Rattle.spec.specs.Standing.{standingFrom, entriesOf}
 use Rattle.spec.specs.declared.Refusal.the-variants.{Spent, Store}
 use Rattle.spec.specs.declared.Value.the-variants.{Unavailable}
 use Rattle.spec.specs.declared.Verdict.the-variants.{Fine, Refused}
-use Rattle.spec.proofs.Words.{and-left, and-right, by-cond}
+use Rattle.spec.proofs.Words.{and-left, and-right, by-cond, by-test}
 use Rattle.spec.proofs.Tables.{length-put, row-put-apart}
-use Rattle.spec.proofs.Blocks.{table-rows-ext, table-rows-apart}
+use Rattle.spec.proofs.Blocks.{table-rows-ext, table-rows-other, table-rows-apart}
 use Rattle.spec.proofs.Steps.{step-length-word, form-less}
 use Rattle.spec.proofs.Added.{rowsFor, rows-for-three, rows-for-few, length-evict, evict-item}
 use Rattle.spec.proofs.Heads.{room-for}
-use Rattle.spec.proofs.Kept.{Rep, next, right, few-all, add-rep}
+use Rattle.spec.proofs.Kept.{Rep, next, right, few-all, entries-other, add-rep}
 use Rattle.spec.proofs.Rows.{form-ok, evict-ok}
 use Rattle.spec.proofs.Start.{blank-rep}
 use Rattle.observations.specs.Ring.{ringTime, ringWord}
 use Rattle.entries.specs.Forms.{Table, takesOne}
-use Rattle.recording.specs.Writing.{InRing, Overwriting, InTable, Starting, overwritable, Tried}
+use Rattle.recording.specs.Writing.{InRing, Overwriting, InTable, Starting, overwritable, Tried, putNumber}
 
 -- ---- a way that was tried, and one that was not open
 
@@ -205,6 +207,13 @@ pub latest-in : {cat : ℕ → ℕ} {n m b s item : ℕ} {st : List ℕ} → Ove
 latest-in o l f = record { low = l; room = omega (arith, o .ring .len); form = f }
 
 -- the latest stays through the eviction and the ring's entry
+put-latest : (n m : ℕ) (x : List ℕ) (p time word i : ℕ) → p < n → i < m
+    → itemRows (put x ringAt n p (time ∷ word ∷ [])) (latestAt n) m i ≡ itemRows x (latestAt n) m i
+put-latest n m x p time word i h l =
+    table-rows-ext _ x (latestAt n) (8 * m) 8 (8 * i)
+    (λ j f g.
+    row-put-apart (time ∷ word ∷ []) x ringAt n p (latestAt n) (8 * m) j 3 h (omega arith) (inr (omega arith)))
+
 module _ (cat : ℕ → ℕ) (n m b s : ℕ) (st : List ℕ) (o : Overwriting cat n m b s st) where
   evict-latest : (i : ℕ) → i < m
       → itemRows (evict cat n m b s st) (latestAt n) m i ≡ itemRows st (latestAt n) m i
@@ -221,13 +230,6 @@ module _ (cat : ℕ → ℕ) (n m b s : ℕ) (st : List ℕ) (o : Overwriting ca
       (latestAt n) (8 * m) 8 (8 * i) (omega arith) (inl (omega arith)))
       (λ e. refl)
 
-  put-latest : (x : List ℕ) (p time word i : ℕ) → p < n → i < m
-      → itemRows (put x ringAt n p (time ∷ word ∷ [])) (latestAt n) m i ≡ itemRows x (latestAt n) m i
-  put-latest x p time word i h l =
-      table-rows-ext _ x (latestAt n) (8 * m) 8 (8 * i)
-      (λ j f g.
-      row-put-apart (time ∷ word ∷ []) x ringAt n p (latestAt n) (8 * m) j 3 h (omega arith) (inr (omega arith)))
-
   pub still-in : (p time word item t : ℕ) (x y : List ℕ) → x ≡ evict cat n m b s st → p < n
       → y ≡ put x ringAt n p (time ∷ word ∷ []) → t ≡ latestAt n → InTable cat m (latestAt n) item st
       → InTable cat m t item y
@@ -239,7 +241,7 @@ module _ (cat : ℕ → ℕ) (n m b s : ℕ) (st : List ℕ) (o : Overwriting ca
         room = omega (arith, len, i .room);
         form =
             λ c.
-            rw (ey, put-latest x p time word item hp (i .low), ex, evict-latest item (i .low)) (i .form c);
+            rw (ey, put-latest n m x p time word item hp (i .low), ex, evict-latest item (i .low)) (i .form c);
       })
 
 -- the writes behind an eviction are an addition
@@ -249,20 +251,76 @@ pub written : (cat : ℕ → ℕ) (n m b s item time word p t : ℕ) (st x y z v
 unfolding add
 written cat n m b s item time word p t st x y z v ex ep ey et ez ev = rw (ev, ez, et, ey, ex, ep)
 
+-- and so are those by one row, where that row is what the latest takes
+pub numbered : (cat : ℕ → ℕ) (n m b s item time word p : ℕ) (st x v : List ℕ) → x ≡ evict cat n m b s st
+    → p ≡ place n b s
+    → (let y = put x ringAt n p (time ∷ word ∷ []) in
+    let r = s ∷ time ∷ word ∷ [] in
+    put y (latestAt n) (8 * m) (8 * item) r ≡ setNewest cat y (latestAt n) m item r)
+    → v ≡ putNumber n m p item s time word x → v ≡ add cat n m b s item time word st
+unfolding putNumber
+numbered cat n m b s item time word p st x v ex ep er ev =
+    written cat n m b s item time word p (latestAt n) st x _ _ v ex ep refl refl er ev
+
 -- the next number, by what the head has
 pub added-next : (cat : ℕ → ℕ) (m n b l item time word : ℕ) (st v : List ℕ) → n ≡ ringSize st → b ≡ base st
     → l ≡ last st → v ≡ add cat n m b (l + 1) item time word st → v ≡ added cat m st item time word
 added-next cat m n b l item time word st v hn hb hl q = rw (hn, hb, hl, add-one (last st)) at q
 
+-- ---- unused rows
+
+-- writing back what stands changes nothing
+put-back : (c : ℕ) (st : List ℕ) (b w i : ℕ) → put st b w i (row st b w i c) ≡ st
+unfolding put row
+put-back zero st b w i = refl
+put-back (suc c) st b w i =
+    ap (λ (x : List ℕ). put x (b + w) w i (row st (b + w) w i c)) (set-getD st (b + i) 0) ∙ put-back c st (b + w) w i
+
+put-rows-back : (n : ℕ) (st : List ℕ) (b w k : ℕ) → putRows st b w k (tableRows st b w n k) ≡ st
+unfolding putRows tableRows
+put-rows-back zero st b w k = refl
+put-rows-back (suc n) st b w k =
+    ap (λ (x : List ℕ). putRows x b w (suc k) (tableRows st b w n (suc k))) (put-back 3 st b w k)
+    ∙ put-rows-back n st b w (suc k)
+
+-- so an item whose rows are all unused takes an observation by its first row, whatever its category
+module _ (st : List ℕ) (t m i : ℕ) (r : List ℕ) (l : i < m) (u : itemRows st t m i ≡ padded 8 []) where
+  behind-first : length r ≡ 3 → tableRows (put st t (8 * m) (8 * i) r) t (8 * m) 7 (suc (8 * i)) ≡ padded 7 []
+  unfolding tableRows putRows padded
+  behind-first h =
+      table-rows-other (r ∷ []) st t (8 * m) (8 * i) (h, tt) (omega arith) 7 (suc (8 * i)) (omega arith)
+      (inr (omega arith))
+      ∙ ap (drop 1) u
+
+  step-none : stepped st t m i r ≡ r ∷ []
+  unfolding step anyEntry usedRows padded
+  step-none = rw u
+
+  pub newest-first : (cat : ℕ → ℕ) → length r ≡ 3 → put st t (8 * m) (8 * i) r ≡ setNewest cat st t m i r
+  unfolding putRows padded
+  newest-first cat h =
+      let x = put st t (8 * m) (8 * i) r in
+      by-cond (λ (rs : List (List ℕ)). x ≡ putRows st t (8 * m) (8 * i) rs) (isCondition cat i) _ _
+      (λ e.
+      rw step-none
+      (sym (put-rows-back 7 x t (8 * m) (suc (8 * i))) ∙ ap (putRows x t (8 * m) (suc (8 * i))) (behind-first h)))
+      (λ e. refl)
+
 -- ---- start
 
--- start's loop: k items are added, as the reference model holds them, and the rest makes the whole
+-- start's loop: k items are added, as the reference model holds them, the others have no entry yet, and the rest makes
+-- the whole
 pub record Filling (cat : ℕ → ℕ) (n m b host k : ℕ) (st : List ℕ) : Type 0 where
   pub below : k ≤ m
   pub held : List Observation
   pub count : length held ≡ k
   pub rep : Rep cat n m b held st
+  pub fresh : (i : ℕ) → k ≤ i → entriesOf (cat i) i held ≡ []
   pub rest : addAll cat n m b host (m - k) (b + k) k st ≡ startStore cat n m b host
+
+none-of : (c i : ℕ) → entriesOf c i [] ≡ []
+unfolding entriesOf standingFrom newestOr
+none-of c i = by-test (eqb c 2) (λ e. rw e) (λ e. rw e)
 
 pub filling-none : (cat : ℕ → ℕ) (n m b host : ℕ) → Starting n m b → Filling cat n m b host 0 (blank n m b)
 unfolding startStore
@@ -272,6 +330,7 @@ filling-none cat n m b host s =
       held = [];
       count = refl;
       rep = blank-rep cat n m b (s .n-pos) (s .b-pos);
+      fresh = λ i h. none-of (cat i) i;
       rest = rw (sub-zero, add-zero b);
     }
 
@@ -303,6 +362,16 @@ module _ {cat : ℕ → ℕ} {n m b host k : ℕ} {st : List ℕ} (f : Filling c
       form-ok cat (latestAt n) m (f .held) st (f .rep .latest) (right cat n m b (f .held) st (f .rep)) k l c
       (few-all cat n m b (f .held) st (f .rep) k c) 0 (omega arith))
 
+  -- by one row, while the ring is not full
+  pub filling-row : (e : List ℕ) (w h : ℕ) → h ≡ m → k < m → k < n → e ≡ putNumber n h k k (b + k) host w st
+      → e ≡ add cat n m b (b + k) k host w st
+  filling-row e w h eh l c q =
+      let z : b + k - b ≡ k = omega arith in
+      let p : k ≡ place n b (b + k) = sym (rw z (mod-eq-of-lt c)) in
+      let u : itemRows st (latestAt n) m k ≡ padded 8 [] = rw (f .fresh k (omega arith)) at (f .rep .latest k l) in
+      numbered cat n m b (b + k) k host w k st st e (not-evicted cat n m b (b + k) st (omega arith)) p
+      (newest-first _ (latestAt n) m k _ l (put-latest n m st k host w k c l ∙ u) cat refl) (rw eh at q)
+
   pub filling-more : {e : List ℕ} {w : ℕ} → k < m → w ≡ pack k Unavailable → e ≡ add cat n m b (b + k) k host w st
       → Filling cat n m b host (k + 1) e
   filling-more {e} {w} l ew q =
@@ -313,6 +382,9 @@ module _ {cat : ℕ → ℕ} {n m b host k : ℕ} {st : List ℕ} (f : Filling c
         held = f .held ++ (o ∷ []);
         count = length-append (f .held) (o ∷ []) ∙ omega (arith, f .count);
         rep = rw a (add-rep cat n m b (f .held) st k host Unavailable (f .rep) l tt (λ c. refl));
+        fresh =
+            λ i h.
+            entries-other (cat i) i (f .held) o (ne-eqb k i (omega arith)) ∙ f .fresh i (omega arith);
         rest = rw (a, f .count) (one-more cat n m b host k st l ∙ f .rest);
       }
 

@@ -4,11 +4,12 @@ use mathlib.Core.Path.{_≡_}
 use mathlib.Core.Bool.{Bool, true, false, _&&_, _||_, not}
 use mathlib.Core.List.{List, [], _∷_}
 use lib.Dec.{leb, ltb}
-use lib.ListN.{length}
+use lib.ListN.{length, set}
+use Rattle.spec.specs.Words.{put}
 use Rattle.spec.specs.Value.{itemOf}
 use Rattle.spec.specs.Entries.{formOk}
-use Rattle.spec.specs.Observations.{maxRing, maxNumber, storeWords, checkpointAt, itemRows, isCondition, stepped}
-use Rattle.spec.specs.Observations.{evictOk}
+use Rattle.spec.specs.Observations.{maxRing, maxNumber, lastAt, ringAt, latestAt, checkpointAt, storeWords, itemRows}
+use Rattle.spec.specs.Observations.{isCondition, stepped, evictOk}
 
 -- number s has a place in the ring of a store of these sizes
 pub record InRing (n m b s : ℕ) (st : List ℕ) : Type 0 where
@@ -41,6 +42,14 @@ overwritable cat n m st word =
 pub record Tried (r : Bool) (Open : Type 0) (old new after : List ℕ) : Type 0 where
   pub done : r ≡ true → Open × (after ≡ new)
   pub left : r ≡ false → after ≡ old
+
+-- number s at place p by one row: the ring, the item's first latest entry, and last
+unfoldable pub putNumber : ℕ → ℕ → ℕ → ℕ → ℕ → ℕ → ℕ → List ℕ → List ℕ
+putNumber n m p item s time word st =
+    set
+    (put (put st ringAt n p (time ∷ word ∷ [])) (latestAt n) (8 * m) (8 * item) (s ∷ time ∷ word ∷ []))
+    lastAt
+    s
 
 -- the sizes and the first number that start accepts
 pub record Starting (n m b : ℕ) : Type 0 where

@@ -2,14 +2,14 @@
 ghost use mathlib.Core.Path.{_≡_};
 ghost use mathlib.Core.Bool.{true, false};
 ghost use mathlib.Core.List.{[], _∷_};
-ghost use Prim.Native.Nat.{_<_};
+ghost use Prim.Native.Nat.{_≤_, _<_};
 ghost use lib.ListN.{length};
-ghost use Rattle.spec.specs.Model.{Sizes, items, category};
-ghost use Rattle.spec.specs.Observations.{Head, ringSize, latestAt, storeWords, setNewest, evict, add, latestOk};
-ghost use Rattle.spec.specs.Observations.{isCondition, evictOk, startStore};
+ghost use Rattle.spec.specs.Model.{Sizes, maxItems, items, category};
+ghost use Rattle.spec.specs.Observations.{maxRing, Head, ringSize, latestAt, storeWords, setNewest, evict, add};
+ghost use Rattle.spec.specs.Observations.{latestOk, isCondition, evictOk, startStore};
 ghost use Rattle.spec.specs.Calls.{roomFor, added};
 ghost use Rattle.spec.specs.declared.Verdict.the-variants.{Fine};
-ghost use Rattle.recording.specs.Writing.{InRing, Overwriting, Starting, InTable, overwritable, Tried};
+ghost use Rattle.recording.specs.Writing.{InRing, Overwriting, Starting, InTable, overwritable, Tried, putNumber};
 use spec::Refusal;
 use spec::Value;
 use spec::Verdict;
@@ -133,6 +133,20 @@ pub fn add(model: &[u32], st: &mut [u64], item: u64, time: u64, word: u64)
     write(model, st, n, b, last + 1, item, time, word);
 }
 
+// Number s at place p, by one row: the ring, the item's first latest entry, and last.
+fn put_number(st: &mut [u64], n: u64, m: u64, p: u64, item: u64, s: u64, time: u64, word: u64)
+    requires { ⌜ (p < n) × (n ≤ maxRing) ⌝ }
+    requires { ⌜ (item < m) × (m ≤ maxItems) ⌝ }
+    requires { ⌜ length (now st) ≡ storeWords n m ⌝ }
+    ensures { λ r. ⌜ now (st .exit) ≡ putNumber n m p item s time word (now (st .entry)) ⌝ }
+{
+    observations::put_ring(st, n, p, time, word);
+    let latest = observations::latest_at(n);
+    let k = spec::ENTRIES * item;
+    observations::put_row(st, spec::ENTRIES * m, latest, k, s, time, word);
+    observations::set_last(st, s);
+}
+
 // The entry that number s is about to overwrite, if any, goes to its item's checkpoint as its one row. False, and
 // nothing is changed, where it has no item of the model or one with conditions.
 fn evict_plain(model: &[u32], st: &mut [u64], n: u64, b: u64, s: u64) -> bool
@@ -188,16 +202,13 @@ pub fn add_plain(model: &[u32], st: &mut [u64], item: u64, time: u64, word: u64)
     if !evict_plain(model, st, n, b, s) {
         return false;
     }
-    let at = observations::place(n, b, s);
-    observations::put_ring(st, n, at, time, word);
-    let latest = observations::latest_at(n);
-    let k = spec::ENTRIES * item;
-    observations::put_row(st, spec::ENTRIES * m, latest, k, s, time, word);
-    observations::set_last(st, s);
+    let p = observations::place(n, b, s);
+    put_number(st, n, m, p, item, s, time, word);
     true
 }
 
-// The store that start makes, whatever stood there: each item in turn Unavailable, the first with number b.
+// The store that start makes, whatever stood there: each item in turn Unavailable, the first with number b. Until the
+// ring is full an item's number is at its own place, overwrites nothing, and is its item's first.
 pub fn start_store(model: &[u32], st: &mut [u64], n: u64, b: u64, host: u64)
     requires { ⌜ Sizes (now model) ⌝ }
     requires { ⌜ Starting n (items (now model)) b ⌝ }
@@ -211,7 +222,11 @@ pub fn start_store(model: &[u32], st: &mut [u64], n: u64, b: u64, host: u64)
     let mut item: u64 = 0;
     while item < m {
         let word = value::pack(item, Value::Unavailable);
-        write(model, st, n, b, b + item, item, host, word);
+        if item < n {
+            put_number(st, n, m, item, item, b + item, host, word);
+        } else {
+            write(model, st, n, b, b + item, item, host, word);
+        }
         item += 1;
     }
 }

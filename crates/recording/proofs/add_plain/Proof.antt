@@ -1,11 +1,10 @@
 -- A number is left and its place was made: the ring, the latest's one row and last are written.
-use mathlib.Core.Path.{refl}
+use mathlib.Core.Path.{refl, _∙_}
 use native.Mathlib.Omega.{arith}
 use borrow.Author.Tests.{not-true, not-false, eqb-false}
 use Rattle.spec.specs.Model.{category}
-use Rattle.spec.proofs.Tables.{length-put}
 use Rattle.spec.proofs.Added.{length-evict}
-use Rattle.recording.proofs.Laws.{next-ring, tried, untried, room-left, newest-row, written, added-next}
+use Rattle.recording.proofs.Laws.{next-ring, tried, untried, room-left, newest-row, numbered, added-next}
 use borrow.Author.Needs.{needs}
 use Rattle.recording.proofs.add_plain.Statement.{statement}
 use Rattle.recording.proofs.add_plain.Tie as tie
@@ -48,42 +47,29 @@ returns-2 c = untried (c .before .before .before .evict-plain .ensures .left (no
 place-requires : tie.Need-place-requires
 place-requires c κs = search needs
 
-put-ring-requires : tie.Need-put-ring-requires
-put-ring-requires c κs = search needs
-
-latest-at-requires : tie.Need-latest-at-requires
-latest-at-requires c κs = search needs
-
-mul-k : tie.Need-mul-k
-mul-k c = search needs
-
-mul-put-row : tie.Need-mul-put-row
-mul-put-row c = search needs
-
-put-row-requires : tie.Need-put-row-requires
-put-row-requires c κs = search needs
-
-set-last-requires : tie.Need-set-last-requires
-set-last-requires c κs =
-    let q = c .before .before .before in
-    let r = q .before .before .before .before .before in
-    let f = r .before .before .before in
+put-number-requires : tie.Need-put-number-requires
+put-number-requires c κs =
+    let p = c .before in
+    let f = p .before in
     let e = f .before .before .before in
-    let h = e .before .before .before .before .before .before .before .before .before
-    .before .before .before .pre .1 .0 in
-    let x = e .evict-plain .ensures .done (not-false _ (f .if2 .left)) in
-    rw (q .put-row .ensures, r .put-ring .ensures, x .1) (simp (length-put, length-evict) (omega (arith, h .len)))
+    let n = e .before .before .before .before .before .before .before in
+    let i = n .before .before in
+    let s = i .before .before .before in
+    let x = e .evict-plain .ensures .done (not-false _ (f .if2 .left)) in (
+      (p .place .ensures .1, omega arith),
+      (
+        (omega (arith, s .pre .1 .1 .0), omega arith),
+        rw (x .1, n .ring-size .ensures .0, i .items .ensures .0) (length-evict _ _ _ _ _ _ ∙ s .pre .1 .0 .len),
+      ),
+    )
 
 same-length-3 : tie.Need-same-length-3
 same-length-3 c = search needs
 
 returns-3 : tie.Need-returns-3
 returns-3 c =
-    let z = c .before .before in
-    let q = z .before .before .before .before in
-    let t = q .before .before in
-    let r = t .before .before .before in
-    let p = r .before .before in
+    let q = c .before .before in
+    let p = q .before .before in
     let f = p .before in
     let e = f .before .before .before in
     let l = e .before .before .before in
@@ -93,14 +79,13 @@ returns-3 c =
     let s = i .before .before .before in
     let x = e .evict-plain .ensures .done (not-false _ (f .if2 .left)) in
     let row =
-    newest-row (category (s .args .model .now)) _ _ _ _ _ (i .items .ensures .0) _ _ (eqb-false _ 2 (s .pre .1 .1 .1))
-    (q .put-row .ensures) in
+    newest-row (category (s .args .model .now)) _ _ _ _ _ refl _ _ (eqb-false _ 2 (s .pre .1 .1 .1)) refl in
     tried
     (room-left _ _ _ _ _ _ (n .ring-size .ensures .0) (b .base .ensures) (l .last .ensures .0)
     (omega (arith, e .before .before .if1 .left)) (x .0))
     (added-next _ _ _ _ _ _ _ _ _ _ (n .ring-size .ensures .0) (b .base .ensures) (l .last .ensures .0)
-    (written _ _ _ _ _ _ _ _ _ _ _ _ _ _ _ (x .1) (p .place .ensures .0) (r .put-ring .ensures)
-    (t .latest-at .ensures) row (z .set-last .ensures)))
+    (numbered _ _ _ _ _ _ _ _ _ _ _ _ (x .1) (p .place .ensures .0) row
+    (rw (i .items .ensures .0) at (q .put-number .ensures))))
 
 pub add-plain-spec : {M : Type 1} → statement M
 add-plain-spec =
@@ -117,11 +102,6 @@ add-plain-spec =
     same-length-2
     returns-2
     place-requires
-    put-ring-requires
-    latest-at-requires
-    mul-k
-    mul-put-row
-    put-row-requires
-    set-last-requires
+    put-number-requires
     same-length-3
     returns-3)

@@ -2,9 +2,11 @@
 -- Measure: the items left.
 use Prim.Native.Nat.{_-_}
 use mathlib.Core.Path.{sym, _∙_}
+use mathlib.Core.Logic.{⊎-elim}
 use native.Mathlib.Omega.{arith}
 use Rattle.spec.specs.Model.{items, category}
-use Rattle.recording.proofs.Laws.{Filling, filling-none, filling-fits, filling-in, filling-more, filling-all}
+use Rattle.recording.proofs.Laws.{Filling, filling-none, filling-fits, filling-in, filling-row}
+use Rattle.recording.proofs.Laws.{filling-more, filling-all}
 use borrow.Author.Needs.{needs}
 use Rattle.recording.proofs.start_store.Statement.{statement}
 use Rattle.recording.proofs.start_store.Tie as tie
@@ -30,12 +32,24 @@ loop-holds c =
 pack-requires : tie.Need-pack-requires Inv-loop μ-loop
 pack-requires c κs = search needs
 
+add-put-number : tie.Need-add-put-number Inv-loop μ-loop
+add-put-number c = search needs
+
+put-number-requires : tie.Need-put-number-requires Inv-loop μ-loop
+put-number-requires c κs =
+    let l = c .before .before .before .before in
+    let i = l .before .before .before .before .before in
+    let p = i .before .before .before .pre in (
+      (omega arith, p .1 .0 .n-max),
+      ((omega arith, omega arith), rw (i .items .ensures .0) (l .loop .inv .rep .words)),
+    )
+
 add-write : tie.Need-add-write Inv-loop μ-loop
 add-write c = search needs
 
 write-requires : tie.Need-write-requires Inv-loop μ-loop
 write-requires c κs =
-    let l = c .before .before .before in
+    let l = c .before .before .before .before in
     let p = l .before .before .before .before .before .before .before .before .pre in
     let f = l .loop .inv in
     (p .0, (filling-fits f (p .1 .0), filling-in f (p .1 .0) (omega arith)))
@@ -48,9 +62,17 @@ loop-less c = omega arith
 
 loop-again : tie.Need-loop-again Inv-loop μ-loop
 loop-again c =
-    let a = c .before .before in
-    let p = a .before .before in
-    filling-more (p .before .before .loop .inv) (omega arith) (p .pack .ensures) (a .write .ensures)
+    let p = c .before in
+    let l = p .before .before in
+    let i = l .before .before .before .before .before in
+    let f = l .loop .inv in
+    filling-more f (omega arith) (p .pack .ensures)
+    (⊎-elim
+    (λ w.
+    rw (w .5)
+    (filling-row f _ _ _ (i .items .ensures .0) (omega arith) (omega (arith, w .0 .taken)) (w .2 .ensures)))
+    (λ w. rw (w .5) (w .2 .ensures))
+    (c .if1 .came))
 
 same-length : tie.Need-same-length Inv-loop μ-loop
 same-length c =
@@ -70,6 +92,8 @@ start-store-spec =
     make-blank-requires
     loop-holds
     pack-requires
+    add-put-number
+    put-number-requires
     add-write
     write-requires
     add-item
