@@ -154,7 +154,7 @@ fn observe_short(
         return 0;
     }
     let number = observations::last(observations, m) + 1;
-    if recording::add_plain(model, observations, item, time, word) {
+    if plain::add_plain(model, observations, item, time, word) {
         return number;
     }
     LEFT

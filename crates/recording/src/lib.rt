@@ -1,17 +1,15 @@
-// Numbers given to observations: whether one is left, adding with eviction, and the store that start makes.
+// Numbers given to observations: whether one is left, and adding with eviction.
 ghost use mathlib.Core.Path.{_≡_};
-ghost use mathlib.Core.Bool.{true, false};
+ghost use mathlib.Core.Bool.{true};
 ghost use mathlib.Core.List.{[], _∷_};
-ghost use Prim.Native.Nat.{_≤_, _<_};
-ghost use lib.ListN.{length};
-ghost use Rattle.spec.specs.Model.{Sizes, maxItems, items, category};
-ghost use Rattle.spec.specs.Observations.{maxRing, Head, ringSize, latestAt, storeWords, setNewest, evict, add};
-ghost use Rattle.spec.specs.Observations.{latestOk, isCondition, evictOk, startStore};
+ghost use Prim.Native.Nat.{_<_};
+ghost use Rattle.spec.specs.Model.{Sizes, items, category};
+ghost use Rattle.spec.specs.Observations.{Head, ringSize, latestAt, setNewest, evict, add, latestOk};
 ghost use Rattle.spec.specs.Calls.{roomFor, added};
 ghost use Rattle.spec.specs.declared.Verdict.the-variants.{Fine};
-ghost use Rattle.recording.specs.Writing.{InRing, Overwriting, Starting, InTable, overwritable, Tried, putNumber};
+ghost use Rattle.plain.specs.Short.{overwritable};
+ghost use Rattle.recording.specs.Writing.{Overwriting, InTable};
 use spec::Refusal;
-use spec::Value;
 use spec::Verdict;
 
 // Whether the entry about to be overwritten, by its packed word, has an item of the model whose checkpoint takes it.
@@ -97,7 +95,7 @@ fn evict(model: &[u32], st: &mut [u64], n: u64, b: u64, s: u64)
 }
 
 // Number s: the overwritten entry's checkpoint, the ring, the item's latest, and last.
-fn write(model: &[u32], st: &mut [u64], n: u64, b: u64, s: u64, item: u64, time: u64, word: u64)
+pub fn write(model: &[u32], st: &mut [u64], n: u64, b: u64, s: u64, item: u64, time: u64, word: u64)
     requires { ⌜ Sizes (now model) ⌝ }
     requires { ⌜ Overwriting (category (now model)) n (items (now model)) b s (now st) ⌝ }
     requires { ⌜ InTable (category (now model)) (items (now model)) (latestAt n) item (now st) ⌝ }
@@ -131,102 +129,4 @@ pub fn add(model: &[u32], st: &mut [u64], item: u64, time: u64, word: u64)
     let b = observations::base(st, m);
     let last = observations::last(st, m);
     write(model, st, n, b, last + 1, item, time, word);
-}
-
-// Number s at place p, by one row: the ring, the item's first latest entry, and last.
-fn put_number(st: &mut [u64], n: u64, m: u64, p: u64, item: u64, s: u64, time: u64, word: u64)
-    requires { ⌜ (p < n) × (n ≤ maxRing) ⌝ }
-    requires { ⌜ (item < m) × (m ≤ maxItems) ⌝ }
-    requires { ⌜ length (now st) ≡ storeWords n m ⌝ }
-    ensures { λ r. ⌜ now (st .exit) ≡ putNumber n m p item s time word (now (st .entry)) ⌝ }
-{
-    observations::put_ring(st, n, p, time, word);
-    let latest = observations::latest_at(n);
-    let k = spec::ENTRIES * item;
-    observations::put_row(st, spec::ENTRIES * m, latest, k, s, time, word);
-    observations::set_last(st, s);
-}
-
-// The entry that number s is about to overwrite, if any, goes to its item's checkpoint as its one row. False, and
-// nothing is changed, where it has no item of the model or one with conditions.
-fn evict_plain(model: &[u32], st: &mut [u64], n: u64, b: u64, s: u64) -> bool
-    requires { ⌜ Sizes (now model) ⌝ }
-    requires { ⌜ InRing n (items (now model)) b s (now st) ⌝ }
-    ensures { λ r. ⌜
-        (let old = now (st .entry) in
-        let cat = category (now (model .entry)) in
-        let m = items (now (model .entry)) in
-        Tried r (evictOk cat n m b s old ≡ true) old (evict cat n m b s old) (now (st .exit)))
-        ⌝ }
-{
-    if s - b < n {
-        return true;
-    }
-    let m = model::items(model);
-    let at = observations::place(n, b, s);
-    let time = observations::ring_time(st, n, at);
-    let word = observations::ring_word(st, n, at);
-    let item = value::item_of(word);
-    if m <= item {
-        return false;
-    }
-    if model::category(model, item) == spec::CONDITION {
-        return false;
-    }
-    let t = observations::checkpoint_at(n, m);
-    let k = spec::ENTRIES * item;
-    observations::put_row(st, spec::ENTRIES * m, t, k, s - n, time, word);
-    true
-}
-
-// The short way of room_for and add, which most observations take: one more of an item without conditions, where the
-// entry that it overwrites, if any, is of such an item too. False, and nothing is changed, where there is more to it.
-pub fn add_plain(model: &[u32], st: &mut [u64], item: u64, time: u64, word: u64) -> bool
-    requires { ⌜ Sizes (now model) ⌝ }
-    requires { ⌜ Head (items (now model)) (now st) ⌝ }
-    requires { ⌜ (item < items (now model)) × (isCondition (category (now model)) item ≡ false) ⌝ }
-    ensures { λ r. ⌜
-        (let old = now (st .entry) in
-        let cat = category (now (model .entry)) in
-        let m = items (now (model .entry)) in
-        Tried r (roomFor cat m old ≡ Fine) old (added cat m old item time word) (now (st .exit)))
-        ⌝ }
-{
-    let m = model::items(model);
-    let n = observations::ring_size(st, m);
-    let b = observations::base(st, m);
-    let s = observations::last(st, m) + 1;
-    if spec::MAX_NUMBER < s {
-        return false;
-    }
-    if !evict_plain(model, st, n, b, s) {
-        return false;
-    }
-    let p = observations::place(n, b, s);
-    put_number(st, n, m, p, item, s, time, word);
-    true
-}
-
-// The store that start makes, whatever stood there: each item in turn Unavailable, the first with number b. Until the
-// ring is full an item's number is at its own place, overwrites nothing, and is its item's first.
-pub fn start_store(model: &[u32], st: &mut [u64], n: u64, b: u64, host: u64)
-    requires { ⌜ Sizes (now model) ⌝ }
-    requires { ⌜ Starting n (items (now model)) b ⌝ }
-    requires { ⌜ length (now st) ≡ storeWords n (items (now model)) ⌝ }
-    ensures { λ r. ⌜
-        now (st .exit) ≡ startStore (category (now (model .entry))) n (items (now (model .entry))) b host
-        ⌝ }
-{
-    let m = model::items(model);
-    observations::make_blank(st, n, m, b);
-    let mut item: u64 = 0;
-    while item < m {
-        let word = value::pack(item, Value::Unavailable);
-        if item < n {
-            put_number(st, n, m, item, item, b + item, host, word);
-        } else {
-            write(model, st, n, b, b + item, item, host, word);
-        }
-        item += 1;
-    }
 }

@@ -9,7 +9,7 @@ use Rattle.spec.specs.Assets.{maxAssets, storeBytes}
 use Rattle.spec.specs.Calls.{startOk}
 use Rattle.spec.proofs.Begin.{StartSizes, start-sizes}
 use Rattle.spec.proofs.Words.{not-so, told}
-use Rattle.recording.specs.Writing.{Starting}
+use Rattle.starting.specs.Start.{Starting}
 
 module _ (m n a b words size : ℕ) where
   -- a test that passed

@@ -1,2 +1,3 @@
 -- The laws that the proofs of starting cite.
+pub mod Filling
 pub mod Laws

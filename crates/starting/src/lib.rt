@@ -1,13 +1,17 @@
 // What start does behind the check of model and names: sizes and lengths are refused, or both stores are made anew.
 ghost use mathlib.Core.Path.{_≡_};
 ghost use Prim.Native.Nat.{_≤_};
+ghost use lib.ListN.{length};
 ghost use Rattle.spec.specs.Model.{Sizes, maxItems, items, category};
+ghost use Rattle.spec.specs.Observations.{storeWords, startStore};
 ghost use Rattle.spec.specs.Calls.{startOk, startBoth};
+ghost use Rattle.starting.specs.Start.{Starting};
 use spec::Answer;
 use spec::MAX_ASSETS;
 use spec::MAX_NUMBER;
 use spec::MAX_RING;
 use spec::Refusal;
+use spec::Value;
 
 // Whether the sizes, the first number and the stores' lengths are ones that start takes.
 fn start_ok(m: u64, n: u64, a: u64, b: u64, words: u64, size: u64) -> bool
@@ -39,6 +43,30 @@ fn start_ok(m: u64, n: u64, a: u64, b: u64, words: u64, size: u64) -> bool
     size == assets::bytes_for(a)
 }
 
+// The store that start makes, whatever stood there: each item in turn Unavailable, the first with number b. Until the
+// ring is full an item's number is at its own place, overwrites nothing, and is its item's first.
+fn start_store(model: &[u32], st: &mut [u64], n: u64, b: u64, host: u64)
+    requires { ⌜ Sizes (now model) ⌝ }
+    requires { ⌜ Starting n (items (now model)) b ⌝ }
+    requires { ⌜ length (now st) ≡ storeWords n (items (now model)) ⌝ }
+    ensures { λ r. ⌜
+        now (st .exit) ≡ startStore (category (now (model .entry))) n (items (now (model .entry))) b host
+        ⌝ }
+{
+    let m = model::items(model);
+    observations::make_blank(st, n, m, b);
+    let mut item: u64 = 0;
+    while item < m {
+        let word = value::pack(item, Value::Unavailable);
+        if item < n {
+            plain::put_number(st, n, m, item, item, b + item, host, word);
+        } else {
+            recording::write(model, st, n, b, b + item, item, host, word);
+        }
+        item += 1;
+    }
+}
+
 // Both stores anew: one Unavailable for each item from number b on, at the host's time, and no asset.
 pub fn start_both(
     model: &[u32],
@@ -61,7 +89,7 @@ pub fn start_both(
     if !start_ok(m, n, a, b, observations.len() as u64, assets.len() as u64) {
         return Answer::Refused(Refusal::Size);
     }
-    recording::start_store(model, observations, n, b, host);
+    start_store(model, observations, n, b, host);
     assets::start(assets, a);
     Answer::Done(0)
 }

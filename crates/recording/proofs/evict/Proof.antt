@@ -1,6 +1,7 @@
 -- The entry that is there goes to its item's checkpoint, which takes it, since evictOk holds.
 use native.Mathlib.Omega.{arith}
-use Rattle.recording.proofs.Laws.{goes-in, evicted, not-evicted}
+use Rattle.plain.proofs.Laws.{evicted, not-evicted}
+use Rattle.recording.proofs.Laws.{goes-in}
 use borrow.Author.Needs.{needs}
 use Rattle.recording.proofs.evict.Statement.{statement}
 use Rattle.recording.proofs.evict.Tie as tie

@@ -2,7 +2,8 @@
 use mathlib.Core.Path.{_∙_}
 use native.Mathlib.Omega.{arith}
 use Rattle.spec.proofs.Words.{told}
-use Rattle.recording.proofs.Laws.{over-none, over-plain, over-entries}
+use Rattle.plain.proofs.Laws.{over-plain}
+use Rattle.recording.proofs.Laws.{over-none, over-entries}
 use borrow.Author.Needs.{needs}
 use Rattle.recording.proofs.may_overwrite.Statement.{statement}
 use Rattle.recording.proofs.may_overwrite.Tie as tie

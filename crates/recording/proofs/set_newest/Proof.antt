@@ -2,7 +2,8 @@
 use mathlib.Core.Path.{_∙_}
 use Rattle.spec.specs.Model.{category}
 use Rattle.spec.proofs.Words.{told}
-use Rattle.recording.proofs.Laws.{step-fits, newest-entries, newest-row}
+use Rattle.plain.proofs.Laws.{newest-row}
+use Rattle.recording.proofs.Laws.{step-fits, newest-entries}
 use borrow.Author.Needs.{needs}
 use Rattle.recording.proofs.set_newest.Statement.{statement}
 use Rattle.recording.proofs.set_newest.Tie as tie

@@ -1,5 +1,6 @@
 -- Eviction, ring, latest and last are written in the definition's order.
-use Rattle.recording.proofs.Laws.{still-in, written}
+use Rattle.plain.proofs.Laws.{written}
+use Rattle.recording.proofs.Laws.{still-in}
 use borrow.Author.Needs.{needs}
 use Rattle.recording.proofs.write.Statement.{statement}
 use Rattle.recording.proofs.write.Tie as tie

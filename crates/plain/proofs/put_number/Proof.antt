@@ -1,8 +1,8 @@
 -- The ring, the latest's one row and last are written in the definition's order.
-use Rattle.recording.specs.Writing.{putNumber}
+use Rattle.plain.specs.Short.{putNumber}
 use borrow.Author.Needs.{needs}
-use Rattle.recording.proofs.put_number.Statement.{statement}
-use Rattle.recording.proofs.put_number.Tie as tie
+use Rattle.plain.proofs.put_number.Statement.{statement}
+use Rattle.plain.proofs.put_number.Tie as tie
 
 put-ring-requires : tie.Need-put-ring-requires
 put-ring-requires c κs = search needs

@@ -1,10 +1,10 @@
 -- The place is free, or the entry's item decides, and then its category.
 use mathlib.Core.Path.{refl, _∙_}
 use native.Mathlib.Omega.{arith}
-use Rattle.recording.proofs.Laws.{untried, free-place, plain-evicted}
+use Rattle.plain.proofs.Laws.{untried, free-place, plain-evicted}
 use borrow.Author.Needs.{needs}
-use Rattle.recording.proofs.evict_plain.Statement.{statement}
-use Rattle.recording.proofs.evict_plain.Tie as tie
+use Rattle.plain.proofs.evict_plain.Statement.{statement}
+use Rattle.plain.proofs.evict_plain.Tie as tie
 
 sub-if1 : tie.Need-sub-if1
 sub-if1 c = search needs

@@ -4,10 +4,10 @@ use native.Mathlib.Omega.{arith}
 use borrow.Author.Tests.{not-true, not-false, eqb-false}
 use Rattle.spec.specs.Model.{category}
 use Rattle.spec.proofs.Added.{length-evict}
-use Rattle.recording.proofs.Laws.{next-ring, tried, untried, room-left, newest-row, numbered, added-next}
+use Rattle.plain.proofs.Laws.{next-ring, tried, untried, room-left, newest-row, numbered, added-next}
 use borrow.Author.Needs.{needs}
-use Rattle.recording.proofs.add_plain.Statement.{statement}
-use Rattle.recording.proofs.add_plain.Tie as tie
+use Rattle.plain.proofs.add_plain.Statement.{statement}
+use Rattle.plain.proofs.add_plain.Tie as tie
 
 items-requires : tie.Need-items-requires
 items-requires c κs = search needs

@@ -5,11 +5,11 @@ use mathlib.Core.Path.{sym, _∙_}
 use mathlib.Core.Logic.{⊎-elim}
 use native.Mathlib.Omega.{arith}
 use Rattle.spec.specs.Model.{items, category}
-use Rattle.recording.proofs.Laws.{Filling, filling-none, filling-fits, filling-in, filling-row}
-use Rattle.recording.proofs.Laws.{filling-more, filling-all}
+use Rattle.starting.proofs.Filling.{Filling, filling-none, filling-fits, filling-in, filling-row}
+use Rattle.starting.proofs.Filling.{filling-more, filling-all}
 use borrow.Author.Needs.{needs}
-use Rattle.recording.proofs.start_store.Statement.{statement}
-use Rattle.recording.proofs.start_store.Tie as tie
+use Rattle.starting.proofs.start_store.Statement.{statement}
+use Rattle.starting.proofs.start_store.Tie as tie
 
 abbrev Inv-loop : tie.InvT-loop
 Inv-loop model st₀ n b host m item₀ st item = Filling (category model) n (items model) b host item st

@@ -1,0 +1,2 @@
+-- The laws that the proofs of plain cite.
+pub mod Laws

@@ -1,0 +1,112 @@
+-- Start's loop: its invariant, what a turn asks and gives, by one row while the ring is not full.
+use Prim.Native.Nat.{ℕ, suc, _+_, _-_, _≤_, _<_}
+use mathlib.Core.Path.{_≡_, refl, sym, _∙_}
+use mathlib.Core.Bool.{true}
+use mathlib.Core.List.{List, [], _∷_, _++_}
+use native.Mathlib.Omega.{arith}
+use native.Mathlib.Nat.{sub-zero, add-zero, mod-eq-of-lt}
+use native.Mathlib.Numerals.{add-one}
+use lib.Dec.{eqb}
+use lib.ListN.{length, length-append}
+use borrow.Author.Tests.{ne-eqb}
+use Rattle.spec.specs.Value.{pack}
+use Rattle.spec.specs.Blocks.{padded}
+use Rattle.spec.specs.Observations.{latestAt, place, itemRows, evictOk, add, blank, addAll, startStore}
+use Rattle.spec.specs.Reference.{Observation, newestOr}
+use Rattle.spec.specs.Standing.{standingFrom, entriesOf}
+use Rattle.spec.specs.declared.Value.the-variants.{Unavailable}
+use Rattle.spec.proofs.Words.{by-test}
+use Rattle.spec.proofs.Kept.{Rep, next, right, few-all, entries-other, add-rep}
+use Rattle.spec.proofs.Rows.{form-ok, evict-ok}
+use Rattle.spec.proofs.Start.{blank-rep}
+use Rattle.plain.specs.Short.{putNumber}
+use Rattle.plain.proofs.Laws.{not-evicted, put-latest, numbered, newest-first}
+use Rattle.recording.specs.Writing.{Overwriting, InTable}
+use Rattle.recording.proofs.Laws.{latest-in}
+use Rattle.starting.specs.Start.{Starting}
+
+-- start's loop: k items are added, as the reference model holds them, the others have no entry yet, and the rest makes
+-- the whole
+pub record Filling (cat : ℕ → ℕ) (n m b host k : ℕ) (st : List ℕ) : Type 0 where
+  pub below : k ≤ m
+  pub held : List Observation
+  pub count : length held ≡ k
+  pub rep : Rep cat n m b held st
+  pub fresh : (i : ℕ) → k ≤ i → entriesOf (cat i) i held ≡ []
+  pub rest : addAll cat n m b host (m - k) (b + k) k st ≡ startStore cat n m b host
+
+none-of : (c i : ℕ) → entriesOf c i [] ≡ []
+unfolding entriesOf standingFrom newestOr
+none-of c i = by-test (eqb c 2) (λ e. rw e) (λ e. rw e)
+
+pub filling-none : (cat : ℕ → ℕ) (n m b host : ℕ) → Starting n m b → Filling cat n m b host 0 (blank n m b)
+unfolding startStore
+filling-none cat n m b host s =
+    record {
+      below = omega arith;
+      held = [];
+      count = refl;
+      rep = blank-rep cat n m b (s .n-pos) (s .b-pos);
+      fresh = λ i h. none-of (cat i) i;
+      rest = rw (sub-zero, add-zero b);
+    }
+
+one-more : (cat : ℕ → ℕ) (n m b host k : ℕ) (st : List ℕ) → k < m
+    → addAll cat n m b host (m - (k + 1)) (b + (k + 1)) (k + 1) (add cat n m b (b + k) k host (pack k Unavailable) st)
+    ≡ addAll cat n m b host (m - k) (b + k) k st
+unfolding addAll
+one-more cat n m b host k st l =
+    let e : m - k ≡ suc (m - (k + 1)) = omega arith in
+    let f : b + (k + 1) ≡ suc (b + k) = omega arith in
+    rw (e, f, add-one k)
+
+module _ {cat : ℕ → ℕ} {n m b host k : ℕ} {st : List ℕ} (f : Filling cat n m b host k st) where
+  at-count : evictOk cat n m b (b + length (f .held)) st ≡ true
+  at-count = evict-ok cat n m b (f .held) st (f .rep)
+
+  -- what a turn's number asks, and what it gives
+  pub filling-fits : Starting n m b → Overwriting cat n m b (b + k) st
+  filling-fits s =
+      record {
+        ring = record { n-pos = s .n-pos; n-max = s .n-max; b-s = omega arith; len = f .rep .words };
+        ok = rw (f .count) at at-count;
+      }
+
+  pub filling-in : Starting n m b → k < m → InTable cat m (latestAt n) k st
+  filling-in s l =
+      latest-in (filling-fits s) l
+      (λ c.
+      form-ok cat (latestAt n) m (f .held) st (f .rep .latest) (right cat n m b (f .held) st (f .rep)) k l c
+      (few-all cat n m b (f .held) st (f .rep) k c) 0 (omega arith))
+
+  -- by one row, while the ring is not full
+  pub filling-row : (e : List ℕ) (w h : ℕ) → h ≡ m → k < m → k < n → e ≡ putNumber n h k k (b + k) host w st
+      → e ≡ add cat n m b (b + k) k host w st
+  filling-row e w h eh l c q =
+      let z : b + k - b ≡ k = omega arith in
+      let p : k ≡ place n b (b + k) = sym (rw z (mod-eq-of-lt c)) in
+      let u : itemRows st (latestAt n) m k ≡ padded 8 [] = rw (f .fresh k (omega arith)) at (f .rep .latest k l) in
+      numbered cat n m b (b + k) k host w k st st e (not-evicted cat n m b (b + k) st (omega arith)) p
+      (newest-first _ (latestAt n) m k _ l (put-latest n m st k host w k c l ∙ u) cat refl) (rw eh at q)
+
+  pub filling-more : {e : List ℕ} {w : ℕ} → k < m → w ≡ pack k Unavailable → e ≡ add cat n m b (b + k) k host w st
+      → Filling cat n m b host (k + 1) e
+  filling-more {e} {w} l ew q =
+      let a : e ≡ add cat n m b (b + length (f .held)) k host (pack k Unavailable) st = q ∙ rw (ew, f .count) in
+      let o = next b (f .held) k host Unavailable in
+      record {
+        below = omega arith;
+        held = f .held ++ (o ∷ []);
+        count = length-append (f .held) (o ∷ []) ∙ omega (arith, f .count);
+        rep = rw a (add-rep cat n m b (f .held) st k host Unavailable (f .rep) l tt (λ c. refl));
+        fresh =
+            λ i h.
+            entries-other (cat i) i (f .held) o (ne-eqb k i (omega arith)) ∙ f .fresh i (omega arith);
+        rest = rw (a, f .count) (one-more cat n m b host k st l ∙ f .rest);
+      }
+
+  pub filling-all : m ≤ k → st ≡ startStore cat n m b host
+  unfolding addAll
+  filling-all l =
+      let e : m - k ≡ 0 = omega (arith, f .below) in
+      rw e at (f .rest)
