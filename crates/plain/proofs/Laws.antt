@@ -1,5 +1,5 @@
--- A way that was tried; an item's one row; the entry about to be overwritten, by its packed word; the room that it leaves;
--- an addition by its writes, and by one row where all rows of the item are unused.
+-- A way that was tried; an item's one row; the entry about to be overwritten, by its packed word, and the room that it
+-- leaves; an addition by its writes, and by one row where all rows of the item are unused.
 use Prim.Native.Nat.{ℕ, zero, suc, _+_, _-_, _*_, _≤_, _<_}
 use mathlib.Core.Path.{_≡_, refl, sym, ap, _∙_}
 use mathlib.Core.Logic.{_≢_, inr}

@@ -1,5 +1,5 @@
--- A table that takes an observation; the test of the packed word about to be overwritten, and one law to each branch of the
--- room for a number; what an addition asks of the tables.
+-- A table that takes an observation; the test of the packed word about to be overwritten, and one law to each branch of
+-- the room for a number; what an addition asks of the tables.
 use Prim.Native.Nat.{ℕ, suc, _+_, _-_, _*_, _^_, _≤_, _<_}
 use mathlib.Core.Path.{_≡_, refl, sym, _∙_}
 use mathlib.Core.Logic.{inl}

@@ -8,7 +8,7 @@ use Rattle.spec.specs.Entries.{formOk}
 use Rattle.spec.specs.Observations.{itemRows, isCondition, evictOk}
 use Rattle.plain.specs.Short.{InRing}
 
--- a number with a place that may be added: what it overwrites, if anything, has an item below m whose checkpoint takes it
+-- a number may be added: what it overwrites, if anything, has an item below m whose checkpoint takes it
 pub record Overwriting (cat : ℕ → ℕ) (n m b s : ℕ) (st : List ℕ) : Type 0 where
   pub ring : InRing n m b s st
   pub ok : evictOk cat n m b s st ≡ true
