@@ -127,7 +127,7 @@ latest-in o l f = record { low = l; room = omega (arith, o .ring .len); form = f
 
 -- the latest stays through the eviction and the ring's entry
 module _ (cat : ℕ → ℕ) (n m b s : ℕ) (st : List ℕ) (o : Overwriting cat n m b s st) where
-  evict-latest : (i : ℕ) → i < m
+  pub evict-latest : (i : ℕ) → i < m
       → itemRows (evict cat n m b s st) (latestAt n) m i ≡ itemRows st (latestAt n) m i
   unfolding evict row
   evict-latest i l =

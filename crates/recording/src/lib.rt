@@ -77,7 +77,7 @@ fn set_newest(model: &[u32], st: &mut [u64], t: u64, item: u64, number: u64, tim
 }
 
 // The entry that number s is about to overwrite, if any, goes to its item's checkpoint.
-fn evict(model: &[u32], st: &mut [u64], n: u64, b: u64, s: u64)
+pub fn evict(model: &[u32], st: &mut [u64], n: u64, b: u64, s: u64)
     requires { ⌜ Sizes (now model) ⌝ }
     requires { ⌜ Overwriting (category (now model)) n (items (now model)) b s (now st) ⌝ }
     ensures { λ r. ⌜
@@ -95,7 +95,7 @@ fn evict(model: &[u32], st: &mut [u64], n: u64, b: u64, s: u64)
 }
 
 // Number s: the overwritten entry's checkpoint, the ring, the item's latest, and last.
-pub fn write(model: &[u32], st: &mut [u64], n: u64, b: u64, s: u64, item: u64, time: u64, word: u64)
+fn write(model: &[u32], st: &mut [u64], n: u64, b: u64, s: u64, item: u64, time: u64, word: u64)
     requires { ⌜ Sizes (now model) ⌝ }
     requires { ⌜ Overwriting (category (now model)) n (items (now model)) b s (now st) ⌝ }
     requires { ⌜ InTable (category (now model)) (items (now model)) (latestAt n) item (now st) ⌝ }

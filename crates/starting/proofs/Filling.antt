@@ -1,28 +1,29 @@
--- Start's loop: its invariant, what a turn asks and gives, by one row while the ring is not full.
+-- Start's loop: its invariant, what a turn asks and gives, by one row behind the eviction.
 use Prim.Native.Nat.{ℕ, suc, _+_, _-_, _≤_, _<_}
 use mathlib.Core.Path.{_≡_, refl, sym, _∙_}
 use mathlib.Core.Bool.{true}
 use mathlib.Core.List.{List, [], _∷_, _++_}
 use native.Mathlib.Omega.{arith}
-use native.Mathlib.Nat.{sub-zero, add-zero, mod-eq-of-lt}
+use native.Mathlib.Nat.{sub-zero, add-zero, mod-lt, mod-eq-of-lt}
 use native.Mathlib.Numerals.{add-one}
 use lib.Dec.{eqb}
 use lib.ListN.{length, length-append}
 use borrow.Author.Tests.{ne-eqb}
 use Rattle.spec.specs.Value.{pack}
 use Rattle.spec.specs.Blocks.{padded}
-use Rattle.spec.specs.Observations.{latestAt, place, itemRows, evictOk, add, blank, addAll, startStore}
+use Rattle.spec.specs.Observations.{latestAt, place, storeWords, itemRows, evict, evictOk, add, blank, addAll, startStore}
 use Rattle.spec.specs.Reference.{Observation, newestOr}
 use Rattle.spec.specs.Standing.{standingFrom, entriesOf}
 use Rattle.spec.specs.declared.Value.the-variants.{Unavailable}
 use Rattle.spec.proofs.Words.{by-test}
-use Rattle.spec.proofs.Kept.{Rep, next, right, few-all, entries-other, add-rep}
-use Rattle.spec.proofs.Rows.{form-ok, evict-ok}
+use Rattle.spec.proofs.Added.{length-evict}
+use Rattle.spec.proofs.Kept.{Rep, next, entries-other, add-rep}
+use Rattle.spec.proofs.Rows.{evict-ok}
 use Rattle.spec.proofs.Start.{blank-rep}
 use Rattle.plain.specs.Short.{putNumber}
 use Rattle.plain.proofs.Laws.{not-evicted, put-latest, numbered, newest-first}
-use Rattle.recording.specs.Writing.{Overwriting, InTable}
-use Rattle.recording.proofs.Laws.{latest-in}
+use Rattle.recording.specs.Writing.{Overwriting}
+use Rattle.recording.proofs.Laws.{evict-latest}
 use Rattle.starting.specs.Start.{Starting}
 
 -- start's loop: k items are added, as the reference model holds them, the others have no entry yet, and the rest makes
@@ -72,22 +73,28 @@ module _ {cat : ℕ → ℕ} {n m b host k : ℕ} {st : List ℕ} (f : Filling c
         ok = rw (f .count) at at-count;
       }
 
-  pub filling-in : Starting n m b → k < m → InTable cat m (latestAt n) k st
-  filling-in s l =
-      latest-in (filling-fits s) l
-      (λ c.
-      form-ok cat (latestAt n) m (f .held) st (f .rep .latest) (right cat n m b (f .held) st (f .rep)) k l c
-      (few-all cat n m b (f .held) st (f .rep) k c) 0 (omega arith))
-
-  -- by one row, while the ring is not full
-  pub filling-row : (e : List ℕ) (w h : ℕ) → h ≡ m → k < m → k < n → e ≡ putNumber n h k k (b + k) host w st
-      → e ≡ add cat n m b (b + k) k host w st
-  filling-row e w h eh l c q =
+  -- until the ring is full
+  pub filling-free : k < n → (st ≡ evict cat n m b (b + k) st) × (k ≡ place n b (b + k))
+  filling-free l =
       let z : b + k - b ≡ k = omega arith in
-      let p : k ≡ place n b (b + k) = sym (rw z (mod-eq-of-lt c)) in
+      (not-evicted cat n m b (b + k) st (omega arith), sym (rw z (mod-eq-of-lt l)))
+
+  -- behind the eviction there is a place p
+  pub filling-place : {x : List ℕ} {p : ℕ} → Starting n m b
+      → (x ≡ evict cat n m b (b + k) st) × (p ≡ place n b (b + k)) → (p < n) × (length x ≡ storeWords n m)
+  filling-place s h =
+      (rw (h .1) (mod-lt (b + k - b) (s .n-pos)), rw (h .0) (length-evict cat n m b (b + k) st ∙ f .rep .words))
+
+  -- one row there is the addition
+  pub filling-row : (x e : List ℕ) (p w h : ℕ) → Starting n m b → k < m → h ≡ m
+      → (x ≡ evict cat n m b (b + k) st) × (p ≡ place n b (b + k)) → e ≡ putNumber n h p k (b + k) host w x
+      → e ≡ add cat n m b (b + k) k host w st
+  filling-row x e p w h s l eh there q =
       let u : itemRows st (latestAt n) m k ≡ padded 8 [] = rw (f .fresh k (omega arith)) at (f .rep .latest k l) in
-      numbered cat n m b (b + k) k host w k st st e (not-evicted cat n m b (b + k) st (omega arith)) p
-      (newest-first _ (latestAt n) m k _ l (put-latest n m st k host w k c l ∙ u) cat refl) (rw eh at q)
+      let v : itemRows x (latestAt n) m k ≡ padded 8 [] =
+      rw (there .0) (evict-latest cat n m b (b + k) st (filling-fits s) k l ∙ u) in
+      numbered cat n m b (b + k) k host w p st x e (there .0) (there .1)
+      (newest-first _ (latestAt n) m k _ l (put-latest n m x p host w k (filling-place s there .0) l ∙ v) cat refl) (rw eh at q)
 
   pub filling-more : {e : List ℕ} {w : ℕ} → k < m → w ≡ pack k Unavailable → e ≡ add cat n m b (b + k) k host w st
       → Filling cat n m b host (k + 1) e

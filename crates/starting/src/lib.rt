@@ -43,8 +43,8 @@ fn start_ok(m: u64, n: u64, a: u64, b: u64, words: u64, size: u64) -> bool
     size == assets::bytes_for(a)
 }
 
-// The store that start makes, whatever stood there: each item in turn Unavailable, the first with number b. Until the
-// ring is full an item's number is at its own place, overwrites nothing, and is its item's first.
+// The store that start makes, whatever stood there: each item in turn Unavailable, the first with number b. It is its
+// item's first, so one row takes it; until the ring is full its place is the item, and it overwrites nothing.
 fn start_store(model: &[u32], st: &mut [u64], n: u64, b: u64, host: u64)
     requires { ⌜ Sizes (now model) ⌝ }
     requires { ⌜ Starting n (items (now model)) b ⌝ }
@@ -58,11 +58,12 @@ fn start_store(model: &[u32], st: &mut [u64], n: u64, b: u64, host: u64)
     let mut item: u64 = 0;
     while item < m {
         let word = value::pack(item, Value::Unavailable);
-        if item < n {
-            plain::put_number(st, n, m, item, item, b + item, host, word);
-        } else {
-            recording::write(model, st, n, b, b + item, item, host, word);
+        let mut p = item;
+        if n <= item {
+            recording::evict(model, st, n, b, b + item);
+            p = observations::place(n, b, b + item);
         }
+        plain::put_number(st, n, m, p, item, b + item, host, word);
         item += 1;
     }
 }

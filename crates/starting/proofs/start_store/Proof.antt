@@ -1,11 +1,12 @@
 -- Invariant: Filling, the words stand for the items added so far, and the rest makes the whole.
 -- Measure: the items left.
-use Prim.Native.Nat.{_-_}
-use mathlib.Core.Path.{sym, _∙_}
+use Prim.Native.Nat.{ℕ, _+_, _-_}
+use mathlib.Core.Path.{_≡_, sym, _∙_}
 use mathlib.Core.Logic.{⊎-elim}
 use native.Mathlib.Omega.{arith}
 use Rattle.spec.specs.Model.{items, category}
-use Rattle.starting.proofs.Filling.{Filling, filling-none, filling-fits, filling-in, filling-row}
+use Rattle.spec.specs.Observations.{evict, place}
+use Rattle.starting.proofs.Filling.{Filling, filling-none, filling-fits, filling-free, filling-place, filling-row}
 use Rattle.starting.proofs.Filling.{filling-more, filling-all}
 use borrow.Author.Needs.{needs}
 use Rattle.starting.proofs.start_store.Statement.{statement}
@@ -32,27 +33,49 @@ loop-holds c =
 pack-requires : tie.Need-pack-requires Inv-loop μ-loop
 pack-requires c κs = search needs
 
+add-evict : tie.Need-add-evict Inv-loop μ-loop
+add-evict c = search needs
+
+evict-requires : tie.Need-evict-requires Inv-loop μ-loop
+evict-requires c κs =
+    let l = c .before .before .before .before in
+    let p = l .before .before .before .before .before .before .before .before .pre in
+    (p .0, filling-fits (l .loop .inv) (p .1 .0))
+
+add-place : tie.Need-add-place Inv-loop μ-loop
+add-place c = search needs
+
+place-requires : tie.Need-place-requires Inv-loop μ-loop
+place-requires c κs = search needs
+
+-- where the two ways meet: the eviction is done, and p is the number's place
+met : (c : tie.Joined1 Inv-loop μ-loop) →
+    let l = c .before .before .before in
+    let a = l .before .before .before .before .before .before .before .before .args in
+    let k = l .loop .item in
+    (c .if1 .st ≡ evict (category (a .model .now)) (a .n) (items (a .model .now)) (a .b) (a .b + k) (l .loop .st))
+    × (c .if1 .p ≡ place (a .n) (a .b) (a .b + k))
+met c =
+    let f = c .before .before .before .loop .inv in
+    ⊎-elim (λ w. (w .6 ∙ w .2 .ensures, w .7 ∙ w .5 .ensures .0))
+    (λ w.
+    let free = filling-free f (omega (arith, w .0 .left)) in
+    (w .1 ∙ free .0, w .2 ∙ free .1))
+    (c .if1 .came)
+
 add-put-number : tie.Need-add-put-number Inv-loop μ-loop
 add-put-number c = search needs
 
 put-number-requires : tie.Need-put-number-requires Inv-loop μ-loop
 put-number-requires c κs =
-    let l = c .before .before .before .before in
+    let j = c .before in
+    let l = j .before .before .before in
     let i = l .before .before .before .before .before in
-    let p = i .before .before .before .pre in (
-      (omega arith, p .1 .0 .n-max),
-      ((omega arith, omega arith), rw (i .items .ensures .0) (l .loop .inv .rep .words)),
+    let s = i .before .before .before .pre .1 .0 in
+    let q = filling-place (l .loop .inv) s (met j) in (
+      (q .0, s .n-max),
+      ((omega arith, omega arith), rw (i .items .ensures .0) (q .1)),
     )
-
-add-write : tie.Need-add-write Inv-loop μ-loop
-add-write c = search needs
-
-write-requires : tie.Need-write-requires Inv-loop μ-loop
-write-requires c κs =
-    let l = c .before .before .before .before in
-    let p = l .before .before .before .before .before .before .before .before .pre in
-    let f = l .loop .inv in
-    (p .0, (filling-fits f (p .1 .0), filling-in f (p .1 .0) (omega arith)))
 
 add-item : tie.Need-add-item Inv-loop μ-loop
 add-item c = search needs
@@ -62,17 +85,15 @@ loop-less c = omega arith
 
 loop-again : tie.Need-loop-again Inv-loop μ-loop
 loop-again c =
-    let p = c .before in
+    let n = c .before .before in
+    let j = n .before .before in
+    let p = j .before in
     let l = p .before .before in
     let i = l .before .before .before .before .before in
     let f = l .loop .inv in
+    let s = i .before .before .before .pre .1 .0 in
     filling-more f (omega arith) (p .pack .ensures)
-    (⊎-elim
-    (λ w.
-    rw (w .5)
-    (filling-row f _ _ _ (i .items .ensures .0) (omega arith) (omega (arith, w .0 .taken)) (w .2 .ensures)))
-    (λ w. rw (w .5) (w .2 .ensures))
-    (c .if1 .came))
+    (filling-row f _ _ _ _ _ s (omega arith) (i .items .ensures .0) (met j) (n .put-number .ensures))
 
 same-length : tie.Need-same-length Inv-loop μ-loop
 same-length c =
@@ -92,10 +113,12 @@ start-store-spec =
     make-blank-requires
     loop-holds
     pack-requires
+    add-evict
+    evict-requires
+    add-place
+    place-requires
     add-put-number
     put-number-requires
-    add-write
-    write-requires
     add-item
     loop-less
     loop-again
