@@ -55,9 +55,9 @@ fn evict_plain(model: &[u32], st: &mut [u64], n: u64, b: u64, s: u64) -> bool
     true
 }
 
-// The short way of recording's room_for and add, which most observations take: one more of an item without conditions,
-// where the entry that it overwrites, if any, is of such an item too. False, and nothing is changed, where there is more
-// to it.
+// The short way of recording's room_for and add, which most observations take: one more of an item without
+// conditions, where the entry that it overwrites, if any, is of such an item too. False, and nothing is changed, where
+// there is more to it.
 pub fn add_plain(model: &[u32], st: &mut [u64], item: u64, time: u64, word: u64) -> bool
     requires { ⌜ Sizes (now model) ⌝ }
     requires { ⌜ Head (items (now model)) (now st) ⌝ }

@@ -11,7 +11,8 @@ use lib.ListN.{length, length-append}
 use borrow.Author.Tests.{ne-eqb}
 use Rattle.spec.specs.Value.{pack}
 use Rattle.spec.specs.Blocks.{padded}
-use Rattle.spec.specs.Observations.{latestAt, place, storeWords, itemRows, evict, evictOk, add, blank, addAll, startStore}
+use Rattle.spec.specs.Observations.{latestAt, place, storeWords, itemRows, evict, evictOk, add, blank, addAll}
+use Rattle.spec.specs.Observations.{startStore}
 use Rattle.spec.specs.Reference.{Observation, newestOr}
 use Rattle.spec.specs.Standing.{standingFrom, entriesOf}
 use Rattle.spec.specs.declared.Value.the-variants.{Unavailable}
@@ -61,6 +62,10 @@ one-more cat n m b host k st l =
     let f : b + (k + 1) ≡ suc (b + k) = omega arith in
     rw (e, f, add-one k)
 
+-- number s may be written: the eviction is done, and p is its place
+abbrev pub Placed : (ℕ → ℕ) → ℕ → ℕ → ℕ → ℕ → List ℕ → List ℕ → ℕ → Type 0
+Placed cat n m b s st x p = (x ≡ evict cat n m b s st) × (p ≡ place n b s)
+
 module _ {cat : ℕ → ℕ} {n m b host k : ℕ} {st : List ℕ} (f : Filling cat n m b host k st) where
   at-count : evictOk cat n m b (b + length (f .held)) st ≡ true
   at-count = evict-ok cat n m b (f .held) st (f .rep)
@@ -73,28 +78,29 @@ module _ {cat : ℕ → ℕ} {n m b host k : ℕ} {st : List ℕ} (f : Filling c
         ok = rw (f .count) at at-count;
       }
 
-  -- until the ring is full
-  pub filling-free : k < n → (st ≡ evict cat n m b (b + k) st) × (k ≡ place n b (b + k))
+  -- until the ring is full nothing is to be done for it
+  pub filling-free : k < n → Placed cat n m b (b + k) st st k
   filling-free l =
       let z : b + k - b ≡ k = omega arith in
       (not-evicted cat n m b (b + k) st (omega arith), sym (rw z (mod-eq-of-lt l)))
 
-  -- behind the eviction there is a place p
-  pub filling-place : {x : List ℕ} {p : ℕ} → Starting n m b
-      → (x ≡ evict cat n m b (b + k) st) × (p ≡ place n b (b + k)) → (p < n) × (length x ≡ storeWords n m)
+  -- the ring has the place
+  pub filling-place : {x : List ℕ} {p : ℕ} → Starting n m b → Placed cat n m b (b + k) st x p
+      → (p < n) × (length x ≡ storeWords n m)
   filling-place s h =
       (rw (h .1) (mod-lt (b + k - b) (s .n-pos)), rw (h .0) (length-evict cat n m b (b + k) st ∙ f .rep .words))
 
   -- one row there is the addition
   pub filling-row : (x e : List ℕ) (p w h : ℕ) → Starting n m b → k < m → h ≡ m
-      → (x ≡ evict cat n m b (b + k) st) × (p ≡ place n b (b + k)) → e ≡ putNumber n h p k (b + k) host w x
+      → Placed cat n m b (b + k) st x p → e ≡ putNumber n h p k (b + k) host w x
       → e ≡ add cat n m b (b + k) k host w st
   filling-row x e p w h s l eh there q =
       let u : itemRows st (latestAt n) m k ≡ padded 8 [] = rw (f .fresh k (omega arith)) at (f .rep .latest k l) in
       let v : itemRows x (latestAt n) m k ≡ padded 8 [] =
       rw (there .0) (evict-latest cat n m b (b + k) st (filling-fits s) k l ∙ u) in
+      let y = put-latest n m x p host w k (filling-place s there .0) l ∙ v in
       numbered cat n m b (b + k) k host w p st x e (there .0) (there .1)
-      (newest-first _ (latestAt n) m k _ l (put-latest n m x p host w k (filling-place s there .0) l ∙ v) cat refl) (rw eh at q)
+      (newest-first _ (latestAt n) m k _ l y cat refl) (rw eh at q)
 
   pub filling-more : {e : List ℕ} {w : ℕ} → k < m → w ≡ pack k Unavailable → e ≡ add cat n m b (b + k) k host w st
       → Filling cat n m b host (k + 1) e

@@ -1,13 +1,12 @@
 -- Invariant: Filling, the words stand for the items added so far, and the rest makes the whole.
 -- Measure: the items left.
-use Prim.Native.Nat.{ℕ, _+_, _-_}
-use mathlib.Core.Path.{_≡_, sym, _∙_}
+use Prim.Native.Nat.{_+_, _-_}
+use mathlib.Core.Path.{sym, _∙_}
 use mathlib.Core.Logic.{⊎-elim}
 use native.Mathlib.Omega.{arith}
 use Rattle.spec.specs.Model.{items, category}
-use Rattle.spec.specs.Observations.{evict, place}
-use Rattle.starting.proofs.Filling.{Filling, filling-none, filling-fits, filling-free, filling-place, filling-row}
-use Rattle.starting.proofs.Filling.{filling-more, filling-all}
+use Rattle.starting.proofs.Filling.{Filling, Placed, filling-none, filling-fits, filling-free, filling-place}
+use Rattle.starting.proofs.Filling.{filling-row, filling-more, filling-all}
 use borrow.Author.Needs.{needs}
 use Rattle.starting.proofs.start_store.Statement.{statement}
 use Rattle.starting.proofs.start_store.Tie as tie
@@ -48,13 +47,13 @@ add-place c = search needs
 place-requires : tie.Need-place-requires Inv-loop μ-loop
 place-requires c κs = search needs
 
--- where the two ways meet: the eviction is done, and p is the number's place
+-- where the two ways meet
 met : (c : tie.Joined1 Inv-loop μ-loop) →
     let l = c .before .before .before in
     let a = l .before .before .before .before .before .before .before .before .args in
     let k = l .loop .item in
-    (c .if1 .st ≡ evict (category (a .model .now)) (a .n) (items (a .model .now)) (a .b) (a .b + k) (l .loop .st))
-    × (c .if1 .p ≡ place (a .n) (a .b) (a .b + k))
+    Placed (category (a .model .now)) (a .n) (items (a .model .now)) (a .b) (a .b + k) (l .loop .st) (c .if1 .st)
+    (c .if1 .p)
 met c =
     let f = c .before .before .before .loop .inv in
     ⊎-elim (λ w. (w .6 ∙ w .2 .ensures, w .7 ∙ w .5 .ensures .0))
