@@ -1,7 +1,7 @@
 -- The pass over the ring: one more number, parts of it, and what a run's loops know.
 use Prim.Native.Nat.{ℕ, zero, suc, _+_, _-_, _*_, _≤_, _<_}
 use mathlib.Core.Path.{_≡_, refl, sym, ap, _∙_}
-use mathlib.Core.Bool.{Bool, true, false, _&&_, and-assoc}
+use mathlib.Core.Bool.{Bool, true, false, _&&_, and-assoc, false≢true}
 use mathlib.Core.List.{List}
 use native.Mathlib.Numerals.{add-one}
 use native.Mathlib.Omega.{arith}
@@ -17,7 +17,7 @@ use Rattle.observations.specs.Ring.{ringWord}
 use Rattle.rows.specs.Rows.{Run}
 use Rattle.rows.proofs.Ranges.{run-next}
 use Rattle.rows.proofs.Laws.{wordAt}
-use Rattle.picks.specs.Pass.{steppedOk, wordOf, numberStepped, passMarks, passOk, seenFrom}
+use Rattle.picks.specs.Pass.{steppedOk, wordOf, numberStepped, passMarks, passOk, seenFrom, Passed}
 use Rattle.picks.specs.Picks.{block}
 use Rattle.picks.proofs.Numbers.{seen-step, seen-end, run-add}
 use Rattle.passes.specs.Passes.{Skipped}
@@ -76,23 +76,37 @@ module _ (steps m : ℕ) (st : List ℕ) (f : ℕ) where
     seen-split : (w : List ℕ) → seenFrom st f (e - s) s w ≡ seenFrom st f (e - g) g (seenFrom st f (g - s) s w)
     seen-split w = rw all (rw turn at (seen-add (g - s) (e - g) s w))
 
-    -- the front one answers no
-    pub front-no : (l : List ℕ) {t : Bool} → t ≡ passOk steps m st f (g - s) s l → t ≡ false
-        → false ≡ passOk steps m st f (e - s) s l
-    front-no l a z = sym (ok-split l ∙ rw (← a, z))
+-- the front one answers t, with the marks x and the newest places y behind it
+module _ {steps m : ℕ} {st : List ℕ} {f s g e : ℕ} (h1 : s ≤ g) (h2 : g ≤ e) {l x w y : List ℕ} {t : Bool}
+    (a : Passed steps m st f s g l x w y t) where
+  pub front-no : {l' w' : List ℕ} → t ≡ false → Passed steps m st f s e l l' w w' false
+  front-no z =
+      let b = a .ok in
+      record {
+        ok = sym (ok-split steps m st f s g e h1 h2 l ∙ rw (← b, z));
+        behind = λ n. absurd (false≢true n);
+      }
 
-    -- it answers yes: what is behind both
-    module _ (l : List ℕ) {x : List ℕ} {t : Bool} (a : t ≡ passOk steps m st f (g - s) s l) (z : t ≡ true)
-        (ex : x ≡ passMarks steps st f (g - s) s l) where
-      pub both-ok : passOk steps m st f (e - s) s l ≡ passOk steps m st f (e - g) g x
-      both-ok = ok-split l ∙ rw (← a, z, ← ex)
+  -- it answers yes: what is behind both
+  module _ (z : t ≡ true) where
+    pub both-ok : passOk steps m st f (e - s) s l ≡ passOk steps m st f (e - g) g x
+    both-ok =
+        let b = a .ok in
+        let k = a .behind z .0 in
+        ok-split steps m st f s g e h1 h2 l ∙ rw (← b, z, ← k)
 
-      pub both-marks : passMarks steps st f (e - s) s l ≡ passMarks steps st f (e - g) g x
-      both-marks = marks-split l ∙ rw (← ex)
+    pub both-marks : passMarks steps st f (e - s) s l ≡ passMarks steps st f (e - g) g x
+    both-marks = let k = a .behind z .0 in marks-split steps m st f s g e h1 h2 l ∙ rw (← k)
 
-    pub both-seen : (w : List ℕ) {x : List ℕ} → x ≡ seenFrom st f (g - s) s w
-        → seenFrom st f (e - s) s w ≡ seenFrom st f (e - g) g x
-    both-seen w ex = seen-split w ∙ rw (← ex)
+    pub both-seen : seenFrom st f (e - s) s w ≡ seenFrom st f (e - g) g y
+    both-seen = let k = a .behind z .1 in seen-split steps m st f s g e h1 h2 w ∙ rw (← k)
+
+    pub both : {l' w' : List ℕ} {u : Bool} → Passed steps m st f g e x l' y w' u → Passed steps m st f s e l l' w w' u
+    both b =
+        record {
+          ok = b .ok ∙ sym both-ok;
+          behind = λ n. (b .behind n .0 ∙ sym both-marks, b .behind n .1 ∙ sym both-seen);
+        }
 
 marks-end : (steps : ℕ) (st : List ℕ) (f s e : ℕ) (l : List ℕ) → e ≤ s → passMarks steps st f (e - s) s l ≡ l
 unfolding passMarks
@@ -205,30 +219,35 @@ module _ {steps m : ℕ} {st : List ℕ} {f a e : ℕ} {o l v w : List ℕ} {s q
       }
 
   -- a block of numbers up to g
-  module _ {g : ℕ} (h1 : s ≤ g) (h2 : g ≤ e) {t : Bool} (b : t ≡ passOk steps m st f (g - s) s l) where
-    pub passing-no : t ≡ false → false ≡ passOk steps m st f (e - a) a o
-    passing-no n = front-no steps m st f s g e h1 h2 l b n ∙ sym (z .ok)
+  module _ {g : ℕ} (h1 : s ≤ g) (h2 : g ≤ e) {l' w' : List ℕ} {t : Bool} (b : Passed steps m st f s g l l' w w' t)
+    where
+      pub passing-no : {x y : List ℕ} → t ≡ false → Passed steps m st f a e o x v y false
+      passing-no {x} {y} n =
+          let k = front-no h1 h2 b {l' = x} {w' = y} n in
+          record { ok = k .ok ∙ sym (z .ok); behind = λ u. absurd (false≢true u) }
 
-    pub passing-block : {l' w' : List ℕ} → t ≡ true → length l' ≡ length l → length w' ≡ length w
-        → (l' ≡ passMarks steps st f (g - s) s l) × (w' ≡ seenFrom st f (g - s) s w)
-        → Passing steps m st f a e o l' v w' g (q + (g - s))
-    passing-block y n k ex =
-        record {
-          run = run-on (z .run) h1 h2;
-          from = omega (arith, z .from);
-          len = n ∙ z .len;
-          wide = k ∙ z .wide;
-          ok = z .ok ∙ both-ok steps m st f s g e h1 h2 l b y (ex .0);
-          marks = z .marks ∙ both-marks steps m st f s g e h1 h2 l b y (ex .0);
-          seen = z .seen ∙ both-seen steps m st f s g e h1 h2 w (ex .1);
-        }
+      pub passing-block : t ≡ true → length l' ≡ length l → length w' ≡ length w
+          → Passing steps m st f a e o l' v w' g (q + (g - s))
+      passing-block y n k =
+          record {
+            run = run-on (z .run) h1 h2;
+            from = omega (arith, z .from);
+            len = n ∙ z .len;
+            wide = k ∙ z .wide;
+            ok = z .ok ∙ both-ok h1 h2 b y;
+            marks = z .marks ∙ both-marks h1 h2 b y;
+            seen = z .seen ∙ both-seen h1 h2 b y;
+          }
 
-  pub passing-end : e ≤ s → (true ≡ passOk steps m st f (e - a) a o)
-      × ((l ≡ passMarks steps st f (e - a) a o) × (w ≡ seenFrom st f (e - a) a v))
-  passing-end h = (
-    sym (z .ok ∙ ok-end steps m st f s e l h),
-    (sym (z .marks ∙ marks-end steps st f s e l h), sym (z .seen ∙ seen-end st f s e w h)),
-  )
+  pub passing-end : e ≤ s → Passed steps m st f a e o l v w true
+  passing-end h =
+      record {
+        ok = sym (z .ok ∙ ok-end steps m st f s e l h);
+        behind = λ n. (
+          sym (z .marks ∙ marks-end steps st f s e l h),
+          sym (z .seen ∙ seen-end st f s e w h),
+        );
+      }
 
 -- a block behind x ends behind it
 pub block-on : {x y z e : ℕ} → x < e → (x ≤ y) × (y ≤ e) → ((y ≤ z) × (z ≤ e)) × ((z - y ≤ block) × (y < e → y < z))

@@ -1,14 +1,12 @@
 // One pass over the ring, for current with at: each item's newest place, and the marks of condition items, in two runs
 // without a wrap. The place of the pass's first number is FIRST_PLACE.
 ghost use mathlib.Core.Path.{_≡_};
-ghost use mathlib.Core.Bool.{true};
-ghost use Prim.Native.Nat.{suc, _-_, _*_, _<_, _≤_};
+ghost use Prim.Native.Nat.{_-_, _*_, _<_, _≤_};
 ghost use lib.ListN.{length};
 ghost use Rattle.spec.specs.Model.{maxItems};
 ghost use Rattle.spec.specs.Observations.{Head, ringSize, base};
-ghost use Rattle.rows.specs.Rows.{Run};
-ghost use Rattle.picks.specs.Pass.{passMarks, passOk, seenFrom};
-ghost use Rattle.picks.specs.Picks.{block};
+ghost use Rattle.picks.specs.Pass.{Part, Passed};
+ghost use Rattle.picks.specs.Picks.{block, Room};
 ghost use Rattle.passes.specs.Passes.{Skipped};
 use picks::BLOCK;
 use picks::PICK_SLOTS;
@@ -39,7 +37,7 @@ fn plain_run(
 ) -> u64
     requires { ⌜ Head m (now st) ⌝ }
     requires { ⌜ (m ≤ maxItems) × (length (now seen) ≡ maxItems) ⌝ }
-    requires { ⌜ Run (ringSize (now st)) (base (now st)) e s p × ((f ≤ s) × (e - f ≤ ringSize (now st))) ⌝ }
+    requires { ⌜ Part (now st) f s e p ⌝ }
     requires { ⌜ s ≤ e ⌝ }
     ensures { λ r. ⌜ (s ≤ r) × (r ≤ e) ⌝ }
     ensures { λ r. ⌜ Skipped steps m (now (st .entry)) f e s r (now (seen .entry)) (now (seen .exit)) ⌝ }
@@ -73,14 +71,11 @@ fn pass_run(
     marks: &mut [u64],
 ) -> bool
     requires { ⌜ Head m (now st) ⌝ }
-    requires { ⌜ (m ≤ maxItems) × ((length (now seen) ≡ maxItems) × (length (now picks) ≡ suc block)) ⌝ }
-    requires { ⌜ length (now marks) ≡ 8 * maxItems ⌝ }
-    requires { ⌜ Run (ringSize (now st)) (base (now st)) e s p × ((f ≤ s) × (e - f ≤ ringSize (now st))) ⌝ }
-    ensures { λ r. ⌜ r ≡ passOk steps m (now (st .entry)) f (e - s) s (now (marks .entry)) ⌝ }
+    requires { ⌜ (m ≤ maxItems) × Room (now seen) (now picks) (now marks) ⌝ }
+    requires { ⌜ Part (now st) f s e p ⌝ }
     ensures { λ r. ⌜
-        (r ≡ true →
-        (now (marks .exit) ≡ passMarks steps (now (st .entry)) f (e - s) s (now (marks .entry)))
-        × (now (seen .exit) ≡ seenFrom (now (st .entry)) f (e - s) s (now (seen .entry))))
+        (let st = now (st .entry) in
+        Passed steps m st f s e (now (marks .entry)) (now (marks .exit)) (now (seen .entry)) (now (seen .exit)) r)
         ⌝ }
 {
     let mut q = p;
@@ -111,11 +106,9 @@ pub fn pass(
     requires { ⌜ Head m (now st) ⌝ }
     requires { ⌜ (m ≤ maxItems) × ((length (now seen) ≡ maxItems) × (length (now marks) ≡ 8 * maxItems)) ⌝ }
     requires { ⌜ (base (now st) ≤ f) × ((f ≤ e) × (e - f ≤ ringSize (now st))) ⌝ }
-    ensures { λ r. ⌜ r ≡ passOk steps m (now (st .entry)) f (e - f) f (now (marks .entry)) ⌝ }
     ensures { λ r. ⌜
-        (r ≡ true →
-        (now (marks .exit) ≡ passMarks steps (now (st .entry)) f (e - f) f (now (marks .entry)))
-        × (now (seen .exit) ≡ seenFrom (now (st .entry)) f (e - f) f (now (seen .entry))))
+        (let st = now (st .entry) in
+        Passed steps m st f f e (now (marks .entry)) (now (marks .exit)) (now (seen .entry)) (now (seen .exit)) r)
         ⌝ }
 {
     let mut picks = [0u8; PICK_SLOTS];

@@ -1,7 +1,7 @@
 -- Numbers picked out of a block: what the loops over them know, and that the marks behind them are the pass's.
 use Prim.Native.Nat.{ℕ, zero, suc, _+_, _-_, _*_, _≤_, _<_}
 use mathlib.Core.Path.{_≡_, refl, sym, ap, _∙_}
-use mathlib.Core.Bool.{Bool, true, false, cond, true≢false}
+use mathlib.Core.Bool.{Bool, true, false, cond, true≢false, false≢true}
 use mathlib.Core.List.{List, [], _∷_, _++_, append-assoc, append-nil}
 use native.Mathlib.Numerals.{add-one}
 use native.Mathlib.Omega.{arith}
@@ -18,7 +18,7 @@ use Rattle.observations.specs.Ring.{ringWord}
 use Rattle.rows.specs.Rows.{itemsOk, Run}
 use Rattle.rows.proofs.Ranges.{run-next}
 use Rattle.rows.proofs.Laws.{wordAt, ok-step}
-use Rattle.picks.specs.Pass.{steppedAt, steppedOk, fits, wordOf, passMarks, passOk, seenFrom}
+use Rattle.picks.specs.Pass.{steppedAt, steppedOk, fits, wordOf, passMarks, passOk, seenFrom, Part, Passed}
 use Rattle.picks.specs.Picks.{block, picked, listed, Gathered, Pick, Each, numberAt, pickMarks, pickOk}
 use Rattle.picks.proofs.Numbers.{seen-step, seen-end, run-at}
 
@@ -257,32 +257,40 @@ block-start n = omega arith
 
 module _ (steps m : ℕ) (st : List ℕ) (f s e : ℕ) where
   -- an item isn't the model's
-  pub block-broken : (l : List ℕ) {t : Bool} → t ≡ itemsOk m st s e → t ≡ false
-      → false ≡ passOk steps m st f (e - s) s l
-  block-broken l b z = foreign steps m st f (e - s) s l (sym b ∙ z)
+  pub block-broken : (l : List ℕ) {l' w w' : List ℕ} {t : Bool} → t ≡ itemsOk m st s e → t ≡ false
+      → Passed steps m st f s e l l' w w' false
+  block-broken l b z =
+      record {
+        ok = foreign steps m st f (e - s) s l (sym b ∙ z);
+        behind = λ n. absurd (false≢true n);
+      }
 
   module _ {t : Bool} (b : t ≡ itemsOk m st s e) (y : t ≡ true) {v w ps : List ℕ}
       (g : Gathered steps st f s e v w ps) where
-    pub block-picks : {p : ℕ} → Run (ringSize st) (base st) e s p → f ≤ s → e - f ≤ ringSize st
-        → Each (Pick m st f s p) (listed ps)
+    pub block-picks : {p : ℕ} → Part st f s e p → Each (Pick m st f s p) (listed ps)
     unfolding ringOk
-    block-picks {p} r h k =
+    block-picks {p} r =
         rw (g .picks)
         (each-picked (Pick m st f s p) (e - s)
         (λ j l.
         record {
-          at = run-at r j l .0;
-          inside = run-at r j l .1;
-          near = omega arith;
+          at = run-at (r .run) j l .0;
+          inside = run-at (r .run) j l .1;
+          near = omega (arith, r .from, r .near);
           item = ltb-true _ m (every-at _ (e - s) s (s + j) (sym b ∙ y) (omega arith) (omega arith));
         }) steps st s (e - s) 0 (omega arith))
 
-    pub block-ok : (l : List ℕ) {r : Bool} → r ≡ pickOk st f s (listed ps) l → r ≡ passOk steps m st f (e - s) s l
-    block-ok l er =
-        er
-        ∙ (rw (g .picks)
-        (sym (rw (block-start s) at (pick-ok steps m st f s (e - s) 0 l (rw (block-start s) (sym b ∙ y))))))
-
-    pub block-marks : (l : List ℕ) {r : List ℕ} → r ≡ pickMarks st f s (listed ps) l
-        → r ≡ passMarks steps st f (e - s) s l
-    block-marks l er = er ∙ (rw (g .picks) (sym (rw (block-start s) at (pick-marks steps st f s (e - s) 0 l))))
+    -- the marks behind the picks
+    pub block-passed : (l : List ℕ) {l' : List ℕ} {r : Bool} → r ≡ pickOk st f s (listed ps) l
+        → (r ≡ true → l' ≡ pickMarks st f s (listed ps) l) → Passed steps m st f s e l l' v w r
+    block-passed l er el =
+        record {
+          ok =
+              er
+              ∙ (rw (g .picks)
+              (sym (rw (block-start s) at (pick-ok steps m st f s (e - s) 0 l (rw (block-start s) (sym b ∙ y))))));
+          behind = λ n. (
+            el n ∙ (rw (g .picks) (sym (rw (block-start s) at (pick-marks steps st f s (e - s) 0 l)))),
+            g .seen,
+          );
+        }

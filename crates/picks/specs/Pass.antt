@@ -1,5 +1,6 @@
 -- The marks and the newest places behind numbers of the ring, one number at a time.
-use Prim.Native.Nat.{ℕ, zero, suc, _+_, _-_, _*_}
+use Prim.Native.Nat.{ℕ, zero, suc, _+_, _-_, _*_, _≤_}
+use mathlib.Core.Path.{_≡_}
 use mathlib.Core.Bool.{Bool, true, cond, _&&_, _||_, not}
 use mathlib.Core.List.{List}
 use lib.Dec.{ltb}
@@ -10,6 +11,7 @@ use Rattle.spec.specs.Value.{itemOf}
 use Rattle.spec.specs.Observations.{ringSize, base, entry}
 use Rattle.marks.specs.Marks.{markOf, keyOf, eightAt, changeFor, changed}
 use Rattle.marks.specs.Marked.{isFull}
+use Rattle.rows.specs.Rows.{Run}
 
 -- a condition item's eight behind an entry of its own at a place, by its packed word
 abbrev pub steppedEight : ℕ → ℕ → ℕ → List ℕ → List ℕ
@@ -53,3 +55,14 @@ passOk steps m st f (suc k) s l =
 unfoldable pub seenFrom : List ℕ → ℕ → ℕ → ℕ → List ℕ → List ℕ
 seenFrom st f zero s w = w
 seenFrom st f (suc k) s w = seenFrom st f k (suc s) (set w (itemOf (wordOf st s)) (s - f + 9))
+
+-- the numbers from s up to e of a pass that begins with f: they stand in the ring from place p on, without a wrap
+pub record Part (st : List ℕ) (f s e p : ℕ) : Type 0 where
+  pub run : Run (ringSize st) (base st) e s p
+  pub from : f ≤ s
+  pub near : e - f ≤ ringSize st
+
+-- t says whether they pass; if they do, the marks l and the newest places w are l' and w' behind them
+pub record Passed (steps m : ℕ) (st : List ℕ) (f s e : ℕ) (l l' w w' : List ℕ) (t : Bool) : Type 0 where
+  pub ok : t ≡ passOk steps m st f (e - s) s l
+  pub behind : t ≡ true → (l' ≡ passMarks steps st f (e - s) s l) × (w' ≡ seenFrom st f (e - s) s w)

@@ -1,5 +1,5 @@
 -- Numbers picked out of a block.
-use Prim.Native.Nat.{ℕ, zero, suc, _+_, _-_, _<_}
+use Prim.Native.Nat.{ℕ, zero, suc, _+_, _-_, _*_, _<_}
 use mathlib.Core.Path.{_≡_}
 use mathlib.Core.Bool.{Bool, true, cond, _&&_}
 use mathlib.Core.List.{List, [], _∷_}
@@ -7,12 +7,19 @@ use lib.Dec.{eqb}
 use lib.ListN.{length}
 use Rattle.spec.specs.Words.{bit}
 use Rattle.spec.specs.Value.{itemOf}
+use Rattle.spec.specs.Model.{maxItems}
 use Rattle.spec.specs.Observations.{ringSize, base, place}
 use Rattle.picks.specs.Pass.{steppedAt, fits, wordOf, seenFrom}
 
 -- as many as are looked through at a time: a pick is below it, and it is none itself
 abbrev pub block : ℕ
 block = 255
+
+-- room for the newest places, a block's picks with their end, and the marks
+pub record Room (w ps l : List ℕ) : Type 0 where
+  pub seen : length w ≡ maxItems
+  pub picks : length ps ≡ suc block
+  pub marks : length l ≡ 8 * maxItems
 
 -- how far from s on the k numbers from s + j on stand that are condition items'
 unfoldable pub picked : ℕ → List ℕ → ℕ → ℕ → ℕ → List ℕ

@@ -5,10 +5,10 @@ ghost use mathlib.Core.Bool.{true};
 ghost use Prim.Native.Nat.{suc, _-_, _*_, _^_, _<_, _≤_};
 ghost use lib.ListN.{length};
 ghost use Rattle.spec.specs.Model.{maxItems};
-ghost use Rattle.spec.specs.Observations.{Head, ringSize, base};
-ghost use Rattle.rows.specs.Rows.{itemsOk, Run};
-ghost use Rattle.picks.specs.Pass.{steppedAt, fits, passMarks, passOk, seenFrom};
-ghost use Rattle.picks.specs.Picks.{block, listed, Gathered, Pick, Each, pickMarks, pickOk};
+ghost use Rattle.spec.specs.Observations.{Head};
+ghost use Rattle.rows.specs.Rows.{itemsOk};
+ghost use Rattle.picks.specs.Pass.{steppedAt, fits, Part, Passed};
+ghost use Rattle.picks.specs.Picks.{block, Room, listed, Gathered, Pick, Each, pickMarks, pickOk};
 use snapshot_rows::FIRST_PLACE;
 
 // Numbers of the ring that are looked through at a time. A pick is a byte below it, and BLOCK itself is none.
@@ -33,7 +33,7 @@ fn gather(
 ) -> bool
     requires { ⌜ Head m (now st) ⌝ }
     requires { ⌜ (m ≤ maxItems) × ((length (now seen) ≡ maxItems) × (length (now picks) ≡ suc block)) ⌝ }
-    requires { ⌜ Run (ringSize (now st)) (base (now st)) e s p × ((f ≤ s) × (e - f ≤ ringSize (now st))) ⌝ }
+    requires { ⌜ Part (now st) f s e p ⌝ }
     requires { ⌜ (s ≤ e) × (e - s ≤ block) ⌝ }
     ensures { λ r. ⌜ r ≡ itemsOk m (now (st .entry)) s e ⌝ }
     ensures { λ r. ⌜
@@ -119,15 +119,12 @@ pub fn step_block(
     marks: &mut [u64],
 ) -> bool
     requires { ⌜ Head m (now st) ⌝ }
-    requires { ⌜ (m ≤ maxItems) × ((length (now seen) ≡ maxItems) × (length (now picks) ≡ suc block)) ⌝ }
-    requires { ⌜ length (now marks) ≡ 8 * maxItems ⌝ }
-    requires { ⌜ Run (ringSize (now st)) (base (now st)) e s p × ((f ≤ s) × (e - f ≤ ringSize (now st))) ⌝ }
+    requires { ⌜ (m ≤ maxItems) × Room (now seen) (now picks) (now marks) ⌝ }
+    requires { ⌜ Part (now st) f s e p ⌝ }
     requires { ⌜ (s ≤ e) × (e - s ≤ block) ⌝ }
-    ensures { λ r. ⌜ r ≡ passOk steps m (now (st .entry)) f (e - s) s (now (marks .entry)) ⌝ }
     ensures { λ r. ⌜
-        (r ≡ true →
-        (now (marks .exit) ≡ passMarks steps (now (st .entry)) f (e - s) s (now (marks .entry)))
-        × (now (seen .exit) ≡ seenFrom (now (st .entry)) f (e - s) s (now (seen .entry))))
+        (let st = now (st .entry) in
+        Passed steps m st f s e (now (marks .entry)) (now (marks .exit)) (now (seen .entry)) (now (seen .exit)) r)
         ⌝ }
 {
     if !gather(st, m, steps, p, f, s, e, seen, picks) {

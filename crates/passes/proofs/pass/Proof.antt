@@ -1,9 +1,7 @@
-use Rattle.passes.proofs.Laws.{front-no, both-ok, both-marks, both-seen}
+use Rattle.passes.proofs.Laws.{front-no, both}
 use borrow.Author.Tests.{not-true, not-false}
-use mathlib.Core.Bool.{false≢true}
 use native.Mathlib.Omega.{arith}
 use Prim.Native.Nat.{_-_}
-use mathlib.Core.Path.{sym, _∙_}
 use borrow.Author.Needs.{needs}
 use Rattle.passes.proofs.pass.Statement.{statement}
 use Rattle.passes.proofs.pass.Tie as tie
@@ -18,21 +16,12 @@ pass-run-requires : tie.Need-pass-run-requires
 pass-run-requires c κs =
     let runs = c .before .before .before in
     let s = runs .before .before .before .before in
-    let t = runs .runs .ensures in (
+    let t = runs .runs .ensures in
+    let k = s .pre .1 .0 in (
       s .pre .0,
       (
-        (s .pre .1 .0 .0, (s .pre .1 .0 .1 .0, search needs)),
-        (
-          s .pre .1 .0 .1 .1,
-          (
-            t .front,
-            (
-              omega
-                  arith,
-              omega (arith, t .low, t .high, s .pre .1 .1 .1 .1),
-            ),
-          ),
-        ),
+        (k .0, record { seen = k .1 .0; picks = search needs; marks = k .1 .1 }),
+        record { run = t .front; from = omega arith; near = omega (arith, t .low, t .high, s .pre .1 .1 .1 .1) },
       ),
     )
 
@@ -45,14 +34,8 @@ same-length-2 c = search needs
 returns : tie.Need-returns
 returns c =
     let pass-run = c .before .before .before .before .before .before in
-    let runs = pass-run .before .before .before .before in
-    let s = runs .before .before .before .before in
-    let t = runs .runs .ensures in (
-      front-no (s .args .steps) (s .args .m) (s .args .st .now) (s .args .f) (s .args .f) _ (s .args .e) (t .low)
-          (t .high) (s .args .marks .now) (pass-run .pass-run .ensures .0) (not-true _ (c .if1 .taken)),
-      λ z. absurd
-          (false≢true z),
-    )
+    let t = pass-run .before .before .before .before .runs .ensures in
+    front-no (t .low) (t .high) (pass-run .pass-run .ensures) (not-true _ (c .if1 .taken))
 
 slice-aggregate-pass-run-2 : tie.Need-slice-aggregate-pass-run-2
 slice-aggregate-pass-run-2 c = search needs
@@ -62,17 +45,12 @@ pass-run-requires-2 c κs =
     let runs =
     c .before .before .before .before .before .before .before .before .before .before .before .before .before in
     let s = runs .before .before .before .before in
-    let t = runs .runs .ensures in (
+    let t = runs .runs .ensures in
+    let k = s .pre .1 .0 in (
       s .pre .0,
       (
-        (s .pre .1 .0 .0, (omega (arith, s .pre .1 .0 .1 .0), search needs)),
-        (
-          omega (
-            arith,
-            s .pre .1 .0 .1 .1,
-          ),
-          (t .back, (t .low, s .pre .1 .1 .1 .1)),
-        ),
+        (k .0, record { seen = omega (arith, k .1 .0); picks = search needs; marks = omega (arith, k .1 .1) }),
+        record { run = t .back; from = t .low; near = s .pre .1 .1 .1 .1 },
       ),
     )
 
@@ -87,24 +65,9 @@ returns-2 c =
     let pass-run2 = c .before .before .before .before .before in
     let else1 = pass-run2 .before .before .before .before in
     let pass-run = else1 .before .before .before .before .before .before in
-    let runs = pass-run .before .before .before .before in
-    let s = runs .before .before .before .before in
-    let t = runs .runs .ensures in
-    let y = not-false _ (else1 .if1 .left) in
-    let a = pass-run .pass-run .ensures in
-    let b = pass-run2 .pass-run2 .ensures in
-    let l = s .args .marks .now in (
-      b .0 ∙ sym (both-ok (s .args .steps) (s .args .m) (s .args .st .now) (s .args .f) (s .args .f) _ (s .args .e)
-          (t .low) (t .high) l (a .0) y (a .1 y .0)),
-      λ z. (
-        b .1 z .0 ∙ sym (both-marks (s .args .steps) (s .args .m)
-            (s .args .st .now) (s .args .f) (s .args .f) _ (s .args .e) (t .low) (t .high) l (a .0) y (a .1 y .0)),
-        b .1
-            z .1 ∙ sym (both-seen (s .args .steps) (s .args .m) (s .args .st .now) (s .args .f) (s .args .f) _
-            (s .args .e)
-            (t .low) (t .high) (s .args .seen .now) (a .1 y .1)),
-      ),
-    )
+    let t = pass-run .before .before .before .before .runs .ensures in
+    both (t .low) (t .high) (pass-run .pass-run .ensures) (not-false _ (else1 .if1 .left))
+    (pass-run2 .pass-run2 .ensures)
 
 pub pass-spec : {M : Type 1} → statement M
 pass-spec =

@@ -2,7 +2,6 @@ use Rattle.passes.proofs.Laws.{Passing, passing-start, passing-skip, pa
 use Rattle.picks.specs.Picks.{block}
 use Rattle.passes.proofs.Laws.{run-to, block-on}
 use borrow.Author.Tests.{not-true, not-false}
-use mathlib.Core.Bool.{false≢true}
 use native.Mathlib.Omega.{arith}
 use lib.ListN.{length}
 use Prim.Native.Nat.{suc, _-_}
@@ -20,9 +19,9 @@ abbrev μ-loop : tie.MeasureT-loop
 loop-holds : tie.Need-loop-holds Inv-loop μ-loop
 loop-holds c =
     let s = c .before .before .before .before in (
-      passing-start _ _ _ _ _ _ _ _ _ (s .pre .1 .1 .1 .0) (s .pre .1 .1 .1 .1 .0) (s .pre .1 .1 .0)
-          (s .pre .1 .0 .1 .0),
-      s .pre .1 .0 .1 .1,
+      passing-start _ _ _ _ _ _ _ _ _ (s .pre .1 .1 .run) (s .pre .1 .1 .from) (s .pre .1 .0 .1 .marks)
+          (s .pre .1 .0 .1 .seen),
+      s .pre .1 .0 .1 .picks,
     )
 
 plain-run-requires : tie.Need-plain-run-requires Inv-loop μ-loop
@@ -35,7 +34,7 @@ plain-run-requires c κs =
       (
         (s .pre .1 .0 .0, v .0 .wide),
         (
-          (v .0 .run, (v .0 .from, s .pre .1 .1 .1 .1 .1)),
+          record { run = v .0 .run; from = v .0 .from; near = s .pre .1 .1 .near },
           omega (
             arith,
             in-loop .loop-test .taken,
@@ -78,34 +77,25 @@ step-block-requires c κs =
     let b = block-end .block-end .ensures in (
       s .pre .0,
       (
-        (s .pre .1 .0 .0, (w .wide, v .1)),
+        (s .pre .1 .0 .0, record { seen = w .wide; picks = v .1; marks = v .0 .len }),
         (
-          v .0 .len,
-          (
-            (
-              run-to (w .run) (b .0 .0) (b .0 .1),
-              (
-                w .from,
-                omega (arith, b .0 .1, s .pre .1 .1 .1 .1 .1),
-              ),
-            ),
-            (b .0 .0, b .1 .0),
-          ),
+          record {
+            run = run-to (w .run) (b .0 .0) (b .0 .1);
+            from = w .from;
+            near = omega (arith, b .0 .1, s .pre .1 .1 .near);
+          },
+          (b .0 .0, b .1 .0),
         ),
       ),
     )
 
 same-length : tie.Need-same-length Inv-loop μ-loop
 same-length c =
-    let v = c .before .before .before .before .before .before .before .before .before .before .before .before
-    .before .before .before .before .before .loop .inv in
-    omega (
-      arith,
-      v .0 .wide,
-      c .before .before .before .before .before .before .before .before .before .before
-          .before .before .before .before .before .before .before .before .before .before .before .before .pre .1 .0 .1
-          .0,
-    )
+    let seen2 = c .before .before .before .before .before .before in
+    let seen = seen2 .before .before .before .before .before .before .before in
+    let loop = seen .before .before .before .before in
+    let s = loop .before .before .before .before .before in
+    omega (arith, loop .loop .inv .0 .wide, s .pre .1 .0 .1 .seen, seen .seen .given, seen2 .seen2 .given)
 
 same-length-2 : tie.Need-same-length-2 Inv-loop μ-loop
 same-length-2 c =
@@ -113,7 +103,7 @@ same-length-2 c =
     .before .before .before .before .before .before in
     let s = loop .before .before .before .before .before in
     let v = loop .loop .inv in
-    omega (arith, v .1, s .pre .1 .0 .1 .1)
+    omega (arith, v .1, s .pre .1 .0 .1 .picks)
 
 same-length-3 : tie.Need-same-length-3 Inv-loop μ-loop
 same-length-3 c =
@@ -121,7 +111,7 @@ same-length-3 c =
     .before .before .before .before .before .before in
     let s = loop .before .before .before .before .before in
     let v = loop .loop .inv in
-    omega (arith, v .0 .len, s .pre .1 .1 .0)
+    omega (arith, v .0 .len, s .pre .1 .0 .1 .marks)
 
 returns : tie.Need-returns Inv-loop μ-loop
 returns c =
@@ -132,11 +122,8 @@ returns c =
     let v = loop .loop .inv in
     let r = plain-run .plain-run .ensures in
     let w = passing-skip (v .0) (r .0) (omega arith) (r .1) in
-    let b = block-end .block-end .ensures in (
-      passing-no w (b .0 .0) (b .0 .1) (step-block .step-block .ensures .0) (not-true _ (c .if1 .taken)),
-      λ z. absurd
-          (false≢true z),
-    )
+    let b = block-end .block-end .ensures in
+    passing-no w (b .0 .0) (b .0 .1) (step-block .step-block .ensures) (not-true _ (c .if1 .taken))
 
 sub-q-2 : tie.Need-sub-q-2 Inv-loop μ-loop
 sub-q-2 c =
@@ -168,19 +155,17 @@ loop-less c =
 
 loop-again : tie.Need-loop-again Inv-loop μ-loop
 loop-again c =
-    let s = c .before .before .before .before .before .before .before .before .before .before .before .before
-    .before .before .before .before .before .before .before .before .before .before in
-    let v = c .before .before .before .before .before .before .before .before .before .before .before .before
-    .before .before .before .before .before .loop .inv in
-    let r = c .before .before .before .before .before .before .before .before .before .before .before .before
-    .before .before .plain-run .ensures in
+    let seen2 = c .before .before .before .before .before .before in
+    let step-block = seen2 .before in
+    let block-end = step-block .before .before .before .before in
+    let plain-run = block-end .before .before .before in
+    let loop = plain-run .before .before .before in
+    let v = loop .loop .inv in
+    let r = plain-run .plain-run .ensures in
     let w = passing-skip (v .0) (r .0) (omega arith) (r .1) in
-    let b = c .before .before .before .before .before .before .before .before .before .before .before .block-end
-    .ensures in
-    let y = not-false _ (c .if1 .left) in (
-      passing-block w (b .0 .0) (b .0 .1) (c .before .before .before .before .before .before .before .step-block
-          .ensures .0) y (omega arith) (omega arith) (c .before .before .before .before .before .before .before
-          .step-block .ensures .1 y),
+    let b = block-end .block-end .ensures in (
+      passing-block w (b .0 .0) (b .0 .1) (step-block .step-block .ensures) (not-false _ (c .if1 .left))
+          (omega arith) (omega (arith, seen2 .seen2 .given)),
       omega (arith, v .1),
     )
 
@@ -189,27 +174,26 @@ same-length-4 c =
     let loop = c .before in
     let s = loop .before .before .before .before .before in
     let v = loop .loop .inv in
-    omega (arith, v .0 .wide, s .pre .1 .0 .1 .0)
+    omega (arith, v .0 .wide, s .pre .1 .0 .1 .seen)
 
 same-length-5 : tie.Need-same-length-5 Inv-loop μ-loop
 same-length-5 c =
     let loop = c .before in
     let s = loop .before .before .before .before .before in
     let v = loop .loop .inv in
-    omega (arith, v .1, s .pre .1 .0 .1 .1)
+    omega (arith, v .1, s .pre .1 .0 .1 .picks)
 
 same-length-6 : tie.Need-same-length-6 Inv-loop μ-loop
 same-length-6 c =
     let loop = c .before in
     let s = loop .before .before .before .before .before in
     let v = loop .loop .inv in
-    omega (arith, v .0 .len, s .pre .1 .1 .0)
+    omega (arith, v .0 .len, s .pre .1 .0 .1 .marks)
 
 returns-2 : tie.Need-returns-2 Inv-loop μ-loop
 returns-2 c =
     let loop = c .before in
-    let w = passing-end (loop .loop .inv .0) (c .loop-test .left) in
-    (w .0, λ z. w .1)
+    passing-end (loop .loop .inv .0) (c .loop-test .left)
 
 pub pass-run-spec : {M : Type 1} → statement M
 pass-run-spec =

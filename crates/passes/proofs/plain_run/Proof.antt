@@ -17,7 +17,7 @@ ring-size-requires c κs = search needs
 loop-holds : tie.Need-loop-holds Inv-loop μ-loop
 loop-holds c =
     let s = c .before .before .before in
-    skipping-start _ _ _ _ _ _ _ _ (s .pre .1 .1 .0 .0) (s .pre .1 .1 .1) (s .pre .1 .0 .1)
+    skipping-start _ _ _ _ _ _ _ _ (s .pre .1 .1 .0 .run) (s .pre .1 .1 .1) (s .pre .1 .0 .1)
 
 ring-word-requires : tie.Need-ring-word-requires Inv-loop μ-loop
 ring-word-requires c κs = search needs

@@ -1,6 +1,5 @@
-use Rattle.picks.proofs.Gathers.{block-broken, block-picks, block-ok, block-marks}
+use Rattle.picks.proofs.Gathers.{block-broken, block-picks, block-passed}
 use borrow.Author.Tests.{not-true, not-false}
-use mathlib.Core.Bool.{false≢true}
 use Prim.Native.Nat.{_-_}
 use borrow.Author.Needs.{needs}
 use Rattle.picks.proofs.step_block.Statement.{statement}
@@ -9,7 +8,8 @@ use Rattle.picks.proofs.step_block.Tie as tie
 gather-requires : tie.Need-gather-requires
 gather-requires c κs =
     let s = c .before .before .before .before .before .before in
-    (s .pre .0, (s .pre .1 .0, (s .pre .1 .1 .1 .0, s .pre .1 .1 .1 .1)))
+    let k = s .pre .1 .0 .1 in
+    (s .pre .0, ((s .pre .1 .0 .0, (k .seen, k .picks)), s .pre .1 .1))
 
 same-length : tie.Need-same-length
 same-length c = search needs
@@ -20,11 +20,9 @@ same-length-2 c = search needs
 returns : tie.Need-returns
 returns c =
     let gather = c .before .before .before .before .before in
-    let s = gather .before .before .before .before .before .before .before in (
-      block-broken (s .args .steps) (s .args .m) (s .args .st .now) (s .args .f) (s .args .s) (s .args .e)
-          (s .args .marks .now) (gather .gather .ensures .0) (not-true _ (c .if1 .taken)),
-      λ z. absurd (false≢true z),
-    )
+    let s = gather .before .before .before .before .before .before .before in
+    block-broken (s .args .steps) (s .args .m) (s .args .st .now) (s .args .f) (s .args .s) (s .args .e)
+    (s .args .marks .now) (gather .gather .ensures .0) (not-true _ (c .if1 .taken))
 
 step-picks-requires : tie.Need-step-picks-requires
 step-picks-requires c κs =
@@ -34,14 +32,14 @@ step-picks-requires c κs =
     let b = gather .gather .ensures in
     let y = not-false _ (else1 .if1 .left) in
     let g = b .1 y in
-    let r = s .pre .1 .1 .1 .0 in (
+    let r = s .pre .1 .1 .0 in (
       s .pre .0,
       (
-        (s .pre .1 .0 .0, s .pre .1 .1 .0),
+        (s .pre .1 .0 .0, s .pre .1 .0 .1 .marks),
         (
-          (r .1 .0, g .ended),
+          (r .from, g .ended),
           block-picks (s .args .steps) (s .args .m)
-              (s .args .st .now) (s .args .f) (s .args .s) (s .args .e) (b .0) y g (r .0) (r .1 .0) (r .1 .1),
+              (s .args .st .now) (s .args .f) (s .args .s) (s .args .e) (b .0) y g r,
         ),
       ),
     )
@@ -64,15 +62,9 @@ returns-2 c =
     let b = gather .gather .ensures in
     let y = not-false _ (else1 .if1 .left) in
     let g = b .1 y in
-    let r = step-picks .step-picks .ensures in (
-      block-ok (s .args .steps) (s .args .m) (s .args .st .now) (s .args .f) (s .args .s) (s .args .e) (b .0) y g
-          (s .args .marks .now) (r .0),
-      λ z. (
-        block-marks (s .args .steps) (s .args .m) (s .args .st .now) (s .args .f)
-            (s .args .s) (s .args .e) (b .0) y g (s .args .marks .now) (r .1 z),
-        g .seen,
-      ),
-    )
+    let r = step-picks .step-picks .ensures in
+    block-passed (s .args .steps) (s .args .m) (s .args .st .now) (s .args .f) (s .args .s) (s .args .e) (b .0) y g
+    (s .args .marks .now) (r .0) (r .1)
 
 pub step-block-spec : {M : Type 1} → statement M
 step-block-spec =

@@ -32,7 +32,16 @@ loop-less : tie.Need-loop-less Inv-loop μ-loop
 loop-less c = search needs
 
 loop-again : tie.Need-loop-again Inv-loop μ-loop
-loop-again c = let v = c .before .before .before .loop .inv in let h = c .before .before .loop-test .taken in let a = c .before .has .ensures in ⊎-elim (λ w. rw (w .2) (counting-more v h (told a (w .0 .taken)) (w .1 .ensures))) (λ w. rw (w .1) (counting-skip v h (told a (w .0 .left)))) (c .if1 .came)
+loop-again c =
+    let has = c .before in
+    let in-loop = has .before in
+    let v = in-loop .before .loop .inv in
+    let h = in-loop .loop-test .taken in
+    let a = has .has .ensures in
+    ⊎-elim
+    (λ w. rw (w .2) (counting-more v h (told a (w .0 .taken)) (w .1 .ensures)))
+    (λ w. rw (w .1) (counting-skip v h (told a (w .0 .left))))
+    (c .if1 .came)
 
 returns : tie.Need-returns Inv-loop μ-loop
 returns c = counting-end (c .before .loop .inv) (c .loop-test .left)

@@ -30,7 +30,11 @@ place-in-requires : tie.Need-place-in-requires Inv-loop μ-loop
 place-in-requires c κs = search needs
 
 returns : tie.Need-returns Inv-loop μ-loop
-returns c = counted-none (c .before .before .before .before .loop .inv) (omega arith) (c .before .before .before .loop-test .taken) (c .before .place-in .ensures) (c .if1 .taken)
+returns c =
+    let place-in = c .before in
+    let in-loop = place-in .before .before in
+    counted-none (in-loop .before .loop .inv) (omega arith) (in-loop .loop-test .taken) (place-in .place-in .ensures)
+    (c .if1 .taken)
 
 add-j : tie.Need-add-j Inv-loop μ-loop
 add-j c = search needs
@@ -39,7 +43,11 @@ loop-less : tie.Need-loop-less Inv-loop μ-loop
 loop-less c = search needs
 
 loop-again : tie.Need-loop-again Inv-loop μ-loop
-loop-again c = counted-more (c .before .before .before .before .loop .inv) (omega arith) (c .before .before .before .loop-test .taken) (c .before .place-in .ensures) (c .if1 .left)
+loop-again c =
+    let place-in = c .before in
+    let in-loop = place-in .before .before in
+    counted-more (in-loop .before .loop .inv) (omega arith) (in-loop .loop-test .taken) (place-in .place-in .ensures)
+    (c .if1 .left)
 
 returns-2 : tie.Need-returns-2 Inv-loop μ-loop
 returns-2 c = counted-all (c .before .loop .inv) (omega arith) (c .loop-test .left)

@@ -21,7 +21,11 @@ row-at-requires : tie.Need-row-at-requires
 row-at-requires c κs = search needs
 
 returns : tie.Need-returns
-returns c = let s = c .before .before .before in row-table (s .args .m) (s .args .st .now) (s .args .f) (s .args .i) (s .args .place) (s .pre .1 .0 .1 .1) (c .before .if1 .taken) (c .row-at .ensures)
+returns c =
+    let then1 = c .before in
+    let s = then1 .before .before in
+    row-table (s .args .m) (s .args .st .now) (s .args .f) (s .args .i) (s .args .place) (s .pre .1 .0 .1 .1)
+    (then1 .if1 .taken) (c .row-at .ensures)
 
 ring-size-requires : tie.Need-ring-size-requires
 ring-size-requires c κs = search needs
@@ -42,7 +46,16 @@ ring-word-requires : tie.Need-ring-word-requires
 ring-word-requires c κs = search needs
 
 returns-2 : tie.Need-returns-2
-returns-2 c = let s = c .before .before .before .before .before .before .before in row-ring (s .args .m) (s .args .st .now) (s .args .f) (s .args .i) (s .args .place) (c .before .before .before .before .before .if1 .left) refl (c .before .before .before .before .ring-size .ensures .0) (c .before .before .before .base .ensures) (c .before .before .place .ensures .0) (c .before .ring-time .ensures) (c .ring-word .ensures)
+returns-2 c =
+    let ring-time = c .before in
+    let place = ring-time .before in
+    let base = place .before in
+    let ring-size = base .before in
+    let else1 = ring-size .before in
+    let s = else1 .before .before in
+    row-ring (s .args .m) (s .args .st .now) (s .args .f) (s .args .i) (s .args .place) (else1 .if1 .left) refl
+    (ring-size .ring-size .ensures .0) (base .base .ensures) (place .place .ensures .0)
+    (ring-time .ring-time .ensures) (c .ring-word .ensures)
 
 pub row-of-spec : {M : Type 1} → statement M
 row-of-spec =

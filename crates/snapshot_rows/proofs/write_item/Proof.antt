@@ -43,10 +43,33 @@ same-length : tie.Need-same-length Inv-loop μ-loop
 same-length c = let v = c .before .before .before .before .loop .inv .1 in v .len
 
 returns : tie.Need-returns Inv-loop μ-loop
-returns c = let s = c .before .before .before .before .before .before .before .before .before .before in let v = c .before .before .before .before .loop .inv in left-end (v .1) (rows-none (s .args .m) (s .args .st .now) (s .args .f) (s .args .marks .now) (s .args .i) _ (omega arith) (c .before .before .before .loop-test .taken) (c .before .place-in .ensures) (c .if1 .taken))
+returns c =
+    let place-in = c .before in
+    let in-loop = place-in .before .before in
+    let loop = in-loop .before in
+    let s = loop .before .before .before .before .before .before in
+    left-end (loop .loop .inv .1)
+    (rows-none (s .args .m) (s .args .st .now) (s .args .f) (s .args .marks .now) (s .args .i) _ (omega arith)
+    (in-loop .loop-test .taken) (place-in .place-in .ensures) (c .if1 .taken))
 
 row-of-requires : tie.Need-row-of-requires Inv-loop μ-loop
-row-of-requires c κs = let s = c .before .before .before .before .before .before .before .before .before .before in let m = c .before .before .shared-slice-known3 .given (8 * s .args .i + c .before .before .before .before .loop .j) in (s .pre .0, ((s .pre .1 .0 .0, (s .pre .1 .0 .1 .0, c .before .before .before .before .before .checkpoint-at .ensures ∙ rw (c .before .before .before .before .before .before .ring-size .ensures .0))), (s .pre .1 .1 .0, (omega arith, omega (arith, m, c .before .place-in .ensures)))))
+row-of-requires c κs =
+    let place-in = c .before in
+    let read = place-in .before in
+    let loop = read .before .before in
+    let checkpoint-at = loop .before in
+    let ring-size = checkpoint-at .before in
+    let s = ring-size .before .before .before .before in
+    let m = read .shared-slice-known3 .given (8 * s .args .i + loop .loop .j) in (
+      s .pre .0,
+      (
+        (
+          s .pre .1 .0 .0,
+          (s .pre .1 .0 .1 .0, checkpoint-at .checkpoint-at .ensures ∙ rw (ring-size .ring-size .ensures .0)),
+        ),
+        (s .pre .1 .1 .0, (omega arith, omega (arith, m, place-in .place-in .ensures))),
+      ),
+    )
 
 mul-write-row : tie.Need-mul-write-row Inv-loop μ-loop
 mul-write-row c = let v = c .before .before .before .before .before .before .loop .inv .1 in omega (arith, v .fits)
@@ -55,10 +78,20 @@ add-write-row : tie.Need-add-write-row Inv-loop μ-loop
 add-write-row c = let v = c .before .before .before .before .before .before .loop .inv .1 in omega (arith, v .fits)
 
 write-row-requires : tie.Need-write-row-requires Inv-loop μ-loop
-write-row-requires c κs = let s = c .before .before .before .before .before .before .before .before .before .before .before .before in let v = c .before .before .before .before .before .before .loop .inv in left-room (v .1) (rows-more (s .args .m) (s .args .st .now) (s .args .f) (s .args .marks .now) (s .args .i) _ (omega arith) (c .before .before .before .before .before .loop-test .taken) (c .before .before .before .place-in .ensures) (c .before .before .if1 .left)) (s .pre .1 .1 .1 .1)
+write-row-requires c κs =
+    let else1 = c .before .before in
+    let place-in = else1 .before in
+    let in-loop = place-in .before .before in
+    let loop = in-loop .before in
+    let s = loop .before .before .before .before .before .before in
+    left-room (loop .loop .inv .1)
+    (rows-more (s .args .m) (s .args .st .now) (s .args .f) (s .args .marks .now) (s .args .i) _ (omega arith)
+    (in-loop .loop-test .taken) (place-in .place-in .ensures) (else1 .if1 .left)) (s .pre .1 .1 .1 .1)
 
 add-c : tie.Need-add-c Inv-loop μ-loop
-add-c c = let v = c .before .before .before .before .before .before .before .before .before .loop .inv .1 in omega (arith, v .fits)
+add-c c =
+    let v = c .before .before .before .before .before .before .before .before .before .loop .inv .1 in
+    omega (arith, v .fits)
 
 add-j : tie.Need-add-j Inv-loop μ-loop
 add-j c = search needs
@@ -67,13 +100,31 @@ loop-less : tie.Need-loop-less Inv-loop μ-loop
 loop-less c = search needs
 
 loop-again : tie.Need-loop-again Inv-loop μ-loop
-loop-again c = let s = c .before .before .before .before .before .before .before .before .before .before .before .before .before .before .before in let v = c .before .before .before .before .before .before .before .before .before .loop .inv in (omega arith, left-more (v .1) (rows-more (s .args .m) (s .args .st .now) (s .args .f) (s .args .marks .now) (s .args .i) _ (omega arith) (c .before .before .before .before .before .before .before .before .loop-test .taken) (c .before .before .before .before .before .before .place-in .ensures) (c .before .before .before .before .before .if1 .left)) (c .before .before .before .before .row-of .ensures) (c .before .before .write-row .ensures))
+loop-again c =
+    let write-row = c .before .before in
+    let row-of = write-row .before .before in
+    let else1 = row-of .before in
+    let place-in = else1 .before in
+    let in-loop = place-in .before .before in
+    let loop = in-loop .before in
+    let s = loop .before .before .before .before .before .before in (
+      omega arith,
+      left-more (loop .loop .inv .1)
+          (rows-more (s .args .m) (s .args .st .now) (s .args .f) (s .args .marks .now) (s .args .i) _ (omega arith)
+          (in-loop .loop-test .taken) (place-in .place-in .ensures) (else1 .if1 .left))
+          (row-of .row-of .ensures) (write-row .write-row .ensures),
+    )
 
 same-length-2 : tie.Need-same-length-2 Inv-loop μ-loop
 same-length-2 c = let v = c .before .loop .inv .1 in v .len
 
 returns-2 : tie.Need-returns-2 Inv-loop μ-loop
-returns-2 c = let s = c .before .before .before .before .before .before .before in let v = c .before .loop .inv in left-end (v .1) (rows-end (s .args .m) (s .args .st .now) (s .args .f) (s .args .marks .now) (s .args .i) _ (omega arith) (c .loop-test .left))
+returns-2 c =
+    let loop = c .before in
+    let s = loop .before .before .before .before .before .before in
+    left-end (loop .loop .inv .1)
+    (rows-end (s .args .m) (s .args .st .now) (s .args .f) (s .args .marks .now) (s .args .i) _ (omega arith)
+    (c .loop-test .left))
 
 pub write-item-spec : {M : Type 1} → statement M
 write-item-spec =
