@@ -17,12 +17,12 @@ use Rattle.spec.specs.declared.Selection.the-variants.{Items}
 use Rattle.rows.specs.Rows.{sampled, counted, rowsInto}
 use Rattle.rows.specs.declared.Counted.the-variants.{Count, Broken}
 use Rattle.latest.specs.Latest.{extraIn}
-use Rattle.snapshots.specs.Snapshots.{heldBy, heldCount}
+use Rattle.snapshot_rows.specs.Held.{heldBy, heldCount}
 use Rattle.reply.specs.Fitted.{Fitted}
 use Rattle.spec.proofs.Reply.{length-numbers, length-pairs}
 use Rattle.rows.proofs.Laws.{counted-count, counted-few, counted-broken}
 use Rattle.latest.proofs.Laws.{extra-broken, extra-ok, extra-many}
-use Rattle.snapshots.proofs.Places.{held-length}
+use Rattle.snapshot_rows.proofs.Laws.{held-length}
 use Rattle.reply.proofs.Laws.{short, whole}
 
 -- the numbers from f up to e are at most a ring of them

@@ -23,8 +23,9 @@ use Rattle.entries.specs.declared.Filled.the-variants.{Used}
 use Rattle.entries.proofs.Marks.{length-marks, form-zeros, marks-of}
 use Rattle.entries.proofs.Laws.{filled-used}
 use Rattle.entries.proofs.Filling.{rows-many}
-use Rattle.snapshots.specs.Snapshots.{begun, formsOk, rowOf}
-use Rattle.snapshots.proofs.Eights.{eight-same, eight-other}
+use Rattle.snapshot_rows.specs.Held.{rowOf}
+use Rattle.snapshots.specs.Snapshots.{begun, formsOk}
+use Rattle.picks.proofs.Eights.{eight-same, eight-other}
 use Rattle.snapshots.proofs.Held.{noPlace, noMark, rowIn, Holding}
 
 -- ---- a condition item's

@@ -15,8 +15,9 @@ use Rattle.spec.specs.Observations.{ringOk, heldEntries, newestIn, ifUsed, atRo
 use Rattle.spec.proofs.Words.{by-test, and-left, and-right, not-so, every-at, every-of}
 use Rattle.spec.proofs.Bits.{set-bit}
 use Rattle.marks.specs.Marks.{eightAt}
-use Rattle.snapshots.specs.Snapshots.{stepsOf, begun, formsOk, passMarks, passOk}
-use Rattle.snapshots.specs.Snapshots.{seenFrom, settled, markedRows, heldBy}
+use Rattle.snapshot_rows.specs.Held.{markedRows, heldBy}
+use Rattle.picks.specs.Pass.{passMarks, passOk, seenFrom}
+use Rattle.snapshots.specs.Snapshots.{stepsOf, begun, formsOk, settled}
 use Rattle.snapshots.proofs.Held.{holding-rows, Held, held-end, others-end, length-passed, ok-is}
 use Rattle.snapshots.proofs.Begun.{first-holding, length-begun, begun-at, begun-others, zeros-eight}
 use Rattle.snapshots.proofs.Settled.{zeros-low, seen-low, plain-first, plain-end, plain-marked}

@@ -21,9 +21,9 @@ use Rattle.marks.specs.Marks.{markOf, placeIn, keyOf, eightAt, changeFor, chang
 use Rattle.marks.specs.Marked.{Marked, isFull}
 use Rattle.marks.proofs.Steps.{changed-map, change-full, change-steps, marked-change, change-fits}
 use Rattle.marks.proofs.Steps.{marked-length, length-changed, key-small, mark-place, mark-key}
-use Rattle.snapshots.specs.Snapshots.{steppedEight, steppedOk, wordOf, numberStepped, passMarks, passOk}
-use Rattle.snapshots.specs.Snapshots.{rowOf, usedPlaces}
-use Rattle.snapshots.proofs.Eights.{eight-stepped, length-all-stepped}
+use Rattle.snapshot_rows.specs.Held.{rowOf, usedPlaces}
+use Rattle.picks.specs.Pass.{steppedEight, steppedOk, wordOf, numberStepped, passMarks, passOk}
+use Rattle.picks.proofs.Eights.{eight-stepped, length-all-stepped}
 
 -- ---- marks
 

@@ -17,8 +17,10 @@ use Rattle.spec.proofs.Words.{by-test}
 use Rattle.marks.specs.Marks.{markOf, eightAt}
 use Rattle.marks.proofs.Laws.{put-is, eight-length}
 use Rattle.marks.proofs.Steps.{mark-place}
-use Rattle.snapshots.specs.Snapshots.{wordOf, seenFrom, plainPlace, settled, rowOf, usedPlaces}
-use Rattle.snapshots.proofs.Eights.{outside, eight-same}
+use Rattle.snapshot_rows.specs.Held.{rowOf, usedPlaces}
+use Rattle.picks.specs.Pass.{wordOf, seenFrom}
+use Rattle.snapshots.specs.Snapshots.{plainPlace, settled}
+use Rattle.picks.proofs.Eights.{outside, eight-same}
 use Rattle.snapshots.proofs.Held.{ring-row}
 
 -- ---- the newest places

@@ -62,7 +62,7 @@ returns-2 c =
       sym (not-true _ (c .if2 .taken)) ∙ hold-answers (category model) (s .args .selection) (items model)
           (s .args .st .now) (s .args .f) (s .args .e - s .args .f) (omega arith) (it .items .ensures .0)
           (steps-of .steps-of .ensures) (begin .begin .ensures .0) y (s .pre .1 .1 .1) (begin .begin .ensures .1 y)
-          (passed .pass .ensures .0),
+          (passed .pass .ensures .ok),
       λ z. absurd (false≢true z),
     )
 
@@ -82,7 +82,7 @@ settle-requires c κs =
       (
         (m .1, (omega arith, omega arith)),
         seen-marks _ _ (s .args .f) (s .args .e -
-            s .args .f) (s .pre .1 .0) (s .pre .1 .1 .0 .1 .1) refl (passed .pass .ensures .1 z .1),
+            s .args .f) (s .pre .1 .0) (s .pre .1 .1 .0 .1 .1) refl (passed .pass .ensures .behind z .1),
       ),
     )
 
@@ -102,14 +102,14 @@ returns-3 c =
     let model = s .args .model .now in
     let y = not-false _ (else1 .if1 .left) in
     let z = not-false _ (else2 .if2 .left) in
-    let w = passed .pass .ensures .1 z in (
+    let w = passed .pass .ensures .behind z in (
       sym z ∙ hold-answers (category model) (s .args .selection) (items model) (s .args .st .now) (s .args .f)
           (s .args .e - s .args .f) (omega arith) (it .items .ensures .0) (steps-of .steps-of .ensures)
-          (begin .begin .ensures .0) y (s .pre .1 .1 .1) (begin .begin .ensures .1 y) (passed .pass .ensures .0),
+          (begin .begin .ensures .0) y (s .pre .1 .1 .1) (begin .begin .ensures .1 y) (passed .pass .ensures .ok),
       λ _.
           hold-rows (category model) (s .args .selection) (items model) (s .args .st .now) (s .args .f) (s .args .e -
           s .args .f) (omega arith) (it .items .ensures .0) (steps-of .steps-of .ensures) (begin .begin .ensures .0) y
-          (s .pre .1 .1 .1) (begin .begin .ensures .1 y) (passed .pass .ensures .0)
+          (s .pre .1 .1 .1) (begin .begin .ensures .1 y) (passed .pass .ensures .ok)
           z (omega (arith, s .pre .1 .0 .b-pos))
           (w .0) refl (w .1) (settle .settle .ensures),
     )

@@ -43,10 +43,27 @@ loop-less : tie.Need-loop-less Inv-loop μ-loop
 loop-less c = search needs
 
 loop-again : tie.Need-loop-again Inv-loop μ-loop
-loop-again c = let a = c .before .before .has .ensures in let s = c .before .before .before .before .before .before .before in let i = c .before .before .before .before .loop .i in let t : c .before .if1 .steps ≡ (bit (s .args .selection) i && isCondition (category (s .args .model .now)) i) = ⊎-elim (λ w. let b = told a (w .0 .taken) in w .2 ∙ rw (b, w .1 .ensures)) (λ w. let b = told a (w .0 .left) in w .1 ∙ (w .0 .left ∙ rw b)) (c .before .if1 .came) in (omega arith, set-more _ _ _ _ _ (c .before .before .before .before .loop .inv .1) t (c .with-if .ensures))
+loop-again c =
+    let both = c .before in
+    let has = both .before in
+    let loop = has .before .before in
+    let s = loop .before .before .before in
+    let a = has .has .ensures in
+    let i = loop .loop .i in
+    let t : both .if1 .steps ≡ (bit (s .args .selection) i && isCondition (category (s .args .model .now)) i) =
+    ⊎-elim
+    (λ w. let b = told a (w .0 .taken) in w .2 ∙ rw (b, w .1 .ensures))
+    (λ w. let b = told a (w .0 .left) in w .1 ∙ (w .0 .left ∙ rw b))
+    (both .if1 .came) in
+    (omega arith, set-more _ _ _ _ _ (loop .loop .inv .1) t (c .with-if .ensures))
 
 returns : tie.Need-returns Inv-loop μ-loop
-returns c = let v = c .before .loop .inv in let e : c .before .loop .i ≡ items (c .before .before .before .before .args .model .now) = omega arith in v .1 ∙ ap (stepsOf (category (c .before .before .before .before .args .model .now)) (c .before .before .before .before .args .selection)) e
+returns c =
+    let loop = c .before in
+    let s = loop .before .before .before in
+    let v = loop .loop .inv in
+    let e : loop .loop .i ≡ items (s .args .model .now) = omega arith in
+    v .1 ∙ ap (stepsOf (category (s .args .model .now)) (s .args .selection)) e
 
 pub steps-of-spec : {M : Type 1} → statement M
 steps-of-spec =
