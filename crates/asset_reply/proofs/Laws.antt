@@ -13,7 +13,7 @@ use Rattle.spec.specs.Bytes.{before, split}
 use Rattle.spec.specs.Text.{idText, idTexts, longestText}
 use Rattle.spec.specs.Assets.{maxAssets, capacity, used, lengthAt, lengthOk, find}
 use Rattle.spec.specs.Reply.{Replied, refuse, numbers, lengths, written, assetWords, assetReply}
-use Rattle.spec.specs.Calls.{cellRows, allCells, cellsReply, findAll, namedReply, downFrom}
+use Rattle.history.specs.Calls.{cellRows, allCells, cellsReply, findAll, namedReply, downFrom}
 use Rattle.spec.specs.declared.Refusal.the-variants.{Store, Space, AssetNotFound}
 use Rattle.spec.specs.declared.Answer.the-variants.{Done, Refused}
 use Rattle.spec.proofs.Words.{and-left, and-right}

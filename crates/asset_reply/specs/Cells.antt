@@ -6,7 +6,7 @@ use mathlib.Core.List.{List}
 use lib.Dec.{ltb}
 use lib.ListN.{length, getD, take}
 use Rattle.spec.specs.Assets.{maxAssets, used}
-use Rattle.spec.specs.Calls.{allCells, findAll}
+use Rattle.history.specs.Calls.{allCells, findAll}
 use Rattle.asset_reply.specs.declared.Found.{Found}
 use Rattle.asset_reply.specs.declared.Found.the-variants as found
 

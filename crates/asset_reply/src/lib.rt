@@ -8,7 +8,7 @@ ghost use Rattle.spec.specs.Bytes.{split};
 ghost use Rattle.spec.specs.Text.{idTexts, longestText};
 ghost use Rattle.spec.specs.Assets.{AssetHead, maxAssets, used, lengthAt, lengthOk};
 ghost use Rattle.spec.specs.Reply.{numbers, lengths};
-ghost use Rattle.spec.specs.Calls.{cellRows, allCells, cellsReply, namedReply, downFrom};
+ghost use Rattle.history.specs.Calls.{cellRows, allCells, cellsReply, namedReply, downFrom};
 ghost use Rattle.asset_reply.specs.Cells.{Cells, FoundAll};
 use spec::ASSET_SLOTS;
 use spec::Answer;

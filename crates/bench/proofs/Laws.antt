@@ -5,9 +5,9 @@ use mathlib.Core.Path.{_≡_}
 use mathlib.Core.List.{List}
 use lib.IntN.{pos, negsuc}
 use lib.ListN.{length, replicate}
-use Rattle.spec.specs.Calls
-use Rattle.spec.specs.Bench.{benchModel, benchNames, benchWords, benchBytes, benchStores, benchRequest}
-use Rattle.spec.specs.History.{storesAfter}
+use Rattle.history.specs.Calls
+use Rattle.cases.specs.Bench.{benchModel, benchNames, benchWords, benchBytes, benchStores, benchRequest}
+use Rattle.history.specs.History.{storesAfter}
 use Rattle.spec.specs.declared.Answer.{Answer}
 use Rattle.spec.specs.declared.Value.the-variants.{Sample}
 use Rattle.bench.specs.Print.{replyLength}

@@ -12,13 +12,13 @@ use Rattle.spec.specs.Text.{Request, Reading, readText}
 use Rattle.spec.specs.Text.Request.{sample, current, currentAt, assets, allAssets}
 use Rattle.spec.specs.Text.Reading.{unread, asked}
 use Rattle.spec.specs.Path.{select}
-use Rattle.spec.specs.Observations.{ringSize, base, last, headOk, ringOk, sampleRows, currentOk, currentRows, atOk, atRows}
+use Rattle.history.specs.Observations.{ringSize, base, last, headOk, ringOk, sampleRows, currentOk, currentRows, atOk, atRows}
 use Rattle.spec.specs.Assets.{capacity, used, assetHeadOk, lengthAt, lengthOk}
 use Rattle.spec.specs.Reply.{Replied, refuse, numbers, pairs, lengths, observationWords, assetWords, written}
 use Rattle.spec.specs.Reply.{observationReply, assetReply}
-use Rattle.spec.specs.Calls.{unless, inRange, first, startOf, defaultCount, countOr, endOf, sampleBetween, sampleReply}
-use Rattle.spec.specs.Calls.{currentReply, currentUpTo, atReply, cellRows, allCells, cellsReply, findAll}
-use Rattle.spec.specs.Calls.{namedReply, answerRequest, answerReading, request}
+use Rattle.history.specs.Calls.{unless, inRange, first, startOf, defaultCount, countOr, endOf, sampleBetween, sampleReply}
+use Rattle.history.specs.Calls.{currentReply, currentUpTo, atReply, cellRows, allCells, cellsReply, findAll}
+use Rattle.history.specs.Calls.{namedReply, answerRequest, answerReading, request}
 use Rattle.spec.specs.declared.Refusal.{Refusal}
 use Rattle.spec.specs.declared.Refusal.the-variants.{Model, Store, TooMany, AssetNotFound}
 use Rattle.spec.specs.declared.Verdict.{Verdict}

@@ -2,7 +2,7 @@
 ghost use mathlib.Core.Path.{_≡_};
 ghost use Prim.Native.Nat.{_≤_};
 ghost use lib.ListN.{replicate};
-ghost use Rattle.spec.specs.Bench.{benchModel, benchNames, benchWords, benchBytes, benchStores, benchRequest};
+ghost use Rattle.cases.specs.Bench.{benchModel, benchNames, benchWords, benchBytes, benchStores, benchRequest};
 ghost use Rattle.bench.specs.Print.{wordsOf, replyLength};
 use spec::Answer;
 use spec::Value;

@@ -14,12 +14,12 @@ use Rattle.spec.specs.Words.{every, bit, row}
 use Rattle.spec.specs.Blocks.{tableRows, flatRows, extraRows}
 use Rattle.spec.specs.Entries.{usedRows, formOk}
 use Rattle.spec.specs.Model.{maxItems}
-use Rattle.spec.specs.Observations.{Head, ringSize, latestAt, isCondition, itemRows, latestRows}
-use Rattle.spec.specs.Observations.{currentOk, currentRows}
+use Rattle.history.specs.Observations.{Head, ringSize, latestAt, isCondition, itemRows, latestRows}
+use Rattle.history.specs.Observations.{currentOk, currentRows}
 use Rattle.spec.specs.Reply.{numbers, pairs}
 use Rattle.spec.proofs.Words.{by-test, and-left, and-right, by-cond, every-at, every-no, every-yes, every-end}
 use Rattle.spec.proofs.Bits.{rows-ones}
-use Rattle.spec.proofs.Pass.{current-count}
+use Rattle.history.proofs.Pass.{current-count}
 use Rattle.entries.proofs.Filling.{rows-many}
 use Rattle.entries.proofs.Marks.{used-max}
 use Rattle.entries.specs.Forms.{Table, filled}

@@ -4,7 +4,7 @@ use mathlib.Core.Bool.{cond}
 use mathlib.Core.List.{List, [], _∷_}
 use Rattle.spec.specs.Words.{bit}
 use Rattle.spec.specs.Blocks.{flatRows, extraRows}
-use Rattle.spec.specs.Observations.{ringSize, latestAt, itemRow, latestRows, currentOk}
+use Rattle.history.specs.Observations.{ringSize, latestAt, itemRow, latestRows, currentOk}
 use Rattle.rows.specs.declared.Counted.{Counted}
 use Rattle.rows.specs.declared.Counted.the-variants.{Count, Broken}
 

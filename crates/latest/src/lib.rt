@@ -6,7 +6,7 @@ ghost use lib.ListN.{length};
 ghost use Rattle.spec.specs.Blocks.{tableRows};
 ghost use Rattle.spec.specs.Entries.{usedRows};
 ghost use Rattle.spec.specs.Model.{Sizes, maxItems, items, category};
-ghost use Rattle.spec.specs.Observations.{Head, ringSize, currentRows, currentOk};
+ghost use Rattle.history.specs.Observations.{Head, ringSize, currentRows, currentOk};
 ghost use Rattle.entries.specs.Forms.{Table};
 ghost use Rattle.rows.specs.Rows.{rowsAt, rowsInto};
 ghost use Rattle.latest.specs.Latest.{extraIn, firstRows};

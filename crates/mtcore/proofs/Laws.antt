@@ -4,7 +4,7 @@ use mathlib.Core.Path.{_≡_, refl, sym, ap, _∙_}
 use mathlib.Core.List.{List}
 use lib.ListN.{take, drop}
 use Rattle.spec.specs.Assets.{bodyPlace, part}
-use Rattle.spec.specs.Calls as calls
+use Rattle.history.specs.Calls as calls
 use Rattle.spec.specs.declared.Place.{Place}
 use Rattle.spec.specs.declared.Place.the-variants.{At, Nothing}
 use Rattle.agent.specs.Place.{placeStart, placeLength}

@@ -5,7 +5,7 @@ ghost use lib.ListN.{take, drop};
 ghost use Rattle.spec.specs.Answers.{answerNumber, answerCount, observeWord, storeWord};
 ghost use Rattle.spec.specs.Value.{decode};
 ghost use Rattle.spec.specs.Assets.{bodyPlace};
-ghost use Rattle.spec.specs.Calls as calls;
+ghost use Rattle.history.specs.Calls as calls;
 ghost use Rattle.agent.specs.Place.{placeStart, placeLength};
 use spec::Answer;
 use spec::Place;

@@ -8,9 +8,9 @@ use native.Mathlib.Numerals.{add-one}
 use native.Mathlib.Omega.{arith}
 use lib.Count.{ones}
 use lib.ListN.{length, take, drop}
-use Rattle.spec.specs.Observations.{Head, maxRing, ringSize, base, last, ringOk, currentRows, atOk, atRows}
+use Rattle.history.specs.Observations.{Head, maxRing, ringSize, base, last, ringOk, currentRows, atOk, atRows}
 use Rattle.spec.specs.Reply.{refuse, numbers, pairs, observationWords, observationReply}
-use Rattle.spec.specs.Calls.{first, sampleBetween, currentReply, currentUpTo}
+use Rattle.history.specs.Calls.{first, sampleBetween, currentReply, currentUpTo}
 use Rattle.spec.specs.declared.Refusal.the-variants.{Store, Space}
 use Rattle.spec.specs.declared.Answer.the-variants.{Done, Refused}
 use Rattle.spec.specs.declared.Selection.the-variants.{Items}

@@ -7,9 +7,9 @@ use native.Mathlib.Omega.{arith}
 use lib.Dec.{eqb}
 use lib.ListN.{length, set, replicate}
 use borrow.Author.Tests.{le-leb, eq-eqb}
-use Rattle.spec.specs.Observations.{maxRing, maxNumber, ringSize, itemCount, base, last, storeWords, headOk, Head, blank}
+use Rattle.history.specs.Observations.{maxRing, maxNumber, ringSize, itemCount, base, last, storeWords, headOk, Head, blank}
 use Rattle.spec.proofs.Words.{not-so}
-use Rattle.spec.proofs.Observations.{head}
+use Rattle.history.proofs.Observations.{head}
 
 -- a test that rules a right head out
 pub no-head : (st : List ℕ) (m : ℕ) → (Head m st → ⊥) → false ≡ headOk m st

@@ -3,7 +3,7 @@ use Prim.Native.Nat.{ℕ}
 use mathlib.Core.List.{List}
 use lib.ListN.{getD}
 use Rattle.spec.specs.Words.{row}
-use Rattle.spec.specs.Observations.{ringAt}
+use Rattle.history.specs.Observations.{ringAt}
 
 abbrev pub ringTime : List ℕ → ℕ → ℕ → ℕ
 ringTime st N p = getD (row st ringAt N p 2) 0 0

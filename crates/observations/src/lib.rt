@@ -5,10 +5,10 @@ ghost use Prim.Native.Nat.{_+_, _*_, _≤_, _<_};
 ghost use lib.ListN.{length, getD, set, replicate};
 ghost use Rattle.spec.specs.Words.{row, put};
 ghost use Rattle.spec.specs.Model.{maxItems};
-ghost use Rattle.spec.specs.Observations.{maxRing, maxNumber, ringSize, base, last, lastAt, ringAt};
-ghost use Rattle.spec.specs.Observations.{latestAt, checkpointAt, itemRow, storeWords, place};
-ghost use Rattle.spec.specs.Observations.{headOk, Head, blank};
-ghost use Rattle.spec.specs.Calls.{first};
+ghost use Rattle.history.specs.Observations.{maxRing, maxNumber, ringSize, base, last, lastAt, ringAt};
+ghost use Rattle.history.specs.Observations.{latestAt, checkpointAt, itemRow, storeWords, place};
+ghost use Rattle.history.specs.Observations.{headOk, Head, blank};
+ghost use Rattle.history.specs.Calls.{first};
 ghost use Rattle.observations.specs.Ring.{ringTime, ringWord};
 
 // The places of the head's words, and how many there are: the ring begins behind them.

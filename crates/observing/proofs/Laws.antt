@@ -11,8 +11,8 @@ use borrow.Author.Tests.{lt-ltb, le-ltb, eq-eqb, ne-eqb}
 use Rattle.spec.specs.Model.{items, category, discrete}
 use Rattle.spec.specs.Value.{takes, repeats, pack, decode}
 use Rattle.spec.specs.Blocks.{tableRows}
-use Rattle.spec.specs.Observations.{ringSize, latestAt, itemRow, latestOk, repeatsAt, crowdedAt}
-use Rattle.spec.specs.Calls.{Observed, roomFor, notObserved, observeBy, observeItem}
+use Rattle.history.specs.Observations.{ringSize, latestAt, itemRow, latestOk, repeatsAt, crowdedAt}
+use Rattle.history.specs.Calls.{Observed, roomFor, notObserved, observeBy, observeItem}
 use Rattle.spec.specs.declared.Value.{Value}
 use Rattle.spec.specs.declared.Refusal.the-variants.{Item, Kind}
 use Rattle.spec.specs.declared.ObserveAnswer.{ObserveAnswer}

@@ -11,7 +11,7 @@ use borrow.Author.Tests.{lt-ltb, ltb-true, ltb-false}
 use Rattle.spec.specs.Words.{bit}
 use Rattle.spec.specs.Value.{itemOf}
 use Rattle.spec.specs.Model.{maxItems}
-use Rattle.spec.specs.Observations.{ringSize, base, place}
+use Rattle.history.specs.Observations.{ringSize, base, place}
 use Rattle.spec.proofs.Words.{by-test}
 use Rattle.observations.specs.Ring.{ringWord}
 use Rattle.rows.specs.Rows.{Run}

@@ -4,7 +4,7 @@ ghost use mathlib.Core.Path.{_≡_};
 ghost use Prim.Native.Nat.{_-_, _*_, _<_, _≤_};
 ghost use lib.ListN.{length};
 ghost use Rattle.spec.specs.Model.{maxItems};
-ghost use Rattle.spec.specs.Observations.{Head, ringSize, base};
+ghost use Rattle.history.specs.Observations.{Head, ringSize, base};
 ghost use Rattle.picks.specs.Pass.{Part, Passed};
 ghost use Rattle.picks.specs.Picks.{block, Room};
 ghost use Rattle.passes.specs.Passes.{Skipped};

@@ -12,7 +12,7 @@ use borrow.Author.Tests.{lt-ltb, le-ltb, ltb-true, ne-eqb}
 use Rattle.spec.specs.Words.{bit, every}
 use Rattle.spec.specs.Value.{itemOf}
 use Rattle.spec.specs.Model.{maxItems}
-use Rattle.spec.specs.Observations.{ringSize, base, place, ringOk}
+use Rattle.history.specs.Observations.{ringSize, base, place, ringOk}
 use Rattle.spec.proofs.Words.{by-test, and-left, and-right, every-at}
 use Rattle.observations.specs.Ring.{ringWord}
 use Rattle.rows.specs.Rows.{itemsOk, Run}

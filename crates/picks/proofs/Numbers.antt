@@ -6,7 +6,7 @@ use native.Mathlib.Numerals.{add-one}
 use native.Mathlib.Omega.{arith}
 use lib.ListN.{set}
 use Rattle.spec.specs.Value.{itemOf}
-use Rattle.spec.specs.Observations.{ringSize, base, place}
+use Rattle.history.specs.Observations.{ringSize, base, place}
 use Rattle.rows.specs.Rows.{Run}
 use Rattle.rows.proofs.Ranges.{run-next}
 use Rattle.rows.proofs.Laws.{wordAt}

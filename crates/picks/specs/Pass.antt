@@ -8,7 +8,7 @@ use lib.ListN.{getD, set}
 use lib.Seq.{sets}
 use Rattle.spec.specs.Words.{bit}
 use Rattle.spec.specs.Value.{itemOf}
-use Rattle.spec.specs.Observations.{ringSize, base, entry}
+use Rattle.history.specs.Observations.{ringSize, base, entry}
 use Rattle.marks.specs.Marks.{markOf, keyOf, eightAt, changeFor, changed}
 use Rattle.marks.specs.Marked.{isFull}
 use Rattle.rows.specs.Rows.{Run}

@@ -8,7 +8,7 @@ use lib.ListN.{length}
 use Rattle.spec.specs.Words.{bit}
 use Rattle.spec.specs.Value.{itemOf}
 use Rattle.spec.specs.Model.{maxItems}
-use Rattle.spec.specs.Observations.{ringSize, base, place}
+use Rattle.history.specs.Observations.{ringSize, base, place}
 use Rattle.picks.specs.Pass.{steppedAt, fits, wordOf, seenFrom}
 
 -- as many as are looked through at a time: a pick is below it, and it is none itself

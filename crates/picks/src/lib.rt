@@ -5,7 +5,7 @@ ghost use mathlib.Core.Bool.{true};
 ghost use Prim.Native.Nat.{suc, _-_, _*_, _^_, _<_, _≤_};
 ghost use lib.ListN.{length};
 ghost use Rattle.spec.specs.Model.{maxItems};
-ghost use Rattle.spec.specs.Observations.{Head};
+ghost use Rattle.history.specs.Observations.{Head};
 ghost use Rattle.rows.specs.Rows.{itemsOk};
 ghost use Rattle.picks.specs.Pass.{steppedAt, fits, Part, Passed};
 ghost use Rattle.picks.specs.Picks.{block, Room, listed, Gathered, Pick, Each, pickMarks, pickOk};

@@ -15,10 +15,10 @@ use Rattle.spec.specs.Words.{row, put}
 use Rattle.spec.specs.Value.{itemOf}
 use Rattle.spec.specs.Blocks.{tableRows, putRows, padded}
 use Rattle.spec.specs.Entries.{anyEntry, step, usedRows}
-use Rattle.spec.specs.Observations.{maxNumber, ringSize, base, last, lastAt, ringAt, latestAt, checkpointAt, place}
-use Rattle.spec.specs.Observations.{Head, itemAt, itemRows, isCondition, stepped, setNewest, overwritten, evict}
-use Rattle.spec.specs.Observations.{evictOk, add}
-use Rattle.spec.specs.Calls.{roomFor, added}
+use Rattle.history.specs.Observations.{maxNumber, ringSize, base, last, lastAt, ringAt, latestAt, checkpointAt, place}
+use Rattle.history.specs.Observations.{Head, itemAt, itemRows, isCondition, stepped, setNewest, overwritten, evict}
+use Rattle.history.specs.Observations.{evictOk, add}
+use Rattle.history.specs.Calls.{roomFor, added}
 use Rattle.spec.specs.declared.Verdict.the-variants.{Fine}
 use Rattle.spec.proofs.Words.{by-cond}
 use Rattle.spec.proofs.Tables.{row-put-apart}

@@ -8,8 +8,8 @@ use lib.ListN.{length, set}
 use Rattle.spec.specs.Words.{put}
 use Rattle.spec.specs.Value.{itemOf}
 use Rattle.spec.specs.Entries.{formOk}
-use Rattle.spec.specs.Observations.{maxRing, lastAt, ringAt, latestAt, checkpointAt, storeWords, itemRows, isCondition}
-use Rattle.spec.specs.Observations.{stepped}
+use Rattle.history.specs.Observations.{maxRing, lastAt, ringAt, latestAt, checkpointAt, storeWords, itemRows, isCondition}
+use Rattle.history.specs.Observations.{stepped}
 
 -- number s has a place in the ring of a store of these sizes
 pub record InRing (n m b s : ℕ) (st : List ℕ) : Type 0 where

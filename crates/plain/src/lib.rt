@@ -4,8 +4,8 @@ ghost use mathlib.Core.Bool.{true, false};
 ghost use Prim.Native.Nat.{_≤_, _<_};
 ghost use lib.ListN.{length};
 ghost use Rattle.spec.specs.Model.{Sizes, maxItems, items, category};
-ghost use Rattle.spec.specs.Observations.{maxRing, Head, storeWords, isCondition, evict, evictOk};
-ghost use Rattle.spec.specs.Calls.{roomFor, added};
+ghost use Rattle.history.specs.Observations.{maxRing, Head, storeWords, isCondition, evict, evictOk};
+ghost use Rattle.history.specs.Calls.{roomFor, added};
 ghost use Rattle.spec.specs.declared.Verdict.the-variants.{Fine};
 ghost use Rattle.plain.specs.Short.{InRing, Tried, putNumber};
 

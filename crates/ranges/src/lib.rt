@@ -1,8 +1,8 @@
 // Sequence numbers that a request names: a sample's start and end, and whether a number is late or early.
 ghost use mathlib.Core.Path.{_≡_};
 ghost use Prim.Native.Nat.{suc, _≤_};
-ghost use Rattle.spec.specs.Observations.{maxNumber};
-ghost use Rattle.spec.specs.Calls as calls;
+ghost use Rattle.history.specs.Observations.{maxNumber};
+ghost use Rattle.history.specs.Calls as calls;
 use spec::Refusal;
 use spec::Verdict;
 

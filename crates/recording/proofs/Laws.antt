@@ -15,18 +15,18 @@ use Rattle.spec.specs.Model.{maxItems}
 use Rattle.spec.specs.Value.{itemOf}
 use Rattle.spec.specs.Blocks.{tableRows, putRows, padded}
 use Rattle.spec.specs.Entries.{step, usedRows, formOk}
-use Rattle.spec.specs.Observations.{maxNumber, ringSize, base, last, ringAt, latestAt, checkpointAt, place, Head}
-use Rattle.spec.specs.Observations.{itemAt, itemRows, isCondition, setNewest, overwrites, overwritten, evict, evictOk}
-use Rattle.spec.specs.Observations.{latestOk}
-use Rattle.spec.specs.Calls.{roomFor}
+use Rattle.history.specs.Observations.{maxNumber, ringSize, base, last, ringAt, latestAt, checkpointAt, place, Head}
+use Rattle.history.specs.Observations.{itemAt, itemRows, isCondition, setNewest, overwrites, overwritten, evict, evictOk}
+use Rattle.history.specs.Observations.{latestOk}
+use Rattle.history.specs.Calls.{roomFor}
 use Rattle.spec.specs.declared.Refusal.the-variants.{Spent, Store}
 use Rattle.spec.specs.declared.Verdict.the-variants.{Fine, Refused}
 use Rattle.spec.proofs.Words.{and-left, and-right, by-cond}
 use Rattle.spec.proofs.Tables.{length-put}
 use Rattle.spec.proofs.Blocks.{table-rows-apart}
 use Rattle.spec.proofs.Steps.{form-less}
-use Rattle.spec.proofs.Added.{rowsFor, rows-for-three, rows-for-few, length-evict, evict-item}
-use Rattle.spec.proofs.Heads.{room-for}
+use Rattle.history.proofs.Added.{rowsFor, rows-for-three, rows-for-few, length-evict, evict-item}
+use Rattle.history.proofs.Heads.{room-for}
 use Rattle.observations.specs.Ring.{ringWord}
 use Rattle.entries.specs.Forms.{Table, takesOne}
 use Rattle.plain.specs.Short.{overwritable}

@@ -5,7 +5,7 @@ use mathlib.Core.Bool.{true}
 use mathlib.Core.List.{List}
 use lib.ListN.{length}
 use Rattle.spec.specs.Entries.{formOk}
-use Rattle.spec.specs.Observations.{itemRows, isCondition, evictOk}
+use Rattle.history.specs.Observations.{itemRows, isCondition, evictOk}
 use Rattle.plain.specs.Short.{InRing}
 
 -- a number may be added: what it overwrites, if anything, has an item below m whose checkpoint takes it

@@ -4,7 +4,7 @@ ghost use mathlib.Core.List.{[], _∷_};
 ghost use Prim.Native.Nat.{_*_, _≤_};
 ghost use lib.ListN.{length};
 ghost use lib.Seq.{sets};
-ghost use Rattle.spec.specs.Observations.{maxRing};
+ghost use Rattle.history.specs.Observations.{maxRing};
 ghost use Rattle.reply.specs.Fitted.{Fitted};
 
 // The four sizes at the front of a reply.

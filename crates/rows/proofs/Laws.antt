@@ -9,7 +9,7 @@ use lib.ListN.{length, set, length-append}
 use borrow.Author.Tests.{lt-ltb, le-ltb, ltb-true}
 use Rattle.spec.specs.Words.{bit, row}
 use Rattle.spec.specs.Value.{itemOf}
-use Rattle.spec.specs.Observations.{ringSize, base, place, itemAt, numbered, ringOk, sampleRows}
+use Rattle.history.specs.Observations.{ringSize, base, place, itemAt, numbered, ringOk, sampleRows}
 use Rattle.spec.proofs.Words.{and-left, and-right, every-step, every-end}
 use Rattle.selection.proofs.Laws.{bit-yes, bit-no}
 use Rattle.observations.specs.Ring.{ringTime, ringWord}

@@ -8,7 +8,7 @@ use native.Mathlib.Numerals.{add-one}
 use native.Mathlib.Omega.{arith}
 use lib.ListN.{length}
 use Rattle.spec.specs.Words.{every, pickRows}
-use Rattle.spec.specs.Observations.{place}
+use Rattle.history.specs.Observations.{place}
 use Rattle.rows.specs.Rows.{Run, TwoRuns}
 
 and-assoc : (a b c : Bool) → a && (b && c) ≡ (a && b) && c

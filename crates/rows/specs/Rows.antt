@@ -5,7 +5,7 @@ use mathlib.Core.Bool.{Bool, cond}
 use mathlib.Core.List.{List}
 use lib.ListN.{length}
 use lib.Seq.{sets}
-use Rattle.spec.specs.Observations.{ringSize, base, ringOk, sampleRows}
+use Rattle.history.specs.Observations.{ringSize, base, ringOk, sampleRows}
 use Rattle.spec.specs.Reply.{numbers, pairs}
 use Rattle.rows.specs.declared.Counted.{Counted}
 use Rattle.rows.specs.declared.Counted.the-variants.{Count, Broken}

@@ -5,7 +5,7 @@ ghost use mathlib.Core.Bool.{true};
 ghost use Prim.Native.Nat.{_+_, _-_, _*_, _<_, _≤_};
 ghost use lib.ListN.{length, set};
 ghost use Rattle.spec.specs.Model.{maxItems};
-ghost use Rattle.spec.specs.Observations.{Head, ringSize, base};
+ghost use Rattle.history.specs.Observations.{Head, ringSize, base};
 ghost use Rattle.rows.specs.Rows.{itemsOk, sampled, counted, rowsAt, rowsInto, Run, TwoRuns};
 
 // How many rows there are, or that a ring value read has no item of the model.

@@ -11,7 +11,7 @@ use lib.Seq.{drop-cons}
 use borrow.Author.Tests.{lt-ltb, le-ltb, ne-eqb}
 use Rattle.spec.specs.Words.{bit, row}
 use Rattle.spec.specs.Blocks.{flatRows}
-use Rattle.spec.specs.Observations.{ringSize, base, place, checkpointAt}
+use Rattle.history.specs.Observations.{ringSize, base, place, checkpointAt}
 use Rattle.spec.proofs.Words.{by-test}
 use Rattle.observations.specs.Ring.{ringTime, ringWord}
 use Rattle.marks.specs.Marks.{placeIn, eightAt}

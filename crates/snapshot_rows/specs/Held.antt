@@ -6,7 +6,7 @@ use lib.Dec.{ltb, eqb}
 use lib.ListN.{length}
 use Rattle.spec.specs.Words.{bit, row}
 use Rattle.spec.specs.Blocks.{flatRows}
-use Rattle.spec.specs.Observations.{ringSize, base, numbered, checkpointAt}
+use Rattle.history.specs.Observations.{ringSize, base, numbered, checkpointAt}
 use Rattle.marks.specs.Marks.{placeIn, eightAt}
 
 -- item i's entry at a place: of its checkpoint up to 8, of the ring behind them

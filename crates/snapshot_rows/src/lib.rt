@@ -5,7 +5,7 @@ ghost use mathlib.Core.List.{[], _∷_};
 ghost use Prim.Native.Nat.{suc, _+_, _*_, _^_, _<_, _≤_};
 ghost use lib.ListN.{length};
 ghost use Rattle.spec.specs.Model.{maxItems};
-ghost use Rattle.spec.specs.Observations.{Head, ringSize, base, last, checkpointAt};
+ghost use Rattle.history.specs.Observations.{Head, ringSize, base, last, checkpointAt};
 ghost use Rattle.rows.specs.Rows.{rowsAt, rowsInto};
 ghost use Rattle.snapshot_rows.specs.Held.{rowOf, itemPlaces, markedRows, heldBy, heldCount};
 use observations::Row;

@@ -13,7 +13,7 @@ use Rattle.spec.specs.Words.{bit, every, row}
 use Rattle.spec.specs.Model.{maxItems}
 use Rattle.spec.specs.Blocks.{tableRows, padded, unused}
 use Rattle.spec.specs.Entries.{eachRow, zeroRow, usedRows, formOk, packed}
-use Rattle.spec.specs.Observations.{ringSize, checkpointAt, itemRows}
+use Rattle.history.specs.Observations.{ringSize, checkpointAt, itemRows}
 use Rattle.spec.proofs.Words.{by-test, and-left, and-right, every-no, every-yes, every-end}
 use Rattle.spec.proofs.Steps.{used-formed}
 use Rattle.marks.specs.Marks.{markOf, keyOf, eightAt}

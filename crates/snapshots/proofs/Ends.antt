@@ -10,8 +10,8 @@ use Rattle.spec.specs.Words.{bit, every}
 use Rattle.spec.specs.Model.{maxItems}
 use Rattle.spec.specs.Blocks.{flatRows}
 use Rattle.spec.specs.Entries.{usedRows, formOk}
-use Rattle.spec.specs.Observations.{Head, maxRing, ringSize, base, checkpointAt, itemRows, itemRow, isCondition}
-use Rattle.spec.specs.Observations.{ringOk, heldEntries, newestIn, ifUsed, atRows, atOk}
+use Rattle.history.specs.Observations.{Head, maxRing, ringSize, base, checkpointAt, itemRows, itemRow, isCondition}
+use Rattle.history.specs.Observations.{ringOk, heldEntries, newestIn, ifUsed, atRows, atOk}
 use Rattle.spec.proofs.Words.{by-test, and-left, and-right, not-so, every-at, every-of}
 use Rattle.spec.proofs.Bits.{set-bit}
 use Rattle.marks.specs.Marks.{eightAt}

@@ -13,10 +13,10 @@ use Rattle.spec.specs.Value.{itemOf}
 use Rattle.spec.specs.Model.{maxItems}
 use Rattle.spec.specs.Blocks.{padded, unused}
 use Rattle.spec.specs.Entries.{step}
-use Rattle.spec.specs.Observations.{ringSize, base, itemAt, numbered, ringOk, entriesIn}
+use Rattle.history.specs.Observations.{ringSize, base, itemAt, numbered, ringOk, entriesIn}
 use Rattle.spec.proofs.Words.{by-test, not-so, every-at, every-of, and-left, and-right}
 use Rattle.spec.proofs.Steps.{Formed, step-formed}
-use Rattle.spec.proofs.Pass.{nine-ends}
+use Rattle.history.proofs.Pass.{nine-ends}
 use Rattle.marks.specs.Marks.{markOf, placeIn, keyOf, eightAt, changeFor, changed}
 use Rattle.marks.specs.Marked.{Marked, isFull}
 use Rattle.marks.proofs.Steps.{changed-map, change-full, change-steps, marked-change, change-fits}

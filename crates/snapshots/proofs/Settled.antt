@@ -12,7 +12,7 @@ use lib.Seq.{getD-set-same, getD-set-other, set-out}
 use borrow.Author.Tests.{ne-eqb, eqb-true, eqb-false, ltb-true, ltb-false}
 use Rattle.spec.specs.Words.{bit, row}
 use Rattle.spec.specs.Value.{itemOf}
-use Rattle.spec.specs.Observations.{ringSize, base, itemAt, numbered, checkpointAt, itemRow, newestIn, ifUsed}
+use Rattle.history.specs.Observations.{ringSize, base, itemAt, numbered, checkpointAt, itemRow, newestIn, ifUsed}
 use Rattle.spec.proofs.Words.{by-test}
 use Rattle.marks.specs.Marks.{markOf, eightAt}
 use Rattle.marks.proofs.Laws.{put-is, eight-length}

@@ -7,7 +7,7 @@ use lib.ListN.{getD, set}
 use lib.Seq.{sets}
 use Rattle.spec.specs.Words.{bit, setOf, every}
 use Rattle.spec.specs.Entries.{formOk}
-use Rattle.spec.specs.Observations.{ringSize, checkpointAt, itemRows, itemRow, isCondition}
+use Rattle.history.specs.Observations.{ringSize, checkpointAt, itemRows, itemRow, isCondition}
 use Rattle.marks.specs.Marks.{markOf}
 use Rattle.entries.specs.Forms.{marksOf}
 

@@ -1,11 +1,10 @@
 -- Which bytes pass in a request text: document 02, Req 03.
 use Prim.Native.Nat.{ℕ}
-use mathlib.Core.Path.{_≡_, ap, _∙_, sym}
-use mathlib.Core.Bool.{Bool, true, _&&_, and-true}
+use mathlib.Core.Path.{_≡_, _∙_, sym}
+use mathlib.Core.Bool.{true, _&&_, and-true}
 use mathlib.Core.List.{List, _∷_, _++_}
-use native.Mathlib.Omega.{arith}
 use lib.Dec.{leb, eqb}
-use lib.ListN.{length, getD, length-append}
+use lib.ListN.{length, length-append}
 use Rattle.spec.specs.Bytes.{textByte, all}
 use Rattle.spec.specs.Text.{uriOk, longestText}
 use Rattle.spec.proofs.Words.{and-left, and-right}

@@ -1,6 +1,7 @@
--- Worked examples, by computation, of what stores and reference model share: packed words, which values an item
--- takes, models and names, paths, texts and their refusals, replies of assets; and one client's two windows, so that
--- the history theorem's second field speaks of something. Bounds, Orders and Damaged have the rest.
+-- Worked examples, by computation, of the terms that stores and reference model share or that a table of entries is
+-- made of: packed words, which values an item takes, Same, models and names, paths, texts and their refusals, a
+-- condition item's entries, assets and replies. No theorem between the two layers sees these, so each has the
+-- document's own figures, at its bounds.
 use Prim.Native.Nat.{ℕ, zero, suc, _+_, _*_}
 use mathlib.Core.Path.{_≡_, refl}
 use mathlib.Core.Bool.{Bool, true, false}
@@ -9,17 +10,17 @@ use mathlib.Core.Option.{none, some}
 use lib.IntN.{pos, negsuc}
 use lib.ListN.{length, replicate}
 use Rattle.spec.specs.Bytes.{bytes, pad}
-use Rattle.spec.specs.Value.{takes, pack, decode}
+use Rattle.spec.specs.Value.{takes, pack, repeats, decode}
 use Rattle.spec.specs.Words.{every}
 use Rattle.spec.specs.Model.{nameCell, cellOk, namesOk, modelOk}
 use Rattle.spec.specs.Text.{Reading, readText}
 use Rattle.spec.specs.Text.Request.{sample, current, currentAt, assets, allAssets}
 use Rattle.spec.specs.Text.Reading.{unread, asked}
 use Rattle.spec.specs.Path.{select}
+use Rattle.spec.specs.Entries.{step, repeatsIn, crowded, formOk}
+use Rattle.spec.specs.Assets.{idOk, lengthOk, cellFor, storeCells}
+use Rattle.spec.specs.Reply.{observationWords, assetWords}
 use Rattle.spec.specs.Answers.{refusalNumber, observeWord, storeWord}
-use Rattle.spec.specs.History.{Call, Stores, Start, Window, storesBehind, callOutputs, windowsOf, Meets}
-use Rattle.spec.specs.History.Output.{observed, stored, returned}
-use Rattle.spec.specs.Bench.{benchStart, benchObserves, benchStores}
 use Rattle.spec.specs.declared.Level.the-variants.{Normal, Warning, Fault}
 use Rattle.spec.specs.declared.Value.{Value}
 use Rattle.spec.specs.declared.Value.the-variants.{Unavailable, Sample, Event, Condition}
@@ -31,8 +32,11 @@ use Rattle.spec.specs.declared.Refusal.the-variants.{AssetNotFound, Asse
 use Rattle.spec.specs.declared.ObserveAnswer.the-variants.{Recorded, Same, Refused as Unrecorded}
 use Rattle.spec.specs.declared.StoreAnswer.the-variants.{Stored, Refused as Unstored}
 use Rattle.spec.proofs.Opened.{opened}
-use Rattle.spec.proofs.Fixtures.{Step, callOf, shows, ToolsGive, cellsOf, toolStart, benchStore}
-use Rattle.spec.proofs.Fixtures.Step.{_gives_}
+
+-- names, a cell each
+abbrev pub cellsOf : List (List ℕ) → List ℕ
+cellsOf [] = []
+cellsOf (s ∷ ss) = pad 24 s ++ cellsOf ss
 
 -- ---- values
 
@@ -97,6 +101,18 @@ pub words-refused :
     ≡ replicate 6 (replicate 5 false)
 unfolding opened
 words-refused = refl
+
+-- Same by the words, of each category but conditions': equal; another sample; an event with the sample's low word
+-- (kinds differ); Unavailable beside Unavailable. A discrete item never says it
+pub same-words :
+    map (λ c. repeats c 4294967297 4294967297 ∷ repeats c 4294967297 4294967298 ∷ repeats c 4294967297 8589934593
+    ∷ repeats c 8589934593 8589934593 ∷ repeats c 0 0 ∷ [])
+    (0 ∷ 1 ∷ 4 ∷ [])
+    ≡ (true ∷ false ∷ false ∷ true ∷ true ∷ [])
+    ∷ (true ∷ false ∷ false ∷ true ∷ true ∷ [])
+    ∷ replicate 5 false ∷ []
+unfolding opened
+same-words = refl
 
 -- ---- models and names
 
@@ -263,103 +279,120 @@ pub texts-asked :
 unfolding opened
 texts-asked = refl
 
--- ---- assets
+-- ---- a condition item's entries: document 02, Req 05
 
--- an asset is stored, another, the first anew; then what is asked for
-abbrev toolSteps : List Step
-toolSteps =
-    Call.storeAsset (bytes "a") (7 ∷ []) 10 gives stored (Stored 0)
-    ∷ Call.storeAsset (bytes "b") (8 ∷ 9 ∷ []) 20 gives stored (Stored 1)
-    ∷ Call.storeAsset (bytes "a") (1 ∷ 2 ∷ 3 ∷ []) 30 gives stored (Stored 1)
-    ∷ shows "/assets" (2 ∷ 2 ∷ 2 ∷ 0 ∷ 1 ∷ 0 ∷ 3 ∷ 2 ∷ 7 ∷ 7 ∷ [])
-    ∷ shows "/asset/b;a;b" (3 ∷ 2 ∷ 2 ∷ 0 ∷ 0 ∷ 1 ∷ 0 ∷ 2 ∷ 3 ∷ 2 ∷ [])
-    ∷ Call.body (bytes "a") gives returned (1 ∷ 2 ∷ 3 ∷ [])
-    ∷ shows "/sample?path=//Device//DataItem[@type=\"ASSET_CHANGED\"]"
-    (4 ∷ 2 ∷ 5 ∷ 6 ∷ 2 ∷ 3 ∷ 4 ∷ 5
-    ∷ 1000 ∷ 1099511627776 ∷ 10 ∷ 1108101562368 ∷ 20 ∷ 1108101562369 ∷ 30 ∷ 1108101562369 ∷ []) ∷ []
+-- words of item 0: Normal, Warning and Fault of code c
+abbrev pub z : ℕ → ℕ
+z c = 12884901888 + c
 
--- the cells; newest first; the text's order with a repeat; the newest body; an event each time, the last one equal
--- to the one before
-pub tools : ToolsGive 1 toolSteps
+abbrev pub w : ℕ → ℕ
+w c = 12901679104 + c
+
+abbrev pub f : ℕ → ℕ
+f c = 12918456320 + c
+
+-- entries of these words, numbered from 2 on; behind them number 20 with the word x
+abbrev entriesFrom : ℕ → List ℕ → List (List ℕ)
+entriesFrom n [] = []
+entriesFrom n (x ∷ xs) = (n ∷ 10 * n ∷ x ∷ []) ∷ entriesFrom (suc n) xs
+
+abbrev behind : List ℕ → ℕ → List (List ℕ)
+behind ws x = step 0 (entriesFrom 2 ws) (20 ∷ 200 ∷ x ∷ [])
+
+-- that entry
+abbrev twenty : ℕ → List ℕ
+twenty x = 20 ∷ 200 ∷ x ∷ []
+
+-- Warnings of the codes 1 to 8, and of 1 to 9
+abbrev eight : List ℕ
+eight = w 1 ∷ w 2 ∷ w 3 ∷ w 4 ∷ w 5 ∷ w 6 ∷ w 7 ∷ w 8 ∷ []
+
+-- a code more goes to the end, a level takes its code's place, and what is there ends an Unavailable or a Normal
+pub codes-raised :
+    (behind (w 1 ∷ w 2 ∷ []) (f 3) ≡ entriesFrom 2 (w 1 ∷ w 2 ∷ []) ++ (twenty (f 3) ∷ []))
+    × (behind (w 1 ∷ w 2 ∷ []) (f 1) ≡ twenty (f 1) ∷ (3 ∷ 30 ∷ w 2 ∷ []) ∷ [])
+    × (behind (w 0 ∷ w 2 ∷ []) (f 0) ≡ twenty (f 0) ∷ (3 ∷ 30 ∷ w 2 ∷ []) ∷ [])
+    × (behind (0 ∷ []) (w 1) ≡ twenty (w 1) ∷ [])
+    × (behind (z 7 ∷ []) (w 1) ≡ twenty (w 1) ∷ [])
+    × (behind [] (w 1) ≡ twenty (w 1) ∷ [])
 unfolding opened
-tools = (refl, refl)
+codes-raised = (refl, refl, refl, refl, refl, refl)
 
--- ---- times
-
--- a time of 0 is missing: the host's, which may be 0 too; times need not rise
-pub times :
-    ToolsGive 1
-    (Call.observe 0 0 50 (Sample (pos 1)) gives observed (Recorded 3)
-    ∷ Call.observe 0 60 70 (Sample (pos 2)) gives observed (Recorded 4)
-    ∷ Call.observe 0 40 70 (Sample (pos 3)) gives observed (Recorded 5)
-    ∷ Call.observe 0 0 0 (Sample (pos 4)) gives observed (Recorded 6)
-    ∷ shows "/sample"
-    (4 ∷ 3 ∷ 6 ∷ 7 ∷ 3 ∷ 4 ∷ 5 ∷ 6
-    ∷ 50 ∷ 4294967297 ∷ 60 ∷ 4294967298 ∷ 40 ∷ 4294967299 ∷ 0 ∷ 4294967300 ∷ []) ∷ [])
+-- a Normal takes out its code alone, and stands for the last; Normal 0 and Unavailable take out all
+pub codes-cleared :
+    (behind (w 1 ∷ f 2 ∷ w 3 ∷ []) (z 2) ≡ (2 ∷ 20 ∷ w 1 ∷ []) ∷ (4 ∷ 40 ∷ w 3 ∷ []) ∷ [])
+    × (behind (f 2 ∷ []) (z 2) ≡ twenty (z 2) ∷ [])
+    × (behind (w 0 ∷ w 1 ∷ []) (z 0) ≡ twenty (z 0) ∷ [])
+    × (behind (w 1 ∷ f 2 ∷ []) 0 ≡ twenty 0 ∷ [])
+    × (behind (0 ∷ []) (z 0) ≡ twenty (z 0) ∷ [])
 unfolding opened
-times = (refl, refl)
+codes-cleared = (refl, refl, refl, refl, refl)
 
--- ---- the stores, word by word and byte by byte
-
--- behind the bench case's observes
-pub bench-words : benchStores .observations ≡ benchStore
+-- nine come of eight and a ninth code, and stay nine, whatever follows; of eight and one of theirs come eight
+pub nine-entries :
+    (behind eight (w 9) ≡ entriesFrom 2 eight ++ (twenty (w 9) ∷ []))
+    × (map (behind (eight ++ (w 9 ∷ []))) (0 ∷ z 0 ∷ z 1 ∷ w 9 ∷ []) ≡ replicate 4 (entriesFrom 2 (eight ++ (w 9 ∷ []))))
+    × (map length (behind eight (f 8) ∷ behind eight (z 8) ∷ behind eight 0 ∷ []) ≡ 8 ∷ 7 ∷ 1 ∷ [])
 unfolding opened
-bench-words = refl
+nine-entries = (refl, refl, refl)
 
-abbrev toolStores : Stores
-toolStores = storesBehind (toolStart 1) (map callOf toolSteps)
+-- Same: a level again for its code, a Normal that clears nothing, Unavailable again; not Normal 0 after Unavailable
+pub same-entries :
+    (map (repeatsIn 0 (entriesFrom 2 (w 1 ∷ f 2 ∷ []))) (w 1 ∷ f 1 ∷ w 2 ∷ f 2 ∷ z 3 ∷ z 1 ∷ z 0 ∷ 0 ∷ w 3 ∷ [])
+    ≡ true ∷ false ∷ false ∷ true ∷ true ∷ false ∷ false ∷ false ∷ false ∷ [])
+    × (map (repeatsIn 0 (entriesFrom 2 (0 ∷ []))) (0 ∷ z 0 ∷ z 7 ∷ w 0 ∷ []) ≡ true ∷ false ∷ true ∷ false ∷ [])
+    × (map (repeatsIn 0 (entriesFrom 2 (z 7 ∷ []))) (0 ∷ z 0 ∷ z 7 ∷ w 7 ∷ []) ≡ false ∷ true ∷ true ∷ false ∷ [])
+unfolding opened
+same-entries = (refl, refl, refl)
 
--- behind the calls above: A and u; the id cells, b and then a; the body cells, the length in two bytes before each
--- body
-pub tool-bytes :
-    toolStores .assets
+-- 19: a ninth code, Warning or Fault; seven leave room, and a code of the eight, a Normal or Unavailable ask for none
+pub ninth-crowds :
+    (map (crowded 0 (entriesFrom 2 eight)) (w 9 ∷ f 9 ∷ w 8 ∷ f 1 ∷ z 9 ∷ z 0 ∷ 0 ∷ [])
+    ≡ true ∷ true ∷ false ∷ false ∷ false ∷ false ∷ false ∷ [])
+    × (crowded 0 (entriesFrom 2 (w 1 ∷ w 2 ∷ w 3 ∷ w 4 ∷ w 5 ∷ w 6 ∷ w 7 ∷ [])) (w 9) ≡ false)
+unfolding opened
+ninth-crowds = (refl, refl)
+
+-- the written form of eight rows, with none and with one asked for: no entry, one of any word, two codes; two of one
+-- code, two of which one isn't active, another item's among two, a row behind an unused one, a time behind the last
+pub forms-tested :
+    map (λ rs. formOk 0 0 rs ∷ formOk 0 1 rs ∷ [])
+    (replicate 8 (0 ∷ 0 ∷ 0 ∷ [])
+    ∷ (entriesFrom 2 (0 ∷ []) ++ replicate 7 (0 ∷ 0 ∷ 0 ∷ []))
+    ∷ (entriesFrom 2 (w 1 ∷ f 2 ∷ []) ++ replicate 6 (0 ∷ 0 ∷ 0 ∷ []))
+    ∷ (entriesFrom 2 (w 1 ∷ f 1 ∷ []) ++ replicate 6 (0 ∷ 0 ∷ 0 ∷ []))
+    ∷ (entriesFrom 2 (w 1 ∷ z 2 ∷ []) ++ replicate 6 (0 ∷ 0 ∷ 0 ∷ []))
+    ∷ (entriesFrom 2 (w 1 ∷ (1099511627776 + f 2) ∷ []) ++ replicate 6 (0 ∷ 0 ∷ 0 ∷ []))
+    ∷ ((0 ∷ 0 ∷ 0 ∷ []) ∷ (entriesFrom 2 (w 1 ∷ []) ++ replicate 6 (0 ∷ 0 ∷ 0 ∷ [])))
+    ∷ (entriesFrom 2 (w 1 ∷ []) ++ ((0 ∷ 7 ∷ 0 ∷ []) ∷ replicate 6 (0 ∷ 0 ∷ 0 ∷ []))) ∷ [])
+    ≡ (true ∷ false ∷ []) ∷ (true ∷ true ∷ []) ∷ (true ∷ true ∷ [])
+    ∷ replicate 5 (false ∷ false ∷ [])
+unfolding opened
+forms-tested = refl
+
+-- ---- assets and replies
+
+-- 1 to 32 bytes of an id, 1 to 510 of a body
+pub asset-bounds :
+    (map (λ n. idOk (replicate n 97)) (0 ∷ 1 ∷ 32 ∷ 33 ∷ []) ≡ false ∷ true ∷ true ∷ false ∷ [])
+    × (map lengthOk (0 ∷ 1 ∷ 510 ∷ 511 ∷ []) ≡ false ∷ true ∷ true ∷ false ∷ [])
+unfolding opened
+asset-bounds = (refl, refl)
+
+-- a store of A 2 with a and b: b anew stays the last, c takes the room of a, the oldest, and b moves down
+pub asset-places :
+    (let bs = storeCells (bytes "b") (8 ∷ []) (storeCells (bytes "a") (7 ∷ []) (2 ∷ 0 ∷ replicate 1088 0)) in
+    (map (λ id. cellFor id bs) (bytes "a" ∷ bytes "b" ∷ bytes "c" ∷ []) ≡ 1 ∷ 1 ∷ 1 ∷ [])
+    × (storeCells (bytes "c") (9 ∷ []) bs
     ≡ 2 ∷ 2
-    ∷ (pad 32 (bytes "b")
-    ++ (pad 32 (bytes "a")
-    ++ (pad 512 (0 ∷ 2 ∷ 8 ∷ 9 ∷ [])
-    ++ pad 512 (0 ∷ 3 ∷ 1 ∷ 2 ∷ 3 ∷ []))))
+    ∷ (pad 32 (bytes "b") ++ (pad 32 (bytes "c") ++ (pad 512 (0 ∷ 1 ∷ 8 ∷ []) ++ pad 512 (0 ∷ 1 ∷ 9 ∷ []))))))
 unfolding opened
-tool-bytes = refl
+asset-places = (refl, refl)
 
--- ---- one client's windows
-
--- the bench case; a sample, one that is refused, an observe, and a sample that goes on where the first ended
-abbrev clientStart : Start
-clientStart = benchStart (replicate 106 0) (replicate 546 0)
-
-abbrev clientCalls : List Call
-clientCalls =
-    benchObserves
-    ++ (Call.request (bytes "/sample?count=2") (replicate 64 0)
-    ∷ Call.request (bytes "/sample?from=1") (replicate 64 0)
-    ∷ Call.observe 1 1040 1040 (Sample (pos 7))
-    ∷ Call.request (bytes "/sample?from=4") (replicate 64 0)
-    ∷ [])
-
-abbrev firstWindow : Window
-firstWindow =
-    record {
-      path = none;
-      begin = 2;
-      next = 4;
-      rows = (2 ∷ 1000 ∷ 1099511627776 ∷ []) ∷ (3 ∷ 1010 ∷ 1103806600072 ∷ []) ∷ [];
-    }
-
-abbrev secondWindow : Window
-secondWindow =
-    record {
-      path = none;
-      begin = 4;
-      next = 6;
-      rows = (4 ∷ 1030 ∷ 1108101562367 ∷ []) ∷ (5 ∷ 1040 ∷ 1103806595079 ∷ []) ∷ [];
-    }
-
--- what its accepted samples deliver
-pub two-windows :
-    windowsOf (λ i. true) 0 clientCalls (callOutputs clientStart clientCalls) ≡ firstWindow ∷ secondWindow ∷ []
+-- two rows: the sizes, then the numbers and the pairs of time and word; of assets the cells, then the lengths
+pub reply-words :
+    (observationWords 2 4 5 ((3 ∷ 30 ∷ 33 ∷ []) ∷ (4 ∷ 40 ∷ 44 ∷ []) ∷ [])
+    ≡ 2 ∷ 2 ∷ 4 ∷ 5 ∷ 3 ∷ 4 ∷ 30 ∷ 33 ∷ 40 ∷ 44 ∷ [])
+    × (assetWords 3 8 ((1 ∷ 510 ∷ []) ∷ (0 ∷ 7 ∷ []) ∷ []) ≡ 2 ∷ 3 ∷ 8 ∷ 0 ∷ 1 ∷ 0 ∷ 510 ∷ 7 ∷ [])
 unfolding opened
-two-windows = refl
-
--- and they meet
-pub two-meet : Meets (λ path. path ≡ none) 4 (secondWindow ∷ [])
-two-meet = (refl, refl, tt)
+reply-words = (refl, refl)

@@ -1,4 +1,4 @@
--- What is proved of the definitions.
+-- What is proved of the terms, whatever calls there are.
 pub mod Words
 pub mod Tables
 pub mod Blocks
@@ -11,41 +11,8 @@ pub mod Classes
 pub mod Read
 pub mod Print
 pub mod Path
-pub mod Observations
-pub mod Added
-pub mod Heads
-pub mod Admission
 pub mod Assets
 pub mod Reply
-pub mod Free
-pub mod Recorded
-pub mod Standing
-pub mod Entries
 pub mod Steps
-pub mod Pass
-pub mod Kept
-pub mod Rows
-pub mod Start
-pub mod Encoding
-pub mod Requests
-pub mod Agree
-pub mod Offers
-pub mod Begin
-pub mod Windows
-pub mod History
-pub mod Never
-pub mod Singles
-pub mod Interface
 pub mod Opened
-pub mod Fixtures
-pub mod Bench
 pub mod Examples
-pub mod Bounds
-pub mod Orders
-pub mod Damaged
-pub mod Batches
-pub mod Discrete
-pub mod Late
-pub mod Conditions
-pub mod Refusals
-pub mod Twelve

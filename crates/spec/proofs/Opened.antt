@@ -1,5 +1,5 @@
--- What a worked example computes with: the definitions of both layers that are shut elsewhere, each file's under one
--- name. A proof by `refl` says `unfolding opened`.
+-- What a worked example of the terms computes with: the definitions that are shut elsewhere, each file's under one name.
+-- A proof by `refl` says `unfolding opened`.
 use Rattle.spec.specs.Words.{every, firstWhere, anyBelow, countBelow, pickRows, setOf, row, put}
 use Rattle.spec.specs.Bytes.{textByte, nameByte, idByte, all, same, before, joinFirst, split, digit, valueFrom}
 use Rattle.spec.specs.Bytes.{isNumber}
@@ -13,25 +13,10 @@ use Rattle.spec.specs.Path.{selectTyped, selectForm, select}
 use Rattle.spec.specs.Blocks.{tableRows, putRows, padded, flatRows}
 use Rattle.spec.specs.Entries.{active, normal, anyEntry, eachRow, entered, cleared, stepActive, step, repeatsIn}
 use Rattle.spec.specs.Entries.{crowded, usedRows, codesDiffer, formOk}
-use Rattle.spec.specs.Observations.{headOk, evict, add, evictOk, blank, addAll, startStore, ringOk, sampleRows}
-use Rattle.spec.specs.Observations.{newestIn, entriesIn, currentRows, atRows, currentOk, atOk, latestOk}
-use Rattle.spec.specs.Observations.{repeatsAt, crowdedAt}
-use Rattle.spec.specs.Standing.{standsIn, withEntry, standingFrom, entriesOf, entriesRows, levelStands}
 use Rattle.spec.specs.Assets.{assetHeadOk, idOk, bodyOk, assetOk, find, renew, cellFor, storeCells, startAssets}
 use Rattle.spec.specs.Assets.{lengthOk, bodyPlace}
 use Rattle.spec.specs.Reply.{numbers, pairs, lengths, observationWords, assetWords, written, observationReply}
 use Rattle.spec.specs.Reply.{assetReply, readRows}
-use Rattle.spec.specs.Calls.{startOk, startBoth, start, roomFor, observeItem, observe, observeAll, admitted}
-use Rattle.spec.specs.Calls.{observeBatch, keepAsset, storeAsset, inRange, sampleBetween, sampleReply}
-use Rattle.spec.specs.Calls.{currentReply, currentUpTo, atReply, cellRows, allCells, cellsReply, findAll}
-use Rattle.spec.specs.Calls.{namedReply, downFrom, answerRequest, answerReading, request, body}
-use Rattle.spec.specs.Reference.{keep, newestOr, lastOr, sizeWrong, unavailable, begin, observeAnswer}
-use Rattle.spec.specs.Reference.{offersAnswers, offersNext, batchAnswer, place}
-use Rattle.spec.specs.Reference.{storeAnswer, sampleFor, currentFor, atFor, heldRows, allHeld}
-use Rattle.spec.specs.Reference.{placesOf, newestFirst, replyTo, replyReading, reply, bodyOf}
-use Rattle.spec.specs.History.{storesRun, storesAfter, referenceRun, referenceAfter, callOutputs, storesOutputs}
-use Rattle.spec.specs.History.{referenceOutputs, windowsOfOutputs, windowsOf, lastNext, joined}
-use Rattle.spec.specs.Bench.{benchStores, benchRequest}
 
 unfoldable pub openedWords : Unit {0}
 unfolding every firstWhere anyBelow countBelow pickRows setOf row put
@@ -63,11 +48,6 @@ unfolding tableRows putRows padded flatRows active normal anyEntry eachRow enter
     crowded usedRows codesDiffer formOk
 openedEntries = tt
 
-unfoldable pub openedObservations : Unit {0}
-unfolding headOk evict add evictOk blank addAll startStore ringOk sampleRows newestIn entriesIn currentRows atRows
-    currentOk atOk latestOk repeatsAt crowdedAt
-openedObservations = tt
-
 unfoldable pub openedAssets : Unit {0}
 unfolding assetHeadOk idOk bodyOk assetOk find renew cellFor storeCells startAssets lengthOk bodyPlace
 openedAssets = tt
@@ -76,32 +56,6 @@ unfoldable pub openedReply : Unit {0}
 unfolding numbers pairs lengths observationWords assetWords written observationReply assetReply readRows
 openedReply = tt
 
-unfoldable pub openedCalls : Unit {0}
-unfolding startOk startBoth start roomFor observeItem observe observeAll admitted observeBatch keepAsset storeAsset
-    inRange sampleBetween sampleReply currentReply currentUpTo atReply cellRows allCells cellsReply findAll namedReply
-    downFrom answerRequest answerReading request body
-openedCalls = tt
-
-unfoldable pub openedStanding : Unit {0}
-unfolding standsIn withEntry standingFrom entriesOf entriesRows levelStands
-openedStanding = tt
-
-unfoldable pub openedReference : Unit {0}
-unfolding keep newestOr lastOr sizeWrong unavailable begin observeAnswer offersAnswers offersNext batchAnswer place
-    storeAnswer sampleFor currentFor atFor heldRows allHeld placesOf newestFirst replyTo replyReading reply
-    bodyOf
-openedReference = tt
-
-unfoldable pub openedHistory : Unit {0}
-unfolding storesRun storesAfter referenceRun referenceAfter callOutputs storesOutputs referenceOutputs windowsOfOutputs
-    windowsOf lastNext joined
-openedHistory = tt
-
-unfoldable pub openedBench : Unit {0}
-unfolding benchStores benchRequest
-openedBench = tt
-
 unfoldable pub opened : Unit {0}
-unfolding openedWords openedBytes openedValue openedModel openedText openedPath openedEntries openedObservations
-    openedAssets openedReply openedCalls openedStanding openedReference openedHistory openedBench
+unfolding openedWords openedBytes openedValue openedModel openedText openedPath openedEntries openedAssets openedReply
 opened = tt

@@ -1,20 +1,18 @@
 -- Values and their words: the bounds of a word, each value back from its word, so that packing is one-to-one.
 use Prim.Native.Nat.{ℕ, zero, suc, _+_, _-_, _*_, _/_, _%_, _^_, _≤_, _<_}
-use mathlib.Core.Path.{_≡_, refl, sym, ap, ap₂, _∙_}
+use mathlib.Core.Path.{_≡_, refl, sym, ap, _∙_}
 use mathlib.Core.Bool.{Bool, true, false, cond, and-false, and-eq-true-iff, true≢false}
 use native.Mathlib.Nat.{div-add-mod', mod-lt}
 use native.Mathlib.Omega.{arith}
 use lib.Arith.{digits-div, digits-mod}
 use lib.Dec.{leb, ltb, eqb, lit<}
 use lib.IntN.{ℤ, pos, negsuc}
-use borrow.Author.Tests.{lt-ltb, le-ltb, le-leb, eq-eqb, ltb-true, ltb-false, leb-true, eqb-true}
+use borrow.Author.Tests.{lt-ltb, le-ltb, le-leb, ltb-true, ltb-false, leb-true, eqb-true}
 use Rattle.spec.specs.Value.{levelNumber, lowWord, kind, low, valueWord, pack, itemOf, nativeOk, takes, sampleOf, levelOf, noValue, decodeKind, decode, FitsSample, Fits}
-use Rattle.spec.specs.Reference.{eqSample, eqLevel, eqValue}
 use Rattle.spec.specs.declared.Level.{Level}
 use Rattle.spec.specs.declared.Level.the-variants.{Normal, Warning, Fault}
 use Rattle.spec.specs.declared.Value.{Value}
 use Rattle.spec.specs.declared.Value.the-variants.{Unavailable, Sample, Event, Condition}
-use Rattle.spec.proofs.Words.{same-truth}
 
 -- a value whose fields fit its word: as `Fits`, with a native code below 2^24
 abbrev pub Coded : Value → Type 0
@@ -108,70 +106,6 @@ pack-coded item v w hv hw e = word-one-to-one v w hv hw (omega arith)
 pub pack-one-to-one : (item category : ℕ) (v w : Value) → takes category v ≡ true → takes category w ≡ true → Fits v → Fits w
     → pack item v ≡ pack item w → v ≡ w
 pack-one-to-one item category v w hv hw fv fw = pack-coded item v w (taken-coded category v hv fv) (taken-coded category w hw fw)
-
--- ---- words are compared as the values are
-
-eqSample-true : (x y : ℤ) → eqSample x y ≡ true → x ≡ y
-eqSample-true (pos a) (pos b) h = ap pos (eqb-true a b h)
-eqSample-true (pos a) (negsuc b) h = absurd (true≢false (sym h))
-eqSample-true (negsuc a) (pos b) h = absurd (true≢false (sym h))
-eqSample-true (negsuc a) (negsuc b) h = ap negsuc (eqb-true a b h)
-
-eqLevel-true : (l k : Level) → eqLevel l k ≡ true → l ≡ k
-eqLevel-true Normal Normal h = refl
-eqLevel-true Normal Warning h = absurd (true≢false (sym h))
-eqLevel-true Normal Fault h = absurd (true≢false (sym h))
-eqLevel-true Warning Normal h = absurd (true≢false (sym h))
-eqLevel-true Warning Warning h = refl
-eqLevel-true Warning Fault h = absurd (true≢false (sym h))
-eqLevel-true Fault Normal h = absurd (true≢false (sym h))
-eqLevel-true Fault Warning h = absurd (true≢false (sym h))
-eqLevel-true Fault Fault h = refl
-
-pub eqValue-true : (v w : Value) → eqValue v w ≡ true → v ≡ w
-eqValue-true Unavailable Unavailable h = refl
-eqValue-true Unavailable (Sample y) h = absurd (true≢false (sym h))
-eqValue-true Unavailable (Event d) h = absurd (true≢false (sym h))
-eqValue-true Unavailable (Condition k d) h = absurd (true≢false (sym h))
-eqValue-true (Sample x) Unavailable h = absurd (true≢false (sym h))
-eqValue-true (Sample x) (Sample y) h = ap Sample (eqSample-true x y h)
-eqValue-true (Sample x) (Event d) h = absurd (true≢false (sym h))
-eqValue-true (Sample x) (Condition k d) h = absurd (true≢false (sym h))
-eqValue-true (Event c) Unavailable h = absurd (true≢false (sym h))
-eqValue-true (Event c) (Sample y) h = absurd (true≢false (sym h))
-eqValue-true (Event c) (Event d) h = ap Event (eqb-true c d h)
-eqValue-true (Event c) (Condition k d) h = absurd (true≢false (sym h))
-eqValue-true (Condition l c) Unavailable h = absurd (true≢false (sym h))
-eqValue-true (Condition l c) (Sample y) h = absurd (true≢false (sym h))
-eqValue-true (Condition l c) (Event d) h = absurd (true≢false (sym h))
-eqValue-true (Condition l c) (Condition k d) h =
-    let t = and-eq-true-iff (eqLevel l k) (eqb c d) .0 h in
-    ap₂ Condition (eqLevel-true l k (t .0)) (eqb-true c d (t .1))
-
-eqLevel-refl : (l : Level) → eqLevel l l ≡ true
-eqLevel-refl Normal = refl
-eqLevel-refl Warning = refl
-eqLevel-refl Fault = refl
-
-pub eqValue-refl : (v : Value) → eqValue v v ≡ true
-eqValue-refl Unavailable = refl
-eqValue-refl (Sample (pos n)) = eq-eqb n n refl
-eqValue-refl (Sample (negsuc n)) = eq-eqb n n refl
-eqValue-refl (Event c) = eq-eqb c c refl
-eqValue-refl (Condition l c) = rw (eqLevel-refl l) (eq-eqb c c refl)
-
-pub eqValue-eq : (v w : Value) → v ≡ w → eqValue v w ≡ true
-eqValue-eq v w e = rw e (eqValue-refl w)
-
-pub compare-coded : (item : ℕ) (v w : Value) → Coded v → Coded w → eqb (pack item v) (pack item w) ≡ eqValue v w
-compare-coded item v w hv hw =
-    same-truth (eqb (pack item v) (pack item w)) (eqValue v w)
-    (λ e. eqValue-eq v w (pack-coded item v w hv hw (eqb-true _ _ e)))
-    (λ e. eq-eqb _ _ (ap (pack item) (eqValue-true v w e)))
-
-pub pack-compares : (item category : ℕ) (v w : Value) → takes category v ≡ true → takes category w ≡ true → Fits v → Fits w
-    → eqb (pack item v) (pack item w) ≡ eqValue v w
-pack-compares item category v w hv hw fv fw = compare-coded item v w (taken-coded category v hv fv) (taken-coded category w hw fw)
 
 -- ---- the value of a word that no value has
 

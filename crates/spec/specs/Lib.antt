@@ -1,4 +1,5 @@
--- Document 01, and what of document 02 has landed, as definitions, in reading order.
+-- The terms of document 01, and of what of document 02 has landed, that the calls over stores and the reference model
+-- are put together from, in reading order.
 pub mod Words
 pub mod Blocks
 pub mod Bytes
@@ -7,14 +8,6 @@ pub mod Entries
 pub mod Model
 pub mod Text
 pub mod Path
-pub mod Observations
 pub mod Assets
 pub mod Reply
 pub mod Answers
-pub mod Calls
-pub mod Recorded
-pub mod Standing
-pub mod Reference
-pub mod History
-pub mod Polls
-pub mod Bench

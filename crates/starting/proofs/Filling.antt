@@ -11,16 +11,16 @@ use lib.ListN.{length, length-append}
 use borrow.Author.Tests.{ne-eqb}
 use Rattle.spec.specs.Value.{pack}
 use Rattle.spec.specs.Blocks.{padded}
-use Rattle.spec.specs.Observations.{latestAt, place, storeWords, itemRows, evict, evictOk, add, blank, addAll}
-use Rattle.spec.specs.Observations.{startStore}
-use Rattle.spec.specs.Reference.{Observation, newestOr}
-use Rattle.spec.specs.Standing.{standingFrom, entriesOf}
+use Rattle.history.specs.Observations.{latestAt, place, storeWords, itemRows, evict, evictOk, add, blank, addAll}
+use Rattle.history.specs.Observations.{startStore}
+use Rattle.history.specs.Reference.{Observation, newestOr}
+use Rattle.history.specs.Standing.{standingFrom, entriesOf}
 use Rattle.spec.specs.declared.Value.the-variants.{Unavailable}
 use Rattle.spec.proofs.Words.{by-test}
-use Rattle.spec.proofs.Added.{length-evict}
-use Rattle.spec.proofs.Kept.{Rep, next, entries-other, add-rep}
-use Rattle.spec.proofs.Rows.{evict-ok}
-use Rattle.spec.proofs.Start.{blank-rep}
+use Rattle.history.proofs.Added.{length-evict}
+use Rattle.history.proofs.Kept.{Rep, next, entries-other, add-rep}
+use Rattle.history.proofs.Rows.{evict-ok}
+use Rattle.history.proofs.Start.{blank-rep}
 use Rattle.plain.specs.Short.{putNumber}
 use Rattle.plain.proofs.Laws.{not-evicted, put-latest, numbered, newest-first}
 use Rattle.recording.specs.Writing.{Overwriting}

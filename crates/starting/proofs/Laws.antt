@@ -4,10 +4,10 @@ use mathlib.Core.Path.{_≡_, refl}
 use mathlib.Core.Bool.{Bool, true, false}
 use lib.Dec.{eqb}
 use borrow.Author.Tests.{le-leb, eq-eqb}
-use Rattle.spec.specs.Observations.{maxRing, storeWords}
+use Rattle.history.specs.Observations.{maxRing, storeWords}
 use Rattle.spec.specs.Assets.{maxAssets, storeBytes}
-use Rattle.spec.specs.Calls.{startOk}
-use Rattle.spec.proofs.Begin.{StartSizes, start-sizes}
+use Rattle.history.specs.Calls.{startOk}
+use Rattle.history.proofs.Begin.{StartSizes, start-sizes}
 use Rattle.spec.proofs.Words.{not-so, told}
 use Rattle.starting.specs.Start.{Starting}
 

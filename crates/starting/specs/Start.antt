@@ -1,6 +1,6 @@
 -- What start's store is made from.
 use Prim.Native.Nat.{ℕ, suc, _+_, _≤_}
-use Rattle.spec.specs.Observations.{maxRing, maxNumber}
+use Rattle.history.specs.Observations.{maxRing, maxNumber}
 
 -- the sizes and the first number that start accepts
 pub record Starting (n m b : ℕ) : Type 0 where

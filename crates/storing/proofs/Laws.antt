@@ -8,8 +8,8 @@ use borrow.Author.Tests.{eqb-true, lt-ltb, le-ltb}
 use Rattle.spec.specs.Model.{items, category, assetChange, isChange, changeItem, hasChange}
 use Rattle.spec.specs.Value.{pack}
 use Rattle.spec.specs.Assets.{AssetHead, maxAssets, capacity, used, find, outFor, cellFor}
-use Rattle.spec.specs.Observations.{latestOk}
-use Rattle.spec.specs.Calls.{added}
+use Rattle.history.specs.Observations.{latestOk}
+use Rattle.history.specs.Calls.{added}
 use Rattle.spec.specs.declared.Value.the-variants.{Event}
 use Rattle.spec.proofs.Words.{first-holds}
 use Rattle.spec.proofs.Assets.{given-up-room, given-up-max, used-after-max}

@@ -5,7 +5,7 @@ use native.Mathlib.Omega.{arith}
 use borrow.Author.Tests.{not-true, not-false}
 use borrow.Author.Needs.{needs}
 use Rattle.spec.specs.Assets.{lengthAt, lengthOk}
-use Rattle.spec.specs.Calls.{allCells, downFrom}
+use Rattle.history.specs.Calls.{allCells, downFrom}
 use Rattle.asset_reply.proofs.Laws.{test-no, test-yes, test-end, next-down, no-down}
 use Rattle.asset_reply.proofs.all_lengths_ok.Statement.{statement}
 use Rattle.asset_reply.proofs.all_lengths_ok.Tie as tie

@@ -7,7 +7,7 @@ use lib.Seq.{getD-take}
 use borrow.Author.Tests.{not-true, not-false}
 use borrow.Author.Needs.{needs}
 use Rattle.spec.specs.Assets.{lengthAt, lengthOk}
-use Rattle.spec.specs.Calls.{allCells}
+use Rattle.history.specs.Calls.{allCells}
 use Rattle.asset_reply.proofs.Laws.{next-cell, no-cell, test-no, test-yes, test-end, length-first}
 use Rattle.asset_reply.proofs.lengths_ok.Statement.{statement}
 use Rattle.asset_reply.proofs.lengths_ok.Tie as tie

@@ -3,7 +3,7 @@ use Prim.Native.Nat.{_-_}
 use native.Mathlib.Omega.{arith}
 use lib.ListN.{length-set}
 use borrow.Author.Needs.{needs}
-use Rattle.spec.specs.Calls.{downFrom}
+use Rattle.history.specs.Calls.{downFrom}
 use Rattle.asset_reply.proofs.Laws.{Writing, writing-none, writing-more, writing-end, length-down, down-at}
 use Rattle.asset_reply.proofs.write_all.Statement.{statement}
 use Rattle.asset_reply.proofs.write_all.Tie as tie

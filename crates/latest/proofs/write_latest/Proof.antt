@@ -1,7 +1,7 @@
 -- As many rows as selected items: one of each, and it is the first.
 use mathlib.Core.Path.{_∙_}
 use Rattle.spec.specs.Model.{category}
-use Rattle.spec.proofs.Observations.{head-of}
+use Rattle.history.proofs.Observations.{head-of}
 use Rattle.latest.proofs.Laws.{first-count, first-all}
 use borrow.Author.Needs.{needs}
 use Rattle.latest.proofs.write_latest.Statement.{statement}

@@ -38,7 +38,7 @@ use denote.Triple.Spec.{Meets, tripleOf}
 use denote.Triple.Table.{entered, cited}
 use denote.Triple.Walked.{says}
 use Rattle.spec.specs.Answers.{answerNumber, answerCount}
-use Rattle.spec.specs.Calls.{Batched, observeBatch}
+use Rattle.history.specs.Calls.{Batched, observeBatch}
 use Rattle.spec.specs.declared.Answer.{Answer}
 use Rattle.spec.proofs.Record as T
 use Rattle.spec.proofs.Answer as E

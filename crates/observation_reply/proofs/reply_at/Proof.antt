@@ -3,7 +3,7 @@ use Prim.Native.Nat.{_+_}
 use mathlib.Core.Path.{refl}
 use native.Mathlib.Omega.{arith}
 use borrow.Author.Tests.{not-true, not-false}
-use Rattle.spec.proofs.Observations.{head-of}
+use Rattle.history.proofs.Observations.{head-of}
 use Rattle.reply.proofs.Laws.{behind, lends, both}
 use Rattle.observation_reply.proofs.Laws.{in-ring, at-broken, at-short, at-whole, held-many}
 use borrow.Author.Needs.{needs}

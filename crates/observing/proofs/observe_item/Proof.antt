@@ -3,7 +3,7 @@ use mathlib.Core.Path.{_≡_, refl}
 use native.Mathlib.Omega.{arith}
 use borrow.Author.Tests.{not-true, not-false}
 use Rattle.spec.specs.Model.{items, category}
-use Rattle.spec.specs.Calls.{observeItem}
+use Rattle.history.specs.Calls.{observeItem}
 use Rattle.observing.specs.Found.{observedBy}
 use Rattle.observing.proofs.Laws.{item-refused, kind-refused, passed, short-done}
 use borrow.Author.Needs.{needs}

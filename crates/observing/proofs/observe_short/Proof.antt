@@ -5,7 +5,7 @@ use native.Mathlib.Omega.{arith}
 use native.Mathlib.Numerals.{add-one}
 use borrow.Author.Tests.{ne-eqb}
 use Rattle.spec.specs.Model.{items, category}
-use Rattle.spec.specs.Observations.{ringSize}
+use Rattle.history.specs.Observations.{ringSize}
 use Rattle.entries.specs.declared.Judged.the-variants.{New}
 use Rattle.observing.specs.Found.{found}
 use Rattle.observing.proofs.Laws.{found-same, found-new, by-found}

@@ -1,7 +1,7 @@
 -- The verdict decides; room for a number is what an addition needs.
 use mathlib.Core.Path.{refl}
 use native.Mathlib.Numerals.{add-one}
-use Rattle.spec.proofs.Observations.{head-of}
+use Rattle.history.proofs.Observations.{head-of}
 use Rattle.spec.proofs.Words.{told}
 use borrow.Author.Needs.{needs}
 use Rattle.observing.proofs.record.Statement.{statement}

@@ -3,7 +3,7 @@ use mathlib.Core.Path.{refl, _∙_}
 use native.Mathlib.Omega.{arith}
 use borrow.Author.Tests.{not-true, not-false, eqb-false}
 use Rattle.spec.specs.Model.{category}
-use Rattle.spec.proofs.Added.{length-evict}
+use Rattle.history.proofs.Added.{length-evict}
 use Rattle.plain.proofs.Laws.{next-ring, tried, untried, room-left, newest-row, numbered, added-next}
 use borrow.Author.Needs.{needs}
 use Rattle.plain.proofs.add_plain.Statement.{statement}

@@ -3,7 +3,7 @@ use native.Mathlib.Omega.{arith}
 use mathlib.Core.Bool.{cond}
 use mathlib.Core.Path.{_≡_}
 use Rattle.spec.specs.Model.{items, category}
-use Rattle.spec.specs.Calls.{roomFor}
+use Rattle.history.specs.Calls.{roomFor}
 use Rattle.spec.specs.declared.Refusal.the-variants.{Store}
 use Rattle.spec.specs.declared.Verdict.the-variants.{Fine, Refused}
 use Rattle.recording.proofs.Laws.{room-spent, room-unused, room-entry}

@@ -1,4 +1,4 @@
-use Rattle.spec.specs.Observations.{itemRow}
+use Rattle.history.specs.Observations.{itemRow}
 use Rattle.snapshots.proofs.Settled.{place-seen, place-none, place-first}
 use borrow.Author.Needs.{needs}
 use Rattle.snapshots.proofs.plain_place.Statement.{statement}

@@ -1,5 +1,5 @@
 use Rattle.spec.specs.Words.{bit}
-use Rattle.spec.specs.Observations.{isCondition}
+use Rattle.history.specs.Observations.{isCondition}
 use Rattle.spec.proofs.Words.{told}
 use mathlib.Core.Bool.{_&&_}
 use mathlib.Core.Logic.{⊎-elim}

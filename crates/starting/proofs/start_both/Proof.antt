@@ -1,7 +1,7 @@
 -- The sizes decide, and behind their test both stores are written.
 use mathlib.Core.Path.{refl}
 use borrow.Author.Tests.{not-true, not-false}
-use Rattle.spec.specs.Calls.{startBoth}
+use Rattle.history.specs.Calls.{startBoth}
 use Rattle.starting.proofs.Laws.{begins, start-told, store-sizes}
 use borrow.Author.Needs.{needs}
 use Rattle.starting.proofs.start_both.Statement.{statement}

@@ -1,0 +1,2 @@
+-- Document 01's bench case.
+pub mod Bench

@@ -1,0 +1,27 @@
+-- What is proved of stores and calls, and that they give what the reference model gives.
+pub mod Observations
+pub mod Added
+pub mod Heads
+pub mod Admission
+pub mod Free
+pub mod Compared
+pub mod Recorded
+pub mod Standing
+pub mod Entries
+pub mod Pass
+pub mod Kept
+pub mod Rows
+pub mod Start
+pub mod Encoding
+pub mod Requests
+pub mod Agree
+pub mod Offers
+pub mod Begin
+pub mod Windows
+pub mod History
+pub mod Never
+pub mod Singles
+pub mod Late
+pub mod Interface
+pub mod Twelve
+pub mod Pinned
