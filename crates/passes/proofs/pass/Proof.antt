@@ -1,4 +1,4 @@
-use Rattle.passes.proofs.Laws.{front-no, both}
+use Rattle.passes.proofs.Laws.{front-no, both, run-to}
 use borrow.Author.Tests.{not-true, not-false}
 use native.Mathlib.Omega.{arith}
 use Prim.Native.Nat.{_-_}
@@ -50,7 +50,11 @@ pass-run-requires-2 c κs =
       s .pre .0,
       (
         (k .0, record { seen = omega (arith, k .1 .0); picks = search needs; marks = omega (arith, k .1 .1) }),
-        record { run = t .back; from = t .low; near = s .pre .1 .1 .1 .1 },
+        record {
+          run = run-to (t .back) (omega (arith, t .high)) (omega (arith, t .high));
+          from = t .low;
+          near = omega (arith, t .high, s .pre .1 .1 .1 .1);
+        },
       ),
     )
 
