@@ -28,8 +28,8 @@ use Rattle.recording.specs.Writing.{Overwriting}
 use Rattle.recording.proofs.Laws.{evict-latest}
 use Rattle.starting.specs.Start.{Starting}
 
--- start's loop: k items are added, as the reference model holds them, the others have no entry yet, p is the next place,
--- and the rest makes the whole
+-- start's loop: k items are added, as the reference model holds them, the others have no entry yet, p is the next
+-- place, and the rest makes the whole
 pub record Filling (cat : ℕ → ℕ) (n m b host k p : ℕ) (st : List ℕ) : Type 0 where
   pub below : k ≤ m
   pub held : List Observation

@@ -44,7 +44,7 @@ fn start_ok(m: u64, n: u64, a: u64, b: u64, words: u64, size: u64) -> bool
 }
 
 // The store that start makes, whatever stood there: each item in turn Unavailable, the first with number b. It is its
-// item's first, so one row takes it. The place is counted, since a division for each item would cost more than the rest.
+// item's first, so one row takes it. The place is counted: a division for each item would cost more than all else.
 fn start_store(model: &[u32], st: &mut [u64], n: u64, b: u64, host: u64)
     requires { ⌜ Sizes (now model) ⌝ }
     requires { ⌜ Starting n (items (now model)) b ⌝ }
