@@ -4,7 +4,7 @@ ghost use mathlib.Core.Bool.{true};
 ghost use mathlib.Core.List.{[], _∷_};
 ghost use Prim.Native.Nat.{_<_};
 ghost use Rattle.spec.specs.Model.{Sizes, items, category};
-ghost use Rattle.history.specs.Observations.{Head, ringSize, latestAt, setNewest, evict, add, latestOk};
+ghost use Rattle.history.specs.Observations.{Head, ringSize, latestAt, place, setNewest, evict, add, latestOk};
 ghost use Rattle.history.specs.Calls.{roomFor, added};
 ghost use Rattle.spec.specs.declared.Verdict.the-variants.{Fine};
 ghost use Rattle.plain.specs.Short.{overwritable};
@@ -76,18 +76,18 @@ fn set_newest(model: &[u32], st: &mut [u64], t: u64, item: u64, number: u64, tim
     }
 }
 
-// The entry that number s is about to overwrite, if any, goes to its item's checkpoint.
-pub fn evict(model: &[u32], st: &mut [u64], n: u64, b: u64, s: u64)
+// The entry at place p that number s is about to overwrite, if any, goes to its item's checkpoint.
+pub fn evict(model: &[u32], st: &mut [u64], n: u64, b: u64, s: u64, p: u64)
     requires { ⌜ Sizes (now model) ⌝ }
     requires { ⌜ Overwriting (category (now model)) n (items (now model)) b s (now st) ⌝ }
+    requires { ⌜ (p ≡ place n b s) × (p < n) ⌝ }
     ensures { λ r. ⌜
         now (st .exit) ≡ evict (category (now (model .entry))) n (items (now (model .entry))) b s (now (st .entry))
         ⌝ }
 {
     if n <= s - b {
-        let oldest = observations::place(n, b, s);
-        let time = observations::ring_time(st, n, oldest);
-        let word = observations::ring_word(st, n, oldest);
+        let time = observations::ring_time(st, n, p);
+        let word = observations::ring_word(st, n, p);
         let item = value::item_of(word);
         let checkpoint = observations::checkpoint_at(n, model::items(model));
         set_newest(model, st, checkpoint, item, s - n, time, word);
@@ -104,8 +104,8 @@ fn write(model: &[u32], st: &mut [u64], n: u64, b: u64, s: u64, item: u64, time:
         ≡ add (category (now (model .entry))) n (items (now (model .entry))) b s item time word (now (st .entry))
         ⌝ }
 {
-    evict(model, st, n, b, s);
     let p = observations::place(n, b, s);
+    evict(model, st, n, b, s, p);
     observations::put_ring(st, n, p, time, word);
     let latest = observations::latest_at(n);
     set_newest(model, st, latest, item, s, time, word);

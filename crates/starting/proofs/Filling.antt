@@ -1,10 +1,11 @@
 -- Start's loop: its invariant, what a turn asks and gives, by one row behind the eviction.
-use Prim.Native.Nat.{ℕ, suc, _+_, _-_, _≤_, _<_}
-use mathlib.Core.Path.{_≡_, refl, sym, _∙_}
+use Prim.Native.Nat.{ℕ, suc, _+_, _-_, _%_, _≤_, _<_}
+use mathlib.Core.Path.{_≡_, refl, sym, ap, _∙_}
+use mathlib.Core.Logic.{_≢_}
 use mathlib.Core.Bool.{true}
 use mathlib.Core.List.{List, [], _∷_, _++_}
 use native.Mathlib.Omega.{arith}
-use native.Mathlib.Nat.{sub-zero, add-zero, mod-lt, mod-eq-of-lt}
+use native.Mathlib.Nat.{sub-zero, add-zero, mod-lt, mod-eq-of-lt, mod-self, suc-mod}
 use native.Mathlib.Numerals.{add-one}
 use lib.Dec.{eqb}
 use lib.ListN.{length, length-append}
@@ -22,34 +23,37 @@ use Rattle.history.proofs.Kept.{Rep, next, entries-other, add-rep}
 use Rattle.history.proofs.Rows.{evict-ok}
 use Rattle.history.proofs.Start.{blank-rep}
 use Rattle.plain.specs.Short.{putNumber}
-use Rattle.plain.proofs.Laws.{not-evicted, put-latest, numbered, newest-first}
+use Rattle.plain.proofs.Laws.{put-latest, numbered, newest-first}
 use Rattle.recording.specs.Writing.{Overwriting}
 use Rattle.recording.proofs.Laws.{evict-latest}
 use Rattle.starting.specs.Start.{Starting}
 
--- start's loop: k items are added, as the reference model holds them, the others have no entry yet, and the rest makes
--- the whole
-pub record Filling (cat : ℕ → ℕ) (n m b host k : ℕ) (st : List ℕ) : Type 0 where
+-- start's loop: k items are added, as the reference model holds them, the others have no entry yet, p is the next
+-- place, and the rest makes the whole
+pub record Filling (cat : ℕ → ℕ) (n m b host k p : ℕ) (st : List ℕ) : Type 0 where
   pub below : k ≤ m
   pub held : List Observation
   pub count : length held ≡ k
   pub rep : Rep cat n m b held st
   pub fresh : (i : ℕ) → k ≤ i → entriesOf (cat i) i held ≡ []
+  pub placed : p ≡ place n b (b + k)
   pub rest : addAll cat n m b host (m - k) (b + k) k st ≡ startStore cat n m b host
 
 none-of : (c i : ℕ) → entriesOf c i [] ≡ []
 unfolding entriesOf standingFrom newestOr
 none-of c i = by-test (eqb c 2) (λ e. rw e) (λ e. rw e)
 
-pub filling-none : (cat : ℕ → ℕ) (n m b host : ℕ) → Starting n m b → Filling cat n m b host 0 (blank n m b)
+pub filling-none : (cat : ℕ → ℕ) (n m b host : ℕ) → Starting n m b → Filling cat n m b host 0 0 (blank n m b)
 unfolding startStore
 filling-none cat n m b host s =
+    let z : b + 0 - b ≡ 0 = omega arith in
     record {
       below = omega arith;
       held = [];
       count = refl;
       rep = blank-rep cat n m b (s .n-pos) (s .b-pos);
       fresh = λ i h. none-of (cat i) i;
+      placed = sym (rw z (mod-eq-of-lt (s .n-pos)));
       rest = rw (sub-zero, add-zero b);
     }
 
@@ -62,11 +66,7 @@ one-more cat n m b host k st l =
     let f : b + (k + 1) ≡ suc (b + k) = omega arith in
     rw (e, f, add-one k)
 
--- number s may be written: the eviction is done, and p is its place
-abbrev pub Placed : (ℕ → ℕ) → ℕ → ℕ → ℕ → ℕ → List ℕ → List ℕ → ℕ → Type 0
-Placed cat n m b s st x p = (x ≡ evict cat n m b s st) × (p ≡ place n b s)
-
-module _ {cat : ℕ → ℕ} {n m b host k : ℕ} {st : List ℕ} (f : Filling cat n m b host k st) where
+module _ {cat : ℕ → ℕ} {n m b host k p : ℕ} {st : List ℕ} (f : Filling cat n m b host k p st) where
   at-count : evictOk cat n m b (b + length (f .held)) st ≡ true
   at-count = evict-ok cat n m b (f .held) st (f .rep)
 
@@ -78,34 +78,42 @@ module _ {cat : ℕ → ℕ} {n m b host k : ℕ} {st : List ℕ} (f : Filling c
         ok = rw (f .count) at at-count;
       }
 
-  -- until the ring is full nothing is to be done for it
-  pub filling-free : k < n → Placed cat n m b (b + k) st st k
-  filling-free l =
-      let z : b + k - b ≡ k = omega arith in
-      (not-evicted cat n m b (b + k) st (omega arith), sym (rw z (mod-eq-of-lt l)))
+  pub filling-place : Starting n m b → (p ≡ place n b (b + k)) × (p < n)
+  filling-place s = (f .placed, rw (f .placed) (mod-lt (b + k - b) (s .n-pos)))
 
-  -- the ring has the place
-  pub filling-place : {x : List ℕ} {p : ℕ} → Starting n m b → Placed cat n m b (b + k) st x p
-      → (p < n) × (length x ≡ storeWords n m)
-  filling-place s h =
-      (rw (h .1) (mod-lt (b + k - b) (s .n-pos)), rw (h .0) (length-evict cat n m b (b + k) st ∙ f .rep .words))
+  pub filling-words : {x : List ℕ} → x ≡ evict cat n m b (b + k) st → length x ≡ storeWords n m
+  filling-words e = rw e (length-evict cat n m b (b + k) st ∙ f .rep .words)
 
-  -- one row there is the addition
-  pub filling-row : (x e : List ℕ) (p w h : ℕ) → Starting n m b → k < m → h ≡ m
-      → Placed cat n m b (b + k) st x p → e ≡ putNumber n h p k (b + k) host w x
-      → e ≡ add cat n m b (b + k) k host w st
-  filling-row x e p w h s l eh there q =
+  -- one row behind the eviction is the addition
+  filling-row : (x e : List ℕ) (w h : ℕ) → Starting n m b → k < m → h ≡ m → x ≡ evict cat n m b (b + k) st
+      → e ≡ putNumber n h p k (b + k) host w x → e ≡ add cat n m b (b + k) k host w st
+  filling-row x e w h s l eh ex q =
       let u : itemRows st (latestAt n) m k ≡ padded 8 [] = rw (f .fresh k (omega arith)) at (f .rep .latest k l) in
       let v : itemRows x (latestAt n) m k ≡ padded 8 [] =
-      rw (there .0) (evict-latest cat n m b (b + k) st (filling-fits s) k l ∙ u) in
-      let y = put-latest n m x p host w k (filling-place s there .0) l ∙ v in
-      numbered cat n m b (b + k) k host w p st x e (there .0) (there .1)
-      (newest-first _ (latestAt n) m k _ l y cat refl) (rw eh at q)
+      rw ex (evict-latest cat n m b (b + k) st (filling-fits s) k l ∙ u) in
+      numbered cat n m b (b + k) k host w p st x e ex (f .placed)
+      (newest-first _ (latestAt n) m k _ l (put-latest n m x p host w k (filling-place s .1) l ∙ v) cat refl)
+      (rw eh at q)
 
-  pub filling-more : {e : List ℕ} {w : ℕ} → k < m → w ≡ pack k Unavailable → e ≡ add cat n m b (b + k) k host w st
-      → Filling cat n m b host (k + 1) e
-  filling-more {e} {w} l ew q =
-      let a : e ≡ add cat n m b (b + length (f .held)) k host (pack k Unavailable) st = q ∙ rw (ew, f .count) in
+  -- the place behind p
+  next-place : (p + 1) % n ≡ place n b (b + (k + 1))
+  next-place =
+      let z : b + (k + 1) - b ≡ suc (b + k - b) = omega arith in
+      rw (z, suc-mod (b + k - b) n, ← f .placed, add-one p)
+
+  pub place-on : Starting n m b → p + 1 ≢ n → p + 1 ≡ place n b (b + (k + 1))
+  place-on s e = sym (mod-eq-of-lt (omega (arith, filling-place s .1))) ∙ next-place
+
+  pub place-back : p + 1 ≡ n → 0 ≡ place n b (b + (k + 1))
+  place-back e = sym (mod-self n) ∙ ap (λ (x : ℕ). x % n) (sym e) ∙ next-place
+
+  -- a turn
+  pub filling-more : {x e : List ℕ} {w h q : ℕ} → Starting n m b → k < m → h ≡ m → w ≡ pack k Unavailable
+      → x ≡ evict cat n m b (b + k) st → e ≡ putNumber n h p k (b + k) host w x → q ≡ place n b (b + (k + 1))
+      → Filling cat n m b host (k + 1) q e
+  filling-more {x} {e} {w} {h} s l eh ew ex en eq =
+      let a : e ≡ add cat n m b (b + length (f .held)) k host (pack k Unavailable) st =
+      filling-row x e w h s l eh ex en ∙ rw (ew, f .count) in
       let o = next b (f .held) k host Unavailable in
       record {
         below = omega arith;
@@ -115,6 +123,7 @@ module _ {cat : ℕ → ℕ} {n m b host k : ℕ} {st : List ℕ} (f : Filling c
         fresh =
             λ i h.
             entries-other (cat i) i (f .held) o (ne-eqb k i (omega arith)) ∙ f .fresh i (omega arith);
+        placed = eq;
         rest = rw (a, f .count) (one-more cat n m b host k st l ∙ f .rest);
       }
 

@@ -44,7 +44,7 @@ fn start_ok(m: u64, n: u64, a: u64, b: u64, words: u64, size: u64) -> bool
 }
 
 // The store that start makes, whatever stood there: each item in turn Unavailable, the first with number b. It is its
-// item's first, so one row takes it; until the ring is full its place is the item, and it overwrites nothing.
+// item's first, so one row takes it. The place is counted: a division for each item would cost more than all else.
 fn start_store(model: &[u32], st: &mut [u64], n: u64, b: u64, host: u64)
     requires { ⌜ Sizes (now model) ⌝ }
     requires { ⌜ Starting n (items (now model)) b ⌝ }
@@ -56,15 +56,16 @@ fn start_store(model: &[u32], st: &mut [u64], n: u64, b: u64, host: u64)
     let m = model::items(model);
     observations::make_blank(st, n, m, b);
     let mut item: u64 = 0;
+    let mut p: u64 = 0;
     while item < m {
         let word = value::pack(item, Value::Unavailable);
-        let mut p = item;
-        if n <= item {
-            recording::evict(model, st, n, b, b + item);
-            p = observations::place(n, b, b + item);
-        }
+        recording::evict(model, st, n, b, b + item, p);
         plain::put_number(st, n, m, p, item, b + item, host, word);
         item += 1;
+        p += 1;
+        if p == n {
+            p = 0;
+        }
     }
 }
 

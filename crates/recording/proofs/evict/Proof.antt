@@ -9,9 +9,6 @@ use Rattle.recording.proofs.evict.Tie as tie
 sub-if1 : tie.Need-sub-if1
 sub-if1 c = search needs
 
-place-requires : tie.Need-place-requires
-place-requires c κs = search needs
-
 ring-time-requires : tie.Need-ring-time-requires
 ring-time-requires c κs = search needs
 
@@ -35,12 +32,11 @@ set-newest-requires c κs =
     let t = c .before in
     let i = t .before .before in
     let w = i .before in
-    let p = w .before .before .before .before in
-    let s = p .before .before .before .before in (
+    let s = w .before .before .before .before .before .before .before in (
       s .pre .0,
       rw (t .checkpoint-at .ensures, t .before .items .ensures .0)
-          (goes-in _ _ _ _ _ _ _ _ (p .place .ensures .0) (w .ring-word .ensures) _ (i .item-of .ensures) (omega arith)
-          (s .pre .1)),
+          (goes-in _ _ _ _ _ _ _ _ (s .pre .1 .1 .0) (w .ring-word .ensures) _ (i .item-of .ensures) (omega arith)
+          (s .pre .1 .0)),
     )
 
 same-length : tie.Need-same-length
@@ -53,8 +49,8 @@ returns c =
     let i = t .before .before in
     let w = i .before in
     let r = w .before .before in
-    let p = r .before .before in
-    evicted _ _ _ _ _ _ _ _ (p .place .ensures .0) (w .ring-word .ensures) _ (i .item-of .ensures) (omega arith) _ _
+    let s = r .before .before .before .before .before in
+    evicted _ _ _ _ _ _ _ _ (s .pre .1 .1 .0) (w .ring-word .ensures) _ (i .item-of .ensures) (omega arith) _ _
     (r .ring-time .ensures)
     (rw (t .checkpoint-at .ensures, t .before .items .ensures .0) at (n .set-newest .ensures))
 
@@ -66,7 +62,6 @@ evict-spec =
     tie.close
     (tie.spec
     sub-if1
-    place-requires
     ring-time-requires
     ring-word-requires
     item-of-requires

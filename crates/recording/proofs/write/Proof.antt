@@ -5,11 +5,11 @@ use borrow.Author.Needs.{needs}
 use Rattle.recording.proofs.write.Statement.{statement}
 use Rattle.recording.proofs.write.Tie as tie
 
-evict-requires : tie.Need-evict-requires
-evict-requires c κs = search needs
-
 place-requires : tie.Need-place-requires
 place-requires c κs = search needs
+
+evict-requires : tie.Need-evict-requires
+evict-requires c κs = search needs
 
 put-ring-requires : tie.Need-put-ring-requires
 put-ring-requires c κs = search needs
@@ -21,9 +21,9 @@ set-newest-requires : tie.Need-set-newest-requires
 set-newest-requires c κs =
     let l = c .before in
     let r = l .before .before .before in
-    let p = r .before .before in
-    let e = p .before .before .before in
-    let s = e .before .before .before .before in (
+    let e = r .before .before .before .before in
+    let p = e .before .before in
+    let s = p .before .before .before in (
       s .pre .0,
       still-in _ _ _ _ _ _ (s .pre .1 .0) _ _ _ _ _ _ _ (e .evict .ensures) (p .place .ensures .1)
           (r .put-ring .ensures) (l .latest-at .ensures) (s .pre .1 .1),
@@ -41,8 +41,8 @@ returns c =
     let w = z .before .before .before .before in
     let l = w .before .before in
     let r = l .before .before .before in
-    let p = r .before .before in
-    let e = p .before .before .before in
+    let e = r .before .before .before .before in
+    let p = e .before .before in
     written _ _ _ _ _ _ _ _ _ _ _ _ _ _ _ (e .evict .ensures) (p .place .ensures .0) (r .put-ring .ensures)
     (l .latest-at .ensures) (w .set-newest .ensures) (z .set-last .ensures)
 
@@ -50,8 +50,8 @@ pub write-spec : {M : Type 1} → statement M
 write-spec =
     tie.close
     (tie.spec
-    evict-requires
     place-requires
+    evict-requires
     put-ring-requires
     latest-at-requires
     set-newest-requires
