@@ -291,23 +291,23 @@ w c = 12901679104 + c
 abbrev pub f : ℕ → ℕ
 f c = 12918456320 + c
 
--- entries of these words, numbered from 2 on; behind them number 20 with the word x
+-- entries of these words, numbered from n on
 abbrev entriesFrom : ℕ → List ℕ → List (List ℕ)
 entriesFrom n [] = []
 entriesFrom n (x ∷ xs) = (n ∷ 10 * n ∷ x ∷ []) ∷ entriesFrom (suc n) xs
 
-abbrev behind : List ℕ → ℕ → List (List ℕ)
-behind ws x = step 0 (entriesFrom 2 ws) (20 ∷ 200 ∷ x ∷ [])
-
--- that entry
+-- number 20 with the word x; and behind entries of these words, numbered from 2 on
 abbrev twenty : ℕ → List ℕ
 twenty x = 20 ∷ 200 ∷ x ∷ []
 
--- Warnings of the codes 1 to 8, and of 1 to 9
+abbrev behind : List ℕ → ℕ → List (List ℕ)
+behind ws x = step 0 (entriesFrom 2 ws) (twenty x)
+
+-- Warnings of the codes 1 to 8
 abbrev eight : List ℕ
 eight = w 1 ∷ w 2 ∷ w 3 ∷ w 4 ∷ w 5 ∷ w 6 ∷ w 7 ∷ w 8 ∷ []
 
--- a code more goes to the end, a level takes its code's place, and what is there ends an Unavailable or a Normal
+-- a code more goes to the end, a level takes its code's place, code 0 too; a first one ends an Unavailable or a Normal
 pub codes-raised :
     (behind (w 1 ∷ w 2 ∷ []) (f 3) ≡ entriesFrom 2 (w 1 ∷ w 2 ∷ []) ++ (twenty (f 3) ∷ []))
     × (behind (w 1 ∷ w 2 ∷ []) (f 1) ≡ twenty (f 1) ∷ (3 ∷ 30 ∷ w 2 ∷ []) ∷ [])
@@ -379,7 +379,8 @@ pub asset-bounds :
 unfolding opened
 asset-bounds = (refl, refl)
 
--- a store of A 2 with a and b: b anew stays the last, c takes the room of a, the oldest, and b moves down
+-- a store of A 2 with a and b: each of a, b and c would be the last, cell 1; c takes the room of a, the oldest, and b
+-- moves down
 pub asset-places :
     (let bs = storeCells (bytes "b") (8 ∷ []) (storeCells (bytes "a") (7 ∷ []) (2 ∷ 0 ∷ replicate 1088 0)) in
     (map (λ id. cellFor id bs) (bytes "a" ∷ bytes "b" ∷ bytes "c" ∷ []) ≡ 1 ∷ 1 ∷ 1 ∷ [])
