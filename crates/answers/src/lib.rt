@@ -32,6 +32,8 @@ fn refusal_place(refusal: Refusal) -> u64
         Refusal::Late => 16,
         Refusal::Early => 17,
         Refusal::Crowded => 18,
+        Refusal::Line => 19,
+        Refusal::Stamp => 20,
     }
 }
 

@@ -17,7 +17,7 @@ use Rattle.history.specs.History.{storesOutput, storesNext, storesRun, s
 use Rattle.history.specs.History.{storesBehind, offersOf}
 use Rattle.history.specs.History.{referenceOutput, referenceNext, referenceRun, referenceOutputs, referenceAfter}
 use Rattle.history.specs.History.{windowsOfCall, windowsOf, Meets, lastNext, joined, matchingRows}
-use Rattle.history.specs.History.Call.{observe, batch, storeAsset, request, body}
+use Rattle.history.specs.History.Call.{observe, batch, line, storeAsset, request, body}
 use Rattle.history.specs.History.Output.{observed}
 use Rattle.spec.specs.declared.ObserveAnswer.{ObserveAnswer}
 use Rattle.spec.specs.declared.StoreAnswer.{StoreAnswer}
@@ -26,6 +26,7 @@ use Rattle.history.proofs.Recorded.{Numbered}
 use Rattle.history.proofs.Agree.{Good, bytes, last-is, observe-agree, store-agree, request-agree, body-agree}
 use Rattle.history.proofs.Agree.{right-head, right-assets}
 use Rattle.history.proofs.Offers.{offers-base, offers-assets, batch-agree}
+use Rattle.history.proofs.Lines.{line-agree}
 use Rattle.history.proofs.Begin.{Begins, start-answers, start-good}
 use Rattle.history.proofs.Windows.{AllTrue, all-append, Later, later-after, call-true, SameItems, meet, same-items}
 
@@ -42,6 +43,8 @@ module _ (model names : List ℕ) (p : State) (st : List ℕ) (G : Good model na
   output-is (batch records host answers) t =
       let g = batch-agree model names p st G records host answers in
       rw (g .0, g .1)
+  output-is (line text host) t =
+      ap (λ (x : ObserveAnswer). observed x ∷ []) (line-agree model names p st G host text .0)
   output-is (storeAsset id content host) t = rw (store-agree model names p st G id content host .0)
   output-is (request text reply) t = rw (request-agree model names p st G text reply)
   output-is (body id) t = rw (body-agree model names p st G id)
@@ -51,6 +54,7 @@ module _ (model names : List ℕ) (p : State) (st : List ℕ) (G : Good model na
   unfolding offersNext
   next-good (observe item time host v) t = observe-agree model names p st G item time host v t .1
   next-good (batch records host answers) t = batch-agree model names p st G records host answers .2
+  next-good (line text host) t = line-agree model names p st G host text .1
   next-good (storeAsset id content host) t = store-agree model names p st G id content host .1
   next-good (request text reply) t = G
   next-good (body id) t = G
@@ -59,6 +63,7 @@ module _ (model names : List ℕ) (p : State) (st : List ℕ) (G : Good model na
   next-assets (observe item time host v) = offers-assets model names (offersOf model names (observe item time host v)) p
   next-assets (batch records host answers) =
       offers-assets model names (offersOf model names (batch records host answers)) p
+  next-assets (line text host) = offers-assets model names (offersOf model names (line text host)) p
   next-assets (storeAsset id content host) = store-agree model names p st G id content host .2
   next-assets (request text reply) = refl
   next-assets (body id) = refl
@@ -97,6 +102,7 @@ module _ (model names : List ℕ) where
   base-next p (observe item time host v) = offers-base model names (offersOf model names (observe item time host v)) p
   base-next p (batch records host answers) =
       offers-base model names (offersOf model names (batch records host answers)) p
+  base-next p (line text host) = offers-base model names (offersOf model names (line text host)) p
   base-next p (storeAsset id content host) = go (storeAnswer model names p id content)
     where
       go : (x : StoreAnswer) → storeNext x model p id content host .B ≡ p .B

@@ -19,6 +19,7 @@ use Rattle.history.proofs.Late.{late}
 pub data HostCall : Type 0 where
   observe : (item time host word : ℕ) → HostCall
   batch : (records : List Record) (host : ℕ) (answers : List ℕ) → HostCall
+  line : (text : List ℕ) (host : ℕ) → HostCall
   storeAsset : (id body : List ℕ) (host : ℕ) → HostCall
   request : (text reply : List ℕ) → HostCall
   body : (id : List ℕ) → HostCall
@@ -27,6 +28,7 @@ pub data HostCall : Type 0 where
 abbrev pub made : HostCall → Call
 made (HostCall.observe item time host word) = Call.observe item time host (decode word)
 made (HostCall.batch records host answers) = Call.batch records host answers
+made (HostCall.line text host) = Call.line text host
 made (HostCall.storeAsset id content host) = Call.storeAsset id content host
 made (HostCall.request text reply) = Call.request text reply
 made (HostCall.body id) = Call.body id
@@ -34,6 +36,7 @@ made (HostCall.body id) = Call.body id
 typed : (c : HostCall) → Typed (made c)
 typed (HostCall.observe item time host word) = decode-fits word
 typed (HostCall.batch records host answers) = tt
+typed (HostCall.line text host) = tt
 typed (HostCall.storeAsset id content host) = tt
 typed (HostCall.request text reply) = tt
 typed (HostCall.body id) = tt

@@ -16,6 +16,7 @@ pub mod Encoding
 pub mod Requests
 pub mod Agree
 pub mod Offers
+pub mod Lines
 pub mod Begin
 pub mod Windows
 pub mod History

@@ -26,14 +26,17 @@ use Rattle.spec.specs.Reply.{Replied, over, observationWords, assetWords, writt
 use Rattle.history.specs.Reference.{State, Offer, Held, sameValue, crowdedValue, spent, lastOf, place, holds}
 use Rattle.history.specs.Reference.{makeRoom, allHeld, observeAnswer, observeNext, offerNext, offersAnswers}
 use Rattle.history.specs.Reference.{batchAnswer, offerOf, batchOffers, assetsAfter, storeAnswer, currentFor}
-use Rattle.history.specs.Reference.{replyTo, replyReading, beginAnswer}
+use Rattle.history.specs.Reference.{readingAnswer, lineAnswer, replyTo, replyReading, beginAnswer}
 use Rattle.history.specs.Reference
 use Rattle.history.specs.Reference.{Begun}
 use Rattle.history.specs.Reference.Begun.{begun}
 use Rattle.history.specs.History.{Call, AllTyped, Start, begins, storesStart, storesNext, storesOutputs}
 use Rattle.history.specs.History.{referenceOutput, referenceNext, referenceRun, referenceOutputs}
-use Rattle.history.specs.History.Call.{observe, batch, storeAsset, request, body}
+use Rattle.history.specs.History.Call.{observe, batch, line, storeAsset, request, body}
 use Rattle.history.specs.History.Output.{batched}
+use Rattle.lines.specs.Lines.{readLine, valueFor}
+use Rattle.lines.specs.declared.Line.{Line}
+use Rattle.lines.specs.declared.Line.the-variants.{Malformed, BadStamp, Reads}
 use Rattle.spec.specs.declared.Record.{Record}
 use Rattle.spec.specs.declared.Value.{Value}
 use Rattle.spec.specs.declared.Answer.{Answer}
@@ -181,6 +184,17 @@ module _ (model names : List ℕ) where
       batched-free 2 (length rs) (map observeWord (offersAnswers model names p os)) answers (omega arith)
       (one-each os p ∙ length-map rs (offerOf host)) (words-free os p l))))
 
+  line-free : (p : State) → Low p → (text : List ℕ) → wordFree 2 (observeWord (lineAnswer model names p text)) ≡ true
+  unfolding lineAnswer
+  line-free p l text =
+      sound-word 2 (lineAnswer model names p text)
+      (by-cond (Sound 2) (not (modelOk model names)) _ _ (λ h. refl) (λ h. go (readLine text)))
+    where
+      go : (r : Line) → Sound 2 (readingAnswer r model names p)
+      go Malformed = refl
+      go BadStamp = refl
+      go (Reads time item form) = observe-sound p l item (valueFor (category model item) form)
+
   -- the cell of a new asset is at most how many there were
   cell-low : (p : State) (id content : List ℕ) → length (assetsAfter p id content) - 1 ≤ length (p .T)
   cell-low p id content =
@@ -208,6 +222,7 @@ unfolding Reference.reply B
 output-free model names p l (observe item time host v) =
     (sound-word 2 (observeAnswer model names p item v) (observe-sound model names p l item v), tt)
 output-free model names p l (batch records host answers) = (batch-free model names p l records host answers, tt)
+output-free model names p l (line text host) = (line-free model names p l text, tt)
 output-free model names p l (storeAsset id content host) = (store-free model names p l id content, tt)
 output-free model names p l (request text reply) =
     (by-cond R (not (modelOk model names)) _ _ (λ h. refl) (λ h. reading-free model names p reply (readText text) (text-free text)), tt)

@@ -14,15 +14,19 @@ use Rattle.history.specs.Observations.{maxNumber, headOk}
 use Rattle.spec.specs.Assets.{used, assetHeadOk, assetOk, outFor, cellFor}
 use Rattle.spec.specs.Answers.{refusalNumber, answerNumber, observeWord, storeWord}
 use Rattle.history.specs.Calls.{Observed, Kept, timeOr, roomFor, observeBy, observe, observeAll, admitted}
-use Rattle.history.specs.Calls.{batchBy, observeBatch, keepBy, keepAsset, storeAsset, request}
+use Rattle.history.specs.Calls.{batchBy, observeBatch, observeItem, observeReading, observeLine, keepBy, keepAsset, storeAsset, request}
 use Rattle.history.specs.History.{Call, Stores, Start, storesStart, storesOutput}
 use Rattle.history.specs.History.Output.{started, batched}
+use Rattle.lines.specs.Lines.{readLine, valueFor}
+use Rattle.lines.specs.declared.Line.{Line}
+use Rattle.lines.specs.declared.Line.the-variants.{Malformed, BadStamp, Reads}
 use Rattle.spec.specs.declared.Record.{Record}
 use Rattle.spec.specs.declared.Value.{Value}
 use Rattle.spec.specs.declared.Refusal.{Refusal}
 use Rattle.spec.specs.declared.Refusal.the-variants.{Model, Store, Size, Item, Kind, Spent, InvalidUri}
 use Rattle.spec.specs.declared.Refusal.the-variants.{InvalidRequest, Unsupported, TooMany, InvalidXpath}
 use Rattle.spec.specs.declared.Refusal.the-variants.{AssetNotFound, Asset, Space, Batch, Late, Early, Crowded}
+use Rattle.spec.specs.declared.Refusal.the-variants.{Line as NoLine, Stamp as NoStamp}
 use Rattle.spec.specs.declared.Answer.{Answer}
 use Rattle.spec.specs.declared.Answer.the-variants.{Done, Refused}
 use Rattle.spec.specs.declared.Verdict.{Verdict}
@@ -54,6 +58,8 @@ unused Batch = refl
 unused Late = refl
 unused Early = refl
 unused Crowded = refl
+unused NoLine = refl
+unused NoStamp = refl
 
 answer-free : (x : Answer) → numberFree 12 (answerNumber x) ≡ true
 answer-free (Done k) = refl
@@ -66,6 +72,12 @@ by-sound : (cat : ℕ → ℕ) (m : ℕ) (st : List ℕ) (item time word : ℕ) 
 by-sound cat m st item time word Fine e = room-for cat m st e .0
 by-sound cat m st item time word (Against r) e = unused r
 
+item-free : (model st : List ℕ) (item time : ℕ) (v : Value) → Sound 12 (observeItem model st item time v .answer)
+item-free model st item time v =
+    item-cases (λ (o : Observed). Sound 12 (o .answer)) model st item time v unused tt
+    (λ h.
+    by-sound (category model) (items model) st item time _ (roomFor (category model) (items model) st) refl)
+
 observe-free : (model names st : List ℕ) (item time host : ℕ) (v : Value)
     → wordFree 12 (observeWord (observe model names st item time host v .answer)) ≡ true
 unfolding observe
@@ -73,13 +85,23 @@ observe-free model names st item time host v =
     let P : Observed → Type 0 = λ o. Sound 12 (o .answer) in
     sound-word 12 (observe model names st item time host v .answer)
     (by-cond P (modelOk model names) _ _
-    (λ a. by-cond P (headOk (items model) st) _ _
-    (λ b. item-cases P model st item (timeOr time host) v unused tt
-    (λ h.
-    by-sound (category model) (items model) st item (timeOr time host) _
-    (roomFor (category model) (items model) st) refl))
-    (λ b. refl))
+    (λ a. by-cond P (headOk (items model) st) _ _ (λ b. item-free model st item (timeOr time host) v) (λ b. refl))
     (λ a. refl))
+
+line-free : (model names st text : List ℕ) (host : ℕ)
+    → wordFree 12 (observeWord (observeLine model names st text host .answer)) ≡ true
+unfolding observeLine
+line-free model names st text host =
+    let P : Observed → Type 0 = λ o. Sound 12 (o .answer) in
+    sound-word 12 (observeLine model names st text host .answer)
+    (by-cond P (modelOk model names) _ _
+    (λ a. by-cond P (headOk (items model) st) _ _ (λ b. go (readLine text)) (λ b. refl))
+    (λ a. refl))
+  where
+    go : (r : Line) → Sound 12 (observeReading r model st host .answer)
+    go Malformed = refl
+    go BadStamp = refl
+    go (Reads time item form) = item-free model st item (timeOr time host) (valueFor (category model item) form)
 
 module _ (model names : List ℕ) (host : ℕ) where
   words-free : (rs : List Record) (st : List ℕ) → all (wordFree 12) (observeAll model names st host rs .words) ≡ true
@@ -151,6 +173,7 @@ no-twelve model names s (Call.observe item time host v) =
     (observe-free model names (s .observations) item time host v, tt)
 no-twelve model names s (Call.batch records host answers) =
     (batch-free model names host (s .observations) records answers, tt)
+no-twelve model names s (Call.line text host) = (line-free model names (s .observations) text host, tt)
 no-twelve model names s (Call.storeAsset id content host) =
     (store-free model names (s .observations) (s .assets) id content host, tt)
 no-twelve model names s (Call.request text reply) =

@@ -24,7 +24,7 @@ use Rattle.history.specs.Reference
 use Rattle.history.specs.History.{Call, Start, Window, windowOfReading, windowOfAnswer, windowsOfOutputs}
 use Rattle.history.specs.History.{windowsOfCall, Meets, lastNext, joined, setSelected, selection, matchingRows}
 use Rattle.history.specs.History.{offersOf, referenceOutput, referenceNext, referenceAfter}
-use Rattle.history.specs.History.Call.{observe, batch, storeAsset, request, body}
+use Rattle.history.specs.History.Call.{observe, batch, line, storeAsset, request, body}
 use Rattle.spec.specs.declared.Refusal.the-variants.{Space}
 use Rattle.spec.specs.declared.Answer.{Answer}
 use Rattle.spec.specs.declared.Answer.the-variants.{Done, Refused}
@@ -189,6 +189,7 @@ module _ (a : Start) where
   later-next p (observe item time host v) = later-offers (offersOf (a .model) (a .names) (observe item time host v)) p
   later-next p (batch records host answers) =
       later-offers (offersOf (a .model) (a .names) (batch records host answers)) p
+  later-next p (line text host) = later-offers (offersOf (a .model) (a .names) (line text host)) p
   later-next p (storeAsset id content host) = go (storeAnswer (a .model) (a .names) p id content) (hasChange (a .model)) refl
     where
       go : (x : StoreAnswer) (t : Bool) → hasChange (a .model) ≡ t → Later (p .H) (storeNext x (a .model) p id content host .H)
@@ -216,6 +217,7 @@ module _ (a : Start) where
   unfolding windowsOfOutputs Reference.reply replyReading
   call-true p (observe item time host v) X right n l n' = tt
   call-true p (batch records host answers) X right n l n' = tt
+  call-true p (line text host) X right n l n' = tt
   call-true p (storeAsset id content host) X right n l n' = tt
   call-true p (request text reply) X right n l n' =
       rw right

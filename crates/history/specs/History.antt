@@ -1,5 +1,5 @@
--- Demand 3, the history rule, as one statement: document 01, "The paper machine", and document 02, Req 01. A start and
--- a list of the other calls; the outputs of the stores' calls and of the reference model; one client's windows.
+-- Demand 3, the history rule, as one statement: document 01, "The paper machine", and document 02, Req 01 and Req 06. A
+-- start and a list of the other calls; the outputs of the stores' calls and of the reference model; one client's windows.
 use Prim.Native.Nat.{ℕ, suc, _+_}
 use mathlib.Core.Path.{_≡_}
 use mathlib.Core.Bool.{Bool, cond}
@@ -14,6 +14,7 @@ use Rattle.spec.specs.Text.Reading.{unread, asked}
 use Rattle.spec.specs.Path.{select}
 use Rattle.spec.specs.Reply.{over, rowsOf}
 use Rattle.spec.specs.Answers.{observeWord}
+use Rattle.lines.specs.Lines.{readLine}
 use Rattle.history.specs.Calls
 use Rattle.history.specs.Reference
 use Rattle.history.specs.Reference.{State, Begun, Observation, Offer, triple, matching}
@@ -32,6 +33,7 @@ use Rattle.spec.specs.declared.Selection.the-variants.{Items, NotFound}
 pub data Call : Type 0 where
   observe : (item time host : ℕ) (value : Value) → Call
   batch : (records : List Record) (host : ℕ) (answers : List ℕ) → Call
+  line : (text : List ℕ) (host : ℕ) → Call
   storeAsset : (id body : List ℕ) (host : ℕ) → Call
   request : (text reply : List ℕ) → Call
   body : (id : List ℕ) → Call
@@ -49,6 +51,7 @@ pub data Output : Type 0 where
 abbrev pub Typed : Call → Type 0
 Typed (observe item time host v) = Fits v
 Typed (batch records host answers) = Unit {0}
+Typed (line text host) = Unit {0}
 Typed (storeAsset id content host) = Unit {0}
 Typed (request text reply) = Unit {0}
 Typed (body id) = Unit {0}
@@ -69,6 +72,8 @@ storesOutput model names s (observe item time host v) =
 storesOutput model names s (batch records host answers) =
     let r = Calls.observeBatch model names (s .observations) records host answers in
     batched (r .answer) (r .answers) ∷ []
+storesOutput model names s (line text host) =
+    observed (Calls.observeLine model names (s .observations) text host .answer) ∷ []
 storesOutput model names s (storeAsset id content host) =
     stored (Calls.storeAsset model names (s .observations) (s .assets) id content host .answer) ∷ []
 storesOutput model names s (request text reply) =
@@ -82,6 +87,8 @@ storesNext model names s (observe item time host v) =
 storesNext model names s (batch records host answers) =
     let r = Calls.observeBatch model names (s .observations) records host answers in
     record { observations = r .observations; assets = s .assets }
+storesNext model names s (line text host) =
+    record { observations = Calls.observeLine model names (s .observations) text host .observations; assets = s .assets }
 storesNext model names s (storeAsset id content host) =
     let r = Calls.storeAsset model names (s .observations) (s .assets) id content host in
     record { observations = r .observations; assets = r .assets }
@@ -99,11 +106,13 @@ storesAfter model names s (c ∷ cs) = storesAfter model names (storesNext model
 
 -- ---- the reference model's
 
--- the observations that a call offers: an observe its one, an accepted batch its records', no other call any
+-- the observations that a call offers: an observe its one, an accepted batch its records', a line that reads its
+-- reading's, no other call any
 abbrev pub offersOf : List ℕ → List ℕ → Call → List Offer
 offersOf model names (observe item time host v) = record { item = item; time = time; host = host; value = v } ∷ []
 offersOf model names (batch records host answers) =
     Reference.batchOffers (Reference.batchAnswer model names (length records) (length answers)) host records
+offersOf model names (line text host) = Reference.readingOffers (readLine text) model host
 offersOf model names (storeAsset id content host) = []
 offersOf model names (request text reply) = []
 offersOf model names (body id) = []
@@ -118,6 +127,7 @@ referenceOutput model names p (batch records host buffer) =
     let answers = Reference.offersAnswers model names p (offersOf model names (batch records host buffer)) in
     batched (Reference.batchAnswer model names (length records) (length buffer)) (over (map observeWord answers) buffer)
     ∷ []
+referenceOutput model names p (line text host) = observed (Reference.lineAnswer model names p text) ∷ []
 referenceOutput model names p (storeAsset id content host) = stored (Reference.storeAnswer model names p id content) ∷ []
 referenceOutput model names p (request text buffer) =
     let r = Reference.reply model names p text buffer in
@@ -127,6 +137,7 @@ referenceOutput model names p (body id) = returned (Reference.bodyOf p id) ∷ [
 abbrev pub referenceNext : List ℕ → List ℕ → State → Call → State
 referenceNext model names p (observe item time host v) = offered model names p (observe item time host v)
 referenceNext model names p (batch records host answers) = offered model names p (batch records host answers)
+referenceNext model names p (line text host) = offered model names p (line text host)
 referenceNext model names p (storeAsset id content host) =
     Reference.storeNext (Reference.storeAnswer model names p id content) model p id content host
 referenceNext model names p (request text reply) = p
@@ -224,6 +235,7 @@ windowsOfOutputs text (o ∷ os) = windowOfOutput text o ++ windowsOfOutputs tex
 abbrev pub windowsOfCall : Call → List Output → List Window
 windowsOfCall (observe item time host v) os = []
 windowsOfCall (batch records host answers) os = []
+windowsOfCall (line text host) os = []
 windowsOfCall (storeAsset id content host) os = []
 windowsOfCall (request text reply) os = windowsOfOutputs text os
 windowsOfCall (body id) os = []

@@ -1,10 +1,11 @@
--- The refusals' numbers, and each answer as number, count and word: document 01, "Reply words" and "Refusal table"; 16
--- is document 02's, Req 01, and so are 17 and 18 in the place of 12, Req 04.
+-- The refusals' numbers, and each answer as number, count and word: document 01, "Reply words" and "Refusal table"; from
+-- 16 on document 02's, Req 01 (16), Req 04 (17 and 18 in the place of 12), Req 05 (19) and Req 06 (20 and 21).
 use Prim.Native.Nat.{ℕ, _+_, _^_}
 use Rattle.spec.specs.declared.Refusal.{Refusal}
 use Rattle.spec.specs.declared.Refusal.the-variants.{Model, Store, Size, Item, Kind, Spent, InvalidUri}
 use Rattle.spec.specs.declared.Refusal.the-variants.{InvalidRequest, Unsupported, TooMany, InvalidXpath}
 use Rattle.spec.specs.declared.Refusal.the-variants.{AssetNotFound, Asset, Space, Batch, Late, Early, Crowded}
+use Rattle.spec.specs.declared.Refusal.the-variants.{Line, Stamp}
 use Rattle.spec.specs.declared.Answer.{Answer}
 use Rattle.spec.specs.declared.Answer.the-variants.{Done, Refused}
 use Rattle.spec.specs.declared.ObserveAnswer.{ObserveAnswer}
@@ -31,6 +32,8 @@ refusalNumber Batch = 16
 refusalNumber Late = 17
 refusalNumber Early = 18
 refusalNumber Crowded = 19
+refusalNumber Line = 20
+refusalNumber Stamp = 21
 
 -- start, request and observe-batch: 0 and k, or the refusal's number and 0
 abbrev pub answerNumber : Answer → ℕ

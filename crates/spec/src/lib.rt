@@ -70,7 +70,7 @@ pub struct Record {
     pub value: u64,
 }
 
-// The refusals, in the order of their numbers: 1 to 19, of which 12 is none's.
+// The refusals, in the order of their numbers: 1 to 21, of which 12 is none's.
 pub enum Refusal {
     Model,
     Store,
@@ -90,6 +90,8 @@ pub enum Refusal {
     Late,
     Early,
     Crowded,
+    Line,
+    Stamp,
 }
 
 // The answer of start, request and observe_batch: how many rows the reply has or records were observed, or the

@@ -59,6 +59,12 @@ enum-told-17 c = search needs
 enum-told-18 : tie.Need-enum-told-18
 enum-told-18 c = search needs
 
+enum-told-19 : tie.Need-enum-told-19
+enum-told-19 c = search needs
+
+enum-told-20 : tie.Need-enum-told-20
+enum-told-20 c = search needs
+
 returns : tie.Need-returns
 returns c = rw (c .enum-told .given .1) (refl, omega arith)
 
@@ -113,6 +119,12 @@ returns-17 c = rw (c .enum-told17 .given .1) (refl, omega arith)
 returns-18 : tie.Need-returns-18
 returns-18 c = rw (c .enum-told18 .given .1) (refl, omega arith)
 
+returns-19 : tie.Need-returns-19
+returns-19 c = rw (c .enum-told19 .given .1) (refl, omega arith)
+
+returns-20 : tie.Need-returns-20
+returns-20 c = rw (c .enum-told20 .given .1) (refl, omega arith)
+
 pub refusal-place-spec : {M : Type 1} → statement M
 refusal-place-spec =
     tie.close
@@ -135,6 +147,8 @@ refusal-place-spec =
     enum-told-16
     enum-told-17
     enum-told-18
+    enum-told-19
+    enum-told-20
     returns
     returns-2
     returns-3
@@ -152,4 +166,6 @@ refusal-place-spec =
     returns-15
     returns-16
     returns-17
-    returns-18)
+    returns-18
+    returns-19
+    returns-20)
