@@ -118,16 +118,19 @@ dateIn s =
       milli = field s 20 3;
     }
 
+-- YYYY-MM-DD
+abbrev pub dayText : ℕ → ℕ → ℕ → List ℕ
+dayText y m d = fixed 4 y ++ 45 ∷ (fixed 2 m ++ 45 ∷ fixed 2 d)
+
+-- hh:mm:ss.fff
+abbrev pub clockText : ℕ → ℕ → ℕ → ℕ → List ℕ
+clockText h m s l = fixed 2 h ++ 58 ∷ (fixed 2 m ++ 58 ∷ (fixed 2 s ++ 46 ∷ fixed 3 l))
+
+-- these with 'T' between and 'Z' behind
 unfoldable pub dateText : Date → List ℕ
 dateText d =
-    fixed 4 (d .year)
-    ++ 45 ∷ (fixed 2 (d .month)
-    ++ 45 ∷ (fixed 2 (d .day)
-    ++ 84 ∷ (fixed 2 (d .hour)
-    ++ 58 ∷ (fixed 2 (d .minute)
-    ++ 58 ∷ (fixed 2 (d .second)
-    ++ 46 ∷ (fixed 3 (d .milli)
-    ++ 90 ∷ []))))))
+    dayText (d .year) (d .month) (d .day)
+    ++ 84 ∷ (clockText (d .hour) (d .minute) (d .second) (d .milli) ++ 90 ∷ [])
 
 -- a time's bytes; in a line time 0 has none
 abbrev pub stampText : ℕ → List ℕ

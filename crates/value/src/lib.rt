@@ -7,7 +7,7 @@ use spec::Level;
 use spec::Value;
 
 // The low word of a sample: the sample, plus 2^32 if it is negative.
-fn low_word(x: i32) -> u64
+pub fn low_word(x: i32) -> u64
     ensures { λ r. ⌜ r ≡ lowWord x ⌝ }
     ensures { λ r. ⌜ r < 2 ^ 32 ⌝ }
 {
