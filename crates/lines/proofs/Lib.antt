@@ -3,4 +3,5 @@ pub mod Digits
 pub mod Stamps
 pub mod Cuts
 pub mod Lines
+pub mod Shortest
 pub mod Examples
