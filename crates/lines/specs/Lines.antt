@@ -126,13 +126,19 @@ sampleFor true (suc n) = cond (ltb n (2 ^ 31)) (Sample (negsuc n)) noValue
 abbrev pub eventFor : Bool → Bool → ℕ → Value
 eventFor minus point n = cond (not minus && (not point && ltb n (2 ^ 32))) (Event n) noValue
 
+abbrev pub stateFor : Level → ℕ → Value
+stateFor level code = cond (ltb code (2 ^ 24)) (Condition level code) noValue
+
 -- category 0 reads a decimal as a sample, any other as an event; which of these it takes is `takes`
+abbrev pub decimalFor : ℕ → Bool → Bool → ℕ → ℕ → Value
+decimalFor category minus point whole part =
+    cond (eqb category 0) (sampleFor minus (whole * 1000 + part)) (eventFor minus point whole)
+
 unfoldable pub valueFor : ℕ → Form → Value
 valueFor category Unread = noValue
 valueFor category Missing = Unavailable
-valueFor category (Decimal minus point whole part) =
-    cond (eqb category 0) (sampleFor minus (whole * 1000 + part)) (eventFor minus point whole)
-valueFor category (State level code) = cond (ltb code (2 ^ 24)) (Condition level code) noValue
+valueFor category (Decimal minus point whole part) = decimalFor category minus point whole part
+valueFor category (State level code) = stateFor level code
 
 -- ---- the writer's bytes
 

@@ -1,5 +1,5 @@
-// The C interface: every exported function, thin over the calls of `agent` and `delivery`. include/mtcore.h declares
-// the same.
+// The C interface: every exported function, thin over the calls of `agent`, `delivery`, `line_reading` and
+// `line_writing`. include/mtcore.h declares the same.
 ghost use mathlib.Core.Path.{_≡_};
 ghost use lib.ListN.{take, drop};
 ghost use Rattle.spec.specs.Answers.{answerNumber, answerCount, observeWord, storeWord};
@@ -11,7 +11,7 @@ use spec::Answer;
 use spec::Place;
 use spec::Record;
 
-// The answer of start, request and observe_batch: 0 and k, or the refusal's number and 0.
+// The answer of start, request, observe_batch and write_line: 0 and k, or the refusal's number and 0.
 #[repr(C)]
 pub struct Outcome {
     pub number: u64,
@@ -98,6 +98,47 @@ pub extern "C" fn mtcore_observe_batch(
         ⌝ }
 {
     let answer = delivery::observe_batch(model, names, observations, records, host, answers);
+    outcome_of(answer)
+}
+
+// An adapter line, observed as it reads: line_reading's read_line.
+#[no_mangle]
+pub extern "C" fn mtcore_read_line(
+    model: &[u32],
+    names: &[u8],
+    observations: &mut [u64],
+    line: &[u8],
+    host: u64,
+) -> u64
+    ensures { λ r. ⌜
+        (let x = calls.observeLine (now (model .entry)) (now (names .entry)) (now (observations .entry))
+        (now (line .entry)) host in
+        (r ≡ observeWord (x .answer)) × (now (observations .exit) ≡ x .observations))
+        ⌝ }
+{
+    let answer = line_reading::read_line(model, names, observations, line, host);
+    answers::observe_word(answer)
+}
+
+// The adapter line of an observation, its value given as a word: line_writing's write_line.
+#[no_mangle]
+pub extern "C" fn mtcore_write_line(
+    model: &[u32],
+    names: &[u8],
+    item: u64,
+    time: u64,
+    value: u64,
+    text: &mut [u8],
+) -> Outcome
+    ensures { λ r. ⌜
+        (let x = calls.writeLine (now (model .entry)) (now (names .entry)) item time (decode value)
+        (now (text .entry)) in
+        (r .number ≡ answerNumber (x .answer)) × (r .count ≡ answerCount (x .answer))
+        × (now (text .exit) ≡ x .reply))
+        ⌝ }
+{
+    let v = value::decode(value);
+    let answer = line_writing::write_line(model, names, item, time, v, text);
     outcome_of(answer)
 }
 

@@ -19,7 +19,7 @@ pub fn low_word(x: i32) -> u64
 }
 
 // A level's number.
-fn level_number(l: Level) -> u64
+pub fn level_number(l: Level) -> u64
     ensures { λ r. ⌜ r ≡ levelNumber l ⌝ }
     ensures { λ r. ⌜ r < 3 ⌝ }
 {

@@ -1,0 +1,2 @@
+-- What the proof of write_line uses.
+pub mod Laws
