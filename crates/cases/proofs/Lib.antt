@@ -10,4 +10,5 @@ pub mod Batches
 pub mod Discrete
 pub mod Conditions
 pub mod Polled
+pub mod Lines
 pub mod Refusals

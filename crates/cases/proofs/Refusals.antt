@@ -1,4 +1,4 @@
--- Refusals: each of the eighteen is given by some call, and no call answers 12; a refused call changes nothing. Of
+-- Refusals: each of the twenty is given by some call, and no call answers 12; a refused call changes nothing. Of
 -- whatever inputs.
 use mathlib.Core.Path.{_≡_, refl}
 use mathlib.Core.Bool.{_&&_}
@@ -8,7 +8,7 @@ use lib.IntN.{pos}
 use lib.Dec.{leb, ltb}
 use lib.ListN.{length, replicate}
 use Rattle.spec.specs.Bytes.{bytes}
-use Rattle.spec.specs.Value.{pack}
+use Rattle.spec.specs.Value.{takes, pack}
 use Rattle.spec.specs.Model.{items, category, hasChange, modelOk}
 use Rattle.spec.specs.Text.{readText}
 use Rattle.spec.specs.Path.{select}
@@ -24,6 +24,11 @@ use Rattle.history.specs.Calls.{startBoth, start, observeAll, admitted, batchBy
 use Rattle.history.specs.Calls.{observe, keepBy, keepAsset, storeAsset, unless, inRange, sampleBetween, sampleReply}
 use Rattle.history.specs.Calls.{currentReply, currentUpTo, atReply, cellRows, allCells, cellsReply, findAll}
 use Rattle.history.specs.Calls.{namedReply, answerRequest, answerReading, request}
+use Rattle.history.specs.Calls.{observeItem, observeReading, observeLine, writeLine}
+use Rattle.lines.specs.Stamps.{maxTime}
+use Rattle.lines.specs.Lines.{readLine, valueFor, lineOf}
+use Rattle.lines.specs.declared.Line.{Line}
+use Rattle.lines.specs.declared.Line.the-variants.{Malformed, BadStamp, Reads}
 use Rattle.cases.specs.Bench.{benchModel, benchNames}
 use Rattle.spec.specs.declared.Record.{Record}
 use Rattle.spec.specs.declared.Value.{Value}
@@ -70,6 +75,10 @@ ninthCode =
     let st : List ℕ = 1 ∷ 1 ∷ 1 ∷ 9 ∷ 90 ∷ w 8 ∷ (eightWarnings ++ replicate 24 0) in
     observeWord (observe alarmModel alarmNames st 0 1 1 (Condition Fault 9) .answer) - 2 ^ 63
 
+-- an adapter line of the bench case
+pub readsLine : List ℕ → ℕ
+readsLine line = observeWord (observeLine benchModel benchNames benchStore line 1 .answer) - 2 ^ 63
+
 -- a record of item 0
 abbrev unavailable : Record
 unavailable = record { item = 0; time = 0; value = 0 }
@@ -95,10 +104,14 @@ given =
     ∷ asks (bytes "/sample?from=1")
     ∷ asks (bytes "/sample?from=6")
     ∷ ninthCode
+    ∷ readsLine (bytes "1|5")
+    ∷ readsLine (bytes "2099-02-29T00:00:00.000Z|1|5")
     ∷ []
 
-pub each-given : given ≡ 1 ∷ 2 ∷ 3 ∷ 4 ∷ 5 ∷ 6 ∷ 7 ∷ 8 ∷ 9 ∷ 10 ∷ 11 ∷ 13 ∷ 14 ∷ 15 ∷ 16 ∷ 17 ∷ 18 ∷ 19 ∷ []
-unfolding asksIn asks observes spentObserve ninthCode given opened
+pub each-given :
+    given
+    ≡ 1 ∷ 2 ∷ 3 ∷ 4 ∷ 5 ∷ 6 ∷ 7 ∷ 8 ∷ 9 ∷ 10 ∷ 11 ∷ 13 ∷ 14 ∷ 15 ∷ 16 ∷ 17 ∷ 18 ∷ 19 ∷ 20 ∷ 21 ∷ []
+unfolding asksIn asks observes spentObserve ninthCode readsLine given opened
 each-given = refl
 
 -- ---- a refused call changes nothing
@@ -121,15 +134,34 @@ observe-by : (x : Verdict) (cat : ℕ → ℕ) (m : ℕ) (st : List ℕ) (item t
 observe-by Fine cat m st item time word r q = cc
 observe-by (Against x) cat m st item time word r q = refl
 
-pub observe-keeps : (model names st : List ℕ) (item time host : ℕ) (v : Value) → KeepsObserve st (observe model names st item time host v)
+item-keeps : (model st : List ℕ) (item time : ℕ) (v : Value) → KeepsObserve st (observeItem model st item time v)
+item-keeps model st item time v =
+    item-cases (KeepsObserve st) model st item time v (λ x r q. refl) (λ r q. refl)
+    (λ l.
+    observe-by (roomFor (category model) (items model) st) (category model) (items model) st item time (pack item v))
+
+pub observe-keeps : (model names st : List ℕ) (item time host : ℕ) (v : Value)
+    → KeepsObserve st (observe model names st item time host v)
 unfolding observe
 observe-keeps model names st item time host v =
     by-cond (KeepsObserve st) (modelOk model names) _ _
     (λ a. by-cond (KeepsObserve st) (headOk (items model) st) _ _
-    (λ b. item-cases (KeepsObserve st) model st item (timeOr time host) v (λ x r q. refl) (λ r q. refl)
-    (λ l. observe-by (roomFor (category model) (items model) st) (category model) (items model) st item
-    (timeOr time host) (pack item v)))
-    (λ b r q. refl))
+    (λ b. item-keeps model st item (timeOr time host) v) (λ b r q. refl))
+    (λ a r q. refl)
+
+reading-observed : (model st : List ℕ) (host : ℕ) (l : Line) → KeepsObserve st (observeReading l model st host)
+reading-observed model st host Malformed = λ r q. refl
+reading-observed model st host BadStamp = λ r q. refl
+reading-observed model st host (Reads time item form) =
+    item-keeps model st item (timeOr time host) (valueFor (category model item) form)
+
+pub line-keeps : (model names st text : List ℕ) (host : ℕ)
+    → KeepsObserve st (observeLine model names st text host)
+unfolding observeLine
+line-keeps model names st text host =
+    by-cond (KeepsObserve st) (modelOk model names) _ _
+    (λ a. by-cond (KeepsObserve st) (headOk (items model) st) _ _
+    (λ b. reading-observed model st host (readLine text)) (λ b r q. refl))
     (λ a r q. refl)
 
 abbrev KeepsBatch : List ℕ → List ℕ → Batched → Type 0
@@ -247,6 +279,18 @@ module _ (reply : List ℕ) where
   unfolding answerReading
   reading-keeps model names st bs (unread r) = refuse-keeps r
   reading-keeps model names st bs (asked q) = asked-keeps model names st bs q
+
+  pub write-keeps : (model names : List ℕ) (item time : ℕ) (v : Value)
+      → KeepsReply reply (writeLine model names item time v reply)
+  unfolding writeLine K
+  write-keeps model names item time v =
+      by-cond K (modelOk model names) _ _
+      (λ a. by-cond K (ltb item (items model)) _ _
+      (λ b. by-cond K (takes (category model item) v) _ _
+      (λ c. by-cond K (leb time maxTime) _ _ (λ d. written-keeps _ (lineOf item time v)) (λ d. refuse-keeps _))
+      (λ c. refuse-keeps _))
+      (λ b. refuse-keeps _))
+      (λ a. refuse-keeps _)
 
   pub request-keeps : (model names st bs text : List ℕ) → KeepsReply reply (request model names st bs text reply)
   unfolding request K

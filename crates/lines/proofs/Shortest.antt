@@ -397,7 +397,7 @@ formed-nil (x ∷ s) h = absurd (true≢false (sym h))
 
 -- what has the form of a stamp is the text of its date
 text-of : (s : List ℕ) → formed stampForm s ≡ true → dateText (dateIn s) ≡ s
-unfolding dateText dateIn
+unfolding dateText dateIn fixed
 text-of s h =
     let y = field-at s (drop 5 stampForm) 0 4 45 5 refl refl h in
     let m = field-at s (drop 8 stampForm) 5 2 45 8 refl refl (y .rest) in
