@@ -1,28 +1,37 @@
 -- An adapter line over any stores and in the reference model: one that reads is the observe of its reading, any other
--- is refused and adds nothing; and where the stores stand for the reference model's state, both agree on it.
+-- is refused and adds nothing; where the stores stand for the reference model's state, both agree on it; and a line
+-- that was written reads back to what it was written of.
 use mathlib.Core.Path.{_≡_, refl}
 use mathlib.Core.Bool.{Bool, true, false, cond, _&&_, not}
-use Prim.Native.Nat.{ℕ, zero, suc, _*_, _+_, _^_}
-use mathlib.Core.List.{List, [], _∷_}
-use lib.Dec.{ltb, eqb}
+use Prim.Native.Nat.{ℕ, zero, suc, _*_, _+_, _^_, _<_, _≤_}
+use mathlib.Core.List.{List, [], _∷_, _++_}
+use lib.Dec.{leb, ltb, eqb}
+use lib.ListN.{length, take, drop}
+use lib.Seq.{take-append-seam}
 use native.Mathlib.Omega.{arith}
-use borrow.Author.Tests.{ltb-true}
-use Rattle.spec.specs.Value.{noValue, Fits}
+use borrow.Author.Tests.{ltb-true, leb-true}
+use Rattle.spec.specs.Value.{takes, Fits}
+use Rattle.spec.specs.Reply.{Replied, refuse, over, written}
 use Rattle.spec.specs.Model.{items, category, modelOk}
-use Rattle.lines.specs.Lines.{readLine, sampleFor, eventFor, valueFor}
+use Rattle.lines.specs.Stamps.{maxTime}
+use Rattle.lines.specs.Lines.{readLine, sampleFor, eventFor, valueFor, lineOf}
 use Rattle.lines.specs.declared.Form.{Form}
 use Rattle.lines.specs.declared.Form.the-variants.{Unread, Missing, Decimal, State as Leveled}
 use Rattle.lines.specs.declared.Line.{Line}
 use Rattle.lines.specs.declared.Line.the-variants.{Malformed, BadStamp, Reads}
 use Rattle.history.specs.Observations.{headOk}
-use Rattle.history.specs.Calls.{Observed, observe, observeReading, observeLine}
+use Rattle.history.specs.Calls.{Observed, observe, observeReading, observeLine, writeLine}
 use Rattle.history.specs.Reference.{State, observeAnswer, offersNext, readingAnswer, lineAnswer, readingOffers}
 use Rattle.spec.specs.declared.Value.{Value}
 use Rattle.spec.specs.declared.Value.the-variants.{Sample, Event, Condition}
 use Rattle.spec.specs.declared.ObserveAnswer.{ObserveAnswer}
 use Rattle.spec.specs.declared.ObserveAnswer.the-variants.{Refused as Unrecorded}
-use Rattle.spec.specs.declared.Refusal.the-variants.{Model}
+use Rattle.spec.specs.declared.Answer.the-variants.{Done}
+use Rattle.spec.specs.declared.Refusal.{Refusal}
+use Rattle.spec.specs.declared.Refusal.the-variants.{Model, Item, Kind, Space, Stamp}
 use Rattle.spec.proofs.Words.{by-cond, and-right}
+use Rattle.spec.proofs.Model.{checked}
+use Rattle.lines.proofs.Lines.{formFor, line-back}
 use Rattle.history.proofs.Agree.{Good, observe-agree, right-head}
 
 -- ---- a line's value fits its type, whatever the form says
@@ -87,3 +96,49 @@ module _ (model names : List ℕ) (p : State) (st : List ℕ) (G : Good model na
       (observeLine model names st text host .observations)
   unfolding observeLine lineAnswer
   line-agree text = rw (G .right, right-head model names p st G) (reading-agree (readLine text))
+
+-- ---- a line that was written
+
+-- reading it is the observe of what was written: the same answer and the same store, over any stores and by any host
+-- time
+module _ (model names : List ℕ) (item time : ℕ) (v : Value) (fits : Fits v) (text st : List ℕ) (host : ℕ) where
+  abbrev ReadsBack : Replied → Type 0
+  ReadsBack x = (n : ℕ) → x .answer ≡ Done n
+      → observeLine model names st (take n (x .reply)) host ≡ observe model names st item time host v
+
+  refused-back : (r : Refusal) → ReadsBack (refuse r text)
+  refused-back r n e = cc
+
+  line-read-back : item < 10 ^ 10 → time ≤ maxTime → takes (category model item) v ≡ true
+      → observeLine model names st (lineOf item time v) host ≡ observe model names st item time host v
+  line-read-back hi ht h =
+      let b = line-back (category model item) item time v hi ht h fits in
+      rw (line-observes model names (lineOf item time v) time item (formFor v) (b .line) st host, b .value) refl
+
+  pub written-reads : ReadsBack (writeLine model names item time v text)
+  unfolding writeLine written
+  written-reads =
+      by-cond ReadsBack (modelOk model names) _ _
+      (λ a. by-cond ReadsBack (ltb item (items model)) _ _
+      (λ b. by-cond ReadsBack (takes (category model item) v) _ _
+      (λ c. by-cond ReadsBack (leb time maxTime) _ _
+      (λ d. by-cond ReadsBack (leb (length line) (length text)) _ _
+      (λ e n f. at-front n f (line-read-back (small a b) (leb-true time maxTime d) c))
+      (λ e. refused-back Space))
+      (λ d. refused-back Stamp))
+      (λ c. refused-back Kind))
+      (λ b. refused-back Item))
+      (λ a. refused-back Model)
+    where
+      line : List ℕ
+      line = lineOf item time v
+
+      small : modelOk model names ≡ true → ltb item (items model) ≡ true → item < 10 ^ 10
+      small a b = omega (arith, checked model names a .sizes .m-max, ltb-true item (items model) b)
+
+      at-front : (n : ℕ) → Done (length line) ≡ Done n
+          → observeLine model names st line host ≡ observe model names st item time host v
+          → observeLine model names st (take n (over line text)) host ≡ observe model names st item time host v
+      at-front n f g =
+          let m : n ≡ length line = cc in
+          rw (m, take-append-seam line (drop (length line) text)) g

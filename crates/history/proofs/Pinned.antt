@@ -7,7 +7,8 @@ use mathlib.Core.Bool.{true, false}
 use mathlib.Core.List.{List, [], _∷_, _++_, map}
 use lib.ListN.{replicate}
 use Rattle.spec.specs.Bytes.{pad}
-use Rattle.spec.specs.Answers.{answerNumber}
+use Rattle.spec.specs.Answers.{answerNumber, observeWord}
+use Rattle.lines.specs.declared.Line.the-variants.{Malformed, BadStamp}
 use Rattle.spec.specs.declared.Value.the-variants.{Unavailable}
 use Rattle.spec.specs.declared.Refusal.the-variants.{Late, Early}
 use Rattle.spec.specs.declared.Verdict.the-variants.{Fine, Refused}
@@ -87,3 +88,12 @@ pub forms-asked :
     ≡ (false ∷ true ∷ true ∷ false ∷ []) ∷ replicate 4 true ∷ []
 unfolding opened latestOk
 forms-asked = refl
+
+-- ---- read-line: 20, 21 (document 02, Req 06)
+
+pub lines-told :
+    (map (λ l. observeWord (Calls.observeReading l [] [] 0 .answer)) (Malformed ∷ BadStamp ∷ [])
+    ≡ 9223372036854775828 ∷ 9223372036854775829 ∷ [])
+    × (map (λ l. observeWord (Reference.readingAnswer l [] [] (lastly 1 1))) (Malformed ∷ BadStamp ∷ [])
+    ≡ 9223372036854775828 ∷ 9223372036854775829 ∷ [])
+lines-told = (refl, refl)
