@@ -176,7 +176,8 @@ sample-lacks b x n point dash h = sample-class (λ x. not (eqb x b)) (digit-othe
 number-form : (s : List ℕ) → Lacks 58 s → Lacks 85 s → formOf s ≡ decimalForm s
 unfolding formOf byColon all
 number-form s h k =
-    let other : s ≡ bytes "UNAVAILABLE" → ⊥ = λ e. true≢false (sym k ∙ ap (all (λ x. not (eqb x 85))) e) in
+    let other : s ≡ bytes "UNAVAILABLE" → ⊥ = λ e. true≢false (sym k ∙ ap (all (λ x. not
+    (eqb x 85))) e) in
     rw (split-last 58 s h, same-ne s (bytes "UNAVAILABLE") other)
 
 sample-form : (x : ℤ) → FitsSample x → decimalForm (sampleText x) ≡ formFor (Sample x)
