@@ -17,7 +17,7 @@ use Rattle.lines.specs.declared.Form.the-variants.{Unread, Decimal}
 use Rattle.spec.proofs.Words.{and-left, and-right}
 use Rattle.spec.proofs.Bytes.{parts-pos}
 use Rattle.spec.proofs.Digits.{digits-lack}
-use Rattle.lines.proofs.Cuts.{cut-none, cut-first, one-part, no-more}
+use Rattle.spec.proofs.Cuts.{cut-none, cut-first, one-part, no-more}
 use Rattle.scan.specs.Number.{numberOf}
 use Rattle.scan.specs.declared.Number.{Number}
 use Rattle.scan.specs.declared.Number.the-variants.{Is, Not}

@@ -22,7 +22,7 @@ use Rattle.writer.proofs.Laws.{sets-out}
 use Rattle.line.specs.Written.{textAfter, bytesOf}
 use Rattle.spec.proofs.Words.{and-right}
 use Rattle.spec.proofs.Bytes.{parts-pos}
-use Rattle.lines.proofs.Cuts.{cut-none, cut-first}
+use Rattle.spec.proofs.Cuts.{cut-none, cut-first}
 
 -- ---- stamps
 

@@ -7,7 +7,7 @@ use mathlib.Core.List.{List, [], _∷_, map}
 use lib.IntN.{pos, negsuc}
 use lib.ListN.{length, replicate}
 use Rattle.spec.specs.Bytes.{bytes, all, same, joinFirst, split, digit, digits, valueFrom, isNumber}
-use Rattle.spec.specs.Value.{takes}
+use Rattle.spec.specs.Value.{noValue, takes}
 use Rattle.spec.specs.declared.Level.the-variants.{Normal, Warning, Fault}
 use Rattle.spec.specs.declared.Value.{Value}
 use Rattle.spec.specs.declared.Value.the-variants.{Unavailable, Sample, Event, Condition}
@@ -176,6 +176,16 @@ pub values-given :
     × Value-of 2 Unavailable (bytes "UNAVAILABLE" ∷ [])
 unfolding opened
 values-given = (refl, refl, refl, refl, refl, refl, refl, refl, refl, refl, refl, refl, refl)
+
+-- too large for the kind, or an event with a sign or a point: a value that no item takes
+pub values-too-large :
+    Value-of 0 noValue
+    (bytes "2147483.648" ∷ bytes "-2147483.649" ∷ bytes "4294967.296" ∷ bytes "1234567890.5" ∷ [])
+    × Value-of 1 noValue (bytes "4294967296" ∷ bytes "9999999999" ∷ bytes "-1" ∷ bytes "-0" ∷ bytes "5.0"
+    ∷ [])
+    × Value-of 2 noValue (bytes "FAULT:16777216" ∷ bytes "NORMAL:16777216" ∷ bytes "WARNING:9999999999" ∷ [])
+unfolding opened
+values-too-large = (refl, refl, refl)
 
 -- whether an item of the category takes each of the texts
 abbrev Taken : Bool → ℕ → List (List ℕ) → Type 0

@@ -1,7 +1,6 @@
 -- What is proved of stamps and lines, and worked lines.
 pub mod Digits
 pub mod Stamps
-pub mod Cuts
 pub mod Lines
 pub mod Shortest
 pub mod Examples

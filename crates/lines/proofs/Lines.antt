@@ -1,43 +1,39 @@
--- A written line reads back: the line of an observation gives its item, time and value (Req 06), so no two have one
--- line.
-use Prim.Native.Nat.{ℕ, suc, _+_, _*_, _/_, _%_, _^_, _≤_, _<_}
+-- A written line reads back: the line of an observation gives its item, time and value, so no two have one line; and
+-- what any line that reads can give. Document 02, Req 06.
+use Prim.Native.Nat.{ℕ, zero, suc, _+_, _*_, _/_, _%_, _^_, _≤_, _<_}
 use mathlib.Core.Path.{_≡_, refl, sym, ap, _∙_}
-use mathlib.Core.Bool.{Bool, true, false, cond, not, and-eq-true-iff, true≢false}
+use mathlib.Core.Bool.{Bool, true, false, cond, _&&_, not, and-eq-true-iff, true≢false}
 use mathlib.Core.List.{List, [], _∷_, _++_, append-nil}
 use native.Mathlib.Omega.{arith}
-use lib.Dec.{eqb}
+use lib.Dec.{leb, ltb, eqb}
 use lib.IntN.{ℤ, pos, negsuc}
 use lib.ListN.{length}
-use borrow.Author.Tests.{eqb-true, eqb-false, ltb-true, lt-ltb, ne-eqb}
+use borrow.Author.Tests.{eqb-true, eqb-false, leb-true, ltb-true, lt-ltb, ne-eqb}
 use Rattle.spec.specs.Words.{every}
 use Rattle.spec.specs.Bytes.{bytes, all, same, split, joinFirst, digit, valueFrom, decimal, isNumber}
 use Rattle.lines.specs.Digits.{fixed}
-use Rattle.spec.specs.Value.{nativeOk, takes, FitsSample, Fits}
+use Rattle.spec.specs.Value.{noValue, takes, FitsSample, Fits}
 use Rattle.lines.specs.Stamps.{formed, stampForm, dateIn, realDate, timeOf, dateOf, dateText, maxTime}
 use Rattle.lines.specs.Lines.{numeral, fraction, thousandths, byPoint, decimalForm, levelWord, stateForm}
 use Rattle.lines.specs.Lines.{byColon, formOf, lineIn, byBar, readLine, isRead, stampFormed, stampReal}
-use Rattle.lines.specs.Lines.{timeIn, sampleFor, valueFor, partText, pointText, unsignedText, sampleText}
+use Rattle.lines.specs.Lines.{timeIn, sampleFor, eventFor, valueFor, partText, pointText, unsignedText}
+use Rattle.lines.specs.Lines.{sampleText}
 use Rattle.lines.specs.Lines.{valueText, stampPart, lineOf}
 use Rattle.spec.specs.declared.Level.{Level}
 use Rattle.spec.specs.declared.Level.the-variants.{Normal, Warning, Fault}
 use Rattle.spec.specs.declared.Value.{Value}
 use Rattle.spec.specs.declared.Value.the-variants.{Unavailable, Sample, Event, Condition}
 use Rattle.lines.specs.declared.Form.{Form}
-use Rattle.lines.specs.declared.Form.the-variants.{Missing, Decimal, State}
-use Rattle.lines.specs.declared.Line.the-variants.{Reads}
-use Rattle.spec.proofs.Words.{and-right, every-at}
+use Rattle.lines.specs.declared.Form.the-variants.{Unread, Missing, Decimal, State}
+use Rattle.lines.specs.declared.Line.the-variants.{Malformed, BadStamp, Reads}
+use Rattle.spec.proofs.Words.{and-left, and-right, every-at}
+use Rattle.spec.proofs.Packing.{Coded, taken-coded, cond-fits, no-value-fits}
 use Rattle.spec.proofs.Bytes.{Lacks, all-append, all-imp, split-last, split-more, same-ne}
 use Rattle.spec.proofs.Digits.{Spells, decimal-spells, spelled, digit-other, digits-lack}
-use Rattle.lines.proofs.Stamps.{time-back, date-real, text-class, text-formed, text-back, text-length}
+use Rattle.lines.proofs.Stamps.{time-back, time-max, date-real, text-class, text-formed, text-back}
+use Rattle.lines.proofs.Stamps.{text-length}
 
 -- ---- which values a line can hold
-
--- fields that fit: an i32, a u32, a native code below 2^24
-abbrev pub Coded : Value → Type 0
-Coded Unavailable = Unit {0}
-Coded (Sample x) = FitsSample x
-Coded (Event c) = c < 2 ^ 32
-Coded (Condition l c) = c < 2 ^ 24
 
 -- the category reads such a value: a sample only in 0, an event in any other
 abbrev pub Suits : ℕ → Value → Type 0
@@ -69,6 +65,31 @@ value-back category (Sample (pos n)) s h = rw (s, sample-back false n, lt-ltb n 
 value-back category (Sample (negsuc n)) s h = rw (s, sample-back true (suc n), lt-ltb n (2 ^ 31) h)
 value-back category (Event c) s h = rw (s, lt-ltb c (2 ^ 32) h)
 value-back category (Condition l c) s h = rw (lt-ltb c (2 ^ 24) h)
+
+-- whatever the form, the value's type holds it
+sample-fits : (minus : Bool) (n : ℕ) → Fits (sampleFor minus n)
+sample-fits false n = cond-fits (ltb n (2 ^ 31)) (Sample (pos n)) noValue (ltb-true n (2 ^ 31)) no-value-fits
+sample-fits true zero = omega arith
+sample-fits true (suc n) = cond-fits (ltb n (2 ^ 31)) (Sample (negsuc n)) noValue (ltb-true n (2 ^ 31)) no-value-fits
+
+event-fits : (minus point : Bool) (n : ℕ) → Fits (eventFor minus point n)
+event-fits minus point n =
+    cond-fits (not minus && (not point && ltb n (2 ^ 32))) (Event n) noValue
+    (λ e. ltb-true n (2 ^ 32) (and-right (not point) _ (and-right (not minus) _ e)))
+    no-value-fits
+
+pub value-fits : (category : ℕ) (f : Form) → Fits (valueFor category f)
+unfolding valueFor
+value-fits category Unread = no-value-fits
+value-fits category Missing = tt
+value-fits category (Decimal minus point whole part) =
+    cond-fits (eqb category 0) (sampleFor minus (whole * 1000 + part)) (eventFor minus point whole)
+    (λ e. sample-fits minus (whole * 1000 + part))
+    (event-fits minus point whole)
+value-fits category (State level code) =
+    cond-fits (ltb code (2 ^ 24)) (Condition level code) noValue
+    (λ e. (let l = ltb-true code (2 ^ 24) e in omega arith))
+    no-value-fits
 
 -- ---- numbers
 
@@ -176,7 +197,8 @@ sample-lacks b x n point dash h = sample-class (λ x. not (eqb x b)) (digit-othe
 number-form : (s : List ℕ) → Lacks 58 s → Lacks 85 s → formOf s ≡ decimalForm s
 unfolding formOf byColon all
 number-form s h k =
-    let other : s ≡ bytes "UNAVAILABLE" → ⊥ = λ e. true≢false (sym k ∙ ap (all (λ x. not (eqb x 85))) e) in
+    let other : s ≡ bytes "UNAVAILABLE" → ⊥ = λ e. true≢false (sym k ∙ ap (all (λ x. not
+    (eqb x 85))) e) in
     rw (split-last 58 s h, same-ne s (bytes "UNAVAILABLE") other)
 
 sample-form : (x : ℤ) → FitsSample x → decimalForm (sampleText x) ≡ formFor (Sample x)
@@ -304,12 +326,6 @@ pub record LineBack (category item time : ℕ) (v : Value) (form : Form) : Type 
   pub value : valueFor category form ≡ v
 
 -- what an item takes suits its category
-taken-coded : (category : ℕ) (v : Value) → takes category v ≡ true → Fits v → Coded v
-taken-coded category Unavailable h f = tt
-taken-coded category (Sample x) h f = f
-taken-coded category (Event c) h f = f
-taken-coded category (Condition l c) h f = ltb-true c (2 ^ 24) (and-right (eqb category 2) (nativeOk c) h)
-
 taken-suits : (category : ℕ) (v : Value) → takes category v ≡ true → Suits category v
 taken-suits category Unavailable h = tt
 taken-suits category (Sample x) h = h
@@ -337,3 +353,56 @@ lines-differ category item item′ time time′ v v′ hi hi′ ht ht′ h h′ 
     sym (a .line) ∙ ap readLine e ∙ b .line in
     let g : formFor v ≡ formFor v′ = cc in
     ((cc), (cc), sym (a .value) ∙ ap (valueFor category) g ∙ b .value)
+
+-- ---- what any line that reads gives
+
+-- a time up to the end of 2099 and an item of ten digits
+pub record Bounded (time item : ℕ) : Type 0 where
+  pub time-to : time ≤ maxTime
+  pub item-to : item < 10 ^ 10
+
+stamp-max : (s : List ℕ) → stampReal s ≡ true → timeIn s ≤ maxTime
+stamp-max [] h = omega arith
+stamp-max (x ∷ s) h = time-max (dateIn (x ∷ s)) h
+
+numeral-max : (s : List ℕ) → numeral s ≡ true → valueFrom 0 s < 10 ^ 10
+unfolding isNumber
+numeral-max s h =
+    let k = and-right (leb (length s) 10) _ (and-right (leb 1 (length s)) _ h) in
+    let l = leb-true (valueFrom 0 s) 9999999999 (and-right (all digit s) _ k) in
+    omega arith
+
+module _ (time item : ℕ) (f : Form) where
+  malformed : Malformed ≡ Reads time item f → Bounded time item
+  malformed e = let z : _≡_ {A = ℕ} 0 1 = cc in absurd (omega arith)
+
+  bad-stamp : BadStamp ≡ Reads time item f → Bounded time item
+  bad-stamp e = let z : _≡_ {A = ℕ} 0 1 = cc in absurd (omega arith)
+
+  parts-bounded : (a b : List ℕ) (g : Form) → lineIn a b g ≡ Reads time item f → Bounded time item
+  unfolding lineIn
+  parts-bounded a b g = go (stampFormed a && (numeral b && isRead g)) refl (stampReal a) refl
+    where
+      go : (t : Bool) → stampFormed a && (numeral b && isRead g) ≡ t → (r : Bool) → stampReal a ≡ r
+          → cond t (cond r (Reads (timeIn a) (valueFrom 0 b) g) BadStamp) Malformed ≡ Reads time item f
+          → Bounded time item
+      go false p r q e = malformed e
+      go true p false q e = bad-stamp e
+      go true p true q e =
+          let n = and-left (numeral b) _ (and-right (stampFormed a) _ p) in
+          let x : timeIn a ≡ time = cc in
+          let y : valueFrom 0 b ≡ item = cc in
+          record { time-to = omega (arith, stamp-max a q); item-to = omega (arith, numeral-max b n) }
+
+  bars-bounded : (ps : List (List ℕ)) → byBar ps ≡ Reads time item f → Bounded time item
+  unfolding byBar
+  bars-bounded [] e = malformed e
+  bars-bounded (a ∷ []) e = malformed e
+  bars-bounded (a ∷ b ∷ []) e = malformed e
+  bars-bounded (a ∷ b ∷ c ∷ []) e = parts-bounded a b (formOf c) e
+  bars-bounded (a ∷ b ∷ c ∷ d ∷ ps) e = malformed e
+
+pub reads-bounded : (s : List ℕ) (time item : ℕ) (f : Form) → readLine s ≡ Reads time item f
+    → Bounded time item
+unfolding readLine
+reads-bounded s time item f e = bars-bounded time item f (split 124 s) e

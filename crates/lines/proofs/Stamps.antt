@@ -134,8 +134,7 @@ month-march true m h k = eqb-true _ _ (every-at (marched true) 12 1 m refl h (om
 month-march false m h k = eqb-true _ _ (every-at (marched false) 12 1 m refl h (omega arith))
 
 -- a date in January or February, in a later month of a leap year, and of another year: x days before its month from
--- January on
--- are z from March on
+-- January on are z from March on
 early : (y x z e : ℕ) → 1970 ≤ y → x + 306 ≡ z
     → 365 * (y - 1970) + (y - 1969) / 4 + x + e + 671
     ≡ (y - 1968 - 1) / 4 * 1461 + (365 * ((y - 1968 - 1) % 4) + z + e)
@@ -433,8 +432,7 @@ text-back d h =
 
 -- ---- both ways
 
--- Times up to the last millisecond of 2099 and real dates are back from each other, and a real date from its 24
--- bytes,
+-- Times up to the last millisecond of 2099 and real dates are back from each other, and a real date from its 24 bytes,
 -- which have the form of a stamp.
 pub stamp-back :
     ((t : ℕ) → timeOf (dateOf t) ≡ t)

@@ -39,6 +39,7 @@ realDate d =
 unfoldable pub dayNumber : ℕ → ℕ → ℕ → ℕ
 dayNumber y m d = 365 * (y - 1970) + (y - 1969) / 4 + monthStart (leap y) m + (d - 1)
 
+-- in milliseconds
 unfoldable pub timeOf : Date → ℕ
 timeOf d =
     let minutes = (dayNumber (d .year) (d .month) (d .day) * 24 + d .hour) * 60 + d .minute in
@@ -49,8 +50,7 @@ abbrev pub maxTime : ℕ
 maxTime = 4102444799999
 
 -- Years that begin in March, counted from 1968-03-01, have the leap day at their end: four of them are 1,461 days,
--- and
--- each five of their months 153. Of day r of four such years, from 0 on:
+-- and each five of their months 153. Of day r of four such years, from 0 on:
 
 -- the year, 0 to 3
 abbrev pub cycleYear : ℕ → ℕ

@@ -4,6 +4,7 @@ pub mod Tables
 pub mod Blocks
 pub mod Bits
 pub mod Bytes
+pub mod Cuts
 pub mod Digits
 pub mod Packing
 pub mod Model

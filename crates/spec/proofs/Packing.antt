@@ -157,8 +157,8 @@ word-back category word h =
 
 -- ---- a decoded word fits its type, whatever the word
 
-cond-fits : (t : Bool) (v w : Value) → Fits v → Fits w → Fits (cond t v w)
-cond-fits true v w f g = f
+pub cond-fits : (t : Bool) (v w : Value) → (t ≡ true → Fits v) → Fits w → Fits (cond t v w)
+cond-fits true v w f g = f refl
 cond-fits false v w f g = g
 
 sample-fits : (l : ℕ) (t : Bool) → ltb l (2 ^ 31) ≡ t → FitsSample (sampleOf l)
@@ -168,16 +168,16 @@ sample-fits l false e = rw e (omega (arith, ltb-false l (2 ^ 31) e))
 in-u32 : {c : ℕ} → c < 2 ^ 24 → c < 2 ^ 32
 in-u32 h = omega arith
 
-no-value-fits : Fits noValue
+pub no-value-fits : Fits noValue
 no-value-fits = lit< tt
 
 kind-fits : (k l : ℕ) → l < 2 ^ 32 → Fits (decodeKind k l)
-kind-fits zero l b = cond-fits (eqb l 0) Unavailable noValue tt no-value-fits
+kind-fits zero l b = cond-fits (eqb l 0) Unavailable noValue (λ e. tt) no-value-fits
 kind-fits (suc zero) l b = sample-fits l (ltb l (2 ^ 31)) refl
 kind-fits (suc (suc zero)) l b = b
 kind-fits (suc (suc (suc zero))) l b =
     cond-fits (leb (l / 2 ^ 24) 2) (Condition (levelOf (l / 2 ^ 24)) (l % 2 ^ 24)) noValue
-    (in-u32 (mod-lt l (lit< tt)))
+    (λ e. in-u32 (mod-lt l (lit< tt)))
     no-value-fits
 kind-fits (suc (suc (suc (suc k)))) l b = no-value-fits
 

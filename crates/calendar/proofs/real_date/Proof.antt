@@ -18,7 +18,13 @@ within-requires-3 c κs = search needs
 
 returns : tie.Need-returns
 unfolding realDate
-returns c = cc
+returns c =
+    rw (
+      c .before .before .within .ensures,
+      c .before .within2 .ensures,
+      c .within3 .ensures,
+      c .before .before .before .before .before .before .before .month-length .ensures,
+    )
 
 pub real-date-spec : {M : Type 1} → statement M
 real-date-spec =

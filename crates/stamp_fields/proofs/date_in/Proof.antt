@@ -27,7 +27,16 @@ three-requires c κs = search needs
 
 returns : tie.Need-returns
 unfolding dateIn
-returns c = cc
+returns c =
+    rw (
+      c .before .before .before .before .before .before .four .ensures,
+      c .before .before .before .before .before .two .ensures .0,
+      c .before .before .before .before .two2 .ensures .0,
+      c .before .before .before .two3 .ensures .0,
+      c .before .before .two4 .ensures .0,
+      c .before .two5 .ensures .0,
+      c .three .ensures .0,
+    )
 
 pub date-in-spec : {M : Type 1} → statement M
 date-in-spec =
