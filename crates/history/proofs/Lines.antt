@@ -2,10 +2,10 @@
 -- is refused and adds nothing; where the stores stand for the reference model's state, both agree on it; and a line
 -- that was written reads back to what it was written of.
 use mathlib.Core.Path.{_≡_, refl}
-use mathlib.Core.Bool.{Bool, true, false, cond, _&&_, not}
-use Prim.Native.Nat.{ℕ, zero, suc, _*_, _+_, _^_, _<_, _≤_}
-use mathlib.Core.List.{List, [], _∷_, _++_}
-use lib.Dec.{leb, ltb, eqb}
+use mathlib.Core.Bool.{true, not}
+use Prim.Native.Nat.{ℕ, _^_, _<_, _≤_}
+use mathlib.Core.List.{List}
+use lib.Dec.{leb, ltb}
 use lib.ListN.{length, take, drop}
 use lib.Seq.{take-append-seam}
 use native.Mathlib.Omega.{arith}
@@ -14,47 +14,21 @@ use Rattle.spec.specs.Value.{takes, Fits}
 use Rattle.spec.specs.Reply.{Replied, refuse, over, written}
 use Rattle.spec.specs.Model.{items, category, modelOk}
 use Rattle.lines.specs.Stamps.{maxTime}
-use Rattle.lines.specs.Lines.{readLine, sampleFor, eventFor, valueFor, lineOf}
+use Rattle.lines.specs.Lines.{readLine, valueFor, lineOf}
 use Rattle.lines.specs.declared.Form.{Form}
-use Rattle.lines.specs.declared.Form.the-variants.{Unread, Missing, Decimal, State as Leveled}
 use Rattle.lines.specs.declared.Line.{Line}
 use Rattle.lines.specs.declared.Line.the-variants.{Malformed, BadStamp, Reads}
-use Rattle.history.specs.Observations.{headOk}
 use Rattle.history.specs.Calls.{Observed, observe, observeReading, observeLine, writeLine}
 use Rattle.history.specs.Reference.{State, observeAnswer, offersNext, readingAnswer, lineAnswer, readingOffers}
 use Rattle.spec.specs.declared.Value.{Value}
-use Rattle.spec.specs.declared.Value.the-variants.{Sample, Event, Condition}
 use Rattle.spec.specs.declared.ObserveAnswer.{ObserveAnswer}
-use Rattle.spec.specs.declared.ObserveAnswer.the-variants.{Refused as Unrecorded}
 use Rattle.spec.specs.declared.Answer.the-variants.{Done}
 use Rattle.spec.specs.declared.Refusal.{Refusal}
 use Rattle.spec.specs.declared.Refusal.the-variants.{Model, Item, Kind, Space, Stamp}
-use Rattle.spec.proofs.Words.{by-cond, and-right}
+use Rattle.spec.proofs.Words.{by-cond}
 use Rattle.spec.proofs.Model.{checked}
-use Rattle.lines.proofs.Lines.{formFor, line-back}
+use Rattle.lines.proofs.Lines.{value-fits, formFor, line-back}
 use Rattle.history.proofs.Agree.{Good, observe-agree, right-head}
-
--- ---- a line's value fits its type, whatever the form says
-
-sample-fits : (minus : Bool) (n : ℕ) → Fits (sampleFor minus n)
-sample-fits false n = by-cond Fits (ltb n (2 ^ 31)) _ _ (λ h. ltb-true _ _ h) (λ h. omega arith)
-sample-fits true zero = omega arith
-sample-fits true (suc n) = by-cond Fits (ltb n (2 ^ 31)) _ _ (λ h. ltb-true _ _ h) (λ h. omega arith)
-
-event-fits : (minus point : Bool) (n : ℕ) → Fits (eventFor minus point n)
-event-fits minus point n =
-    by-cond Fits (not minus && (not point && ltb n (2 ^ 32))) _ _
-    (λ h. ltb-true _ _ (and-right (not point) _ (and-right (not minus) _ h))) (λ h. omega arith)
-
-pub value-fits : (cat : ℕ) (form : Form) → Fits (valueFor cat form)
-unfolding valueFor
-value-fits cat Unread = omega arith
-value-fits cat Missing = tt
-value-fits cat (Decimal minus point whole part) =
-    by-cond Fits (eqb cat 0) _ _ (λ h. sample-fits minus (whole * 1000 + part))
-    (λ h. event-fits minus point whole)
-value-fits cat (Leveled level code) =
-    by-cond Fits (ltb code (2 ^ 24)) _ _ (λ h. omega (arith, ltb-true code (2 ^ 24) h)) (λ h. omega arith)
 
 -- ---- over any stores, and in the reference model
 

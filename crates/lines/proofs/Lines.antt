@@ -340,19 +340,19 @@ line-back category item time v hi ht h f =
     let c = taken-coded category v h f in
     record { line = line-reads item time v hi ht c; value = value-back category v (taken-suits category v h) c }
 
--- so two observations of one item with one line are the same: a category reads a line in one way
-pub lines-differ : (category item item′ time time′ : ℕ) (v v′ : Value) → item < 10 ^ 10
+-- so two observations have two lines: from one line follow item and time, and of one category the value
+pub lines-differ : (category category′ item item′ time time′ : ℕ) (v v′ : Value) → item < 10 ^ 10
     → item′ < 10 ^ 10 → time ≤ maxTime → time′ ≤ maxTime
-    → takes category v ≡ true → takes category v′ ≡ true → Fits v → Fits v′
+    → takes category v ≡ true → takes category′ v′ ≡ true → Fits v → Fits v′
     → lineOf item time v ≡ lineOf item′ time′ v′
-    → (item ≡ item′) × (time ≡ time′) × (v ≡ v′)
-lines-differ category item item′ time time′ v v′ hi hi′ ht ht′ h h′ f f′ e =
+    → (item ≡ item′) × (time ≡ time′) × (category ≡ category′ → v ≡ v′)
+lines-differ category category′ item item′ time time′ v v′ hi hi′ ht ht′ h h′ f f′ e =
     let a = line-back category item time v hi ht h f in
-    let b = line-back category item′ time′ v′ hi′ ht′ h′ f′ in
+    let b = line-back category′ item′ time′ v′ hi′ ht′ h′ f′ in
     let l : Reads time item (formFor v) ≡ Reads time′ item′ (formFor v′) =
     sym (a .line) ∙ ap readLine e ∙ b .line in
     let g : formFor v ≡ formFor v′ = cc in
-    ((cc), (cc), sym (a .value) ∙ ap (valueFor category) g ∙ b .value)
+    ((cc), (cc), λ k. sym (a .value) ∙ ap (valueFor category) g ∙ rw (← k) at (b .value))
 
 -- ---- what any line that reads gives
 
