@@ -6,10 +6,11 @@ use borrow.Author.Needs.{needs}
 use mathlib.Core.List.{List}
 use lib.ListN.{getD}
 use lib.Arith.{lt-of-le-ne}
 use Rattle.marks.specs.Marks.{eightAt}
-use Rattle.marks.proofs.Laws.{eight-at, cleared-none, cleared-unused, cleared-last, cleared-out}
-use Rattle.marks.proofs.cleared.Statement.{statement}
-use Rattle.marks.proofs.cleared.Tie as tie
+use Rattle.marks.proofs.Laws.{eight-at}
+use Rattle.changes.proofs.Laws.{cleared-none, cleared-unused, cleared-last, cleared-out}
+use Rattle.changes.proofs.cleared.Statement.{statement}
+use Rattle.changes.proofs.cleared.Tie as tie
 
 -- the eight marks
 abbrev eight : tie.After-find → List ℕ

@@ -4,9 +4,9 @@ use borrow.Author.Needs.{needs}
 use native.Mathlib.Omega.{arith}
 use lib.ListN.{length-set}
 use Prim.Native.Nat.{_-_}
-use Rattle.marks.proofs.Laws.{Moving, moving-none, moving-more, moving-all}
-use Rattle.marks.proofs.take_out.Statement.{statement}
-use Rattle.marks.proofs.take_out.Tie as tie
+use Rattle.eights.proofs.Laws.{Moving, moving-none, moving-more, moving-all}
+use Rattle.eights.proofs.take_out.Statement.{statement}
+use Rattle.eights.proofs.take_out.Tie as tie
 
 abbrev Inv-loop : tie.InvT-loop
 Inv-loop words₀ k j i₀ words i = Moving words₀ k j words i

@@ -2,9 +2,9 @@
 use native.Mathlib.Omega.{arith}
 use lib.ListN.{length-set}
 use borrow.Author.Needs.{needs}
-use Rattle.marks.proofs.Laws.{alone-is}
-use Rattle.marks.proofs.make_alone.Statement.{statement}
-use Rattle.marks.proofs.make_alone.Tie as tie
+use Rattle.eights.proofs.Laws.{alone-is}
+use Rattle.eights.proofs.make_alone.Statement.{statement}
+use Rattle.eights.proofs.make_alone.Tie as tie
 
 mul-words : tie.Need-mul-words
 mul-words c = search needs

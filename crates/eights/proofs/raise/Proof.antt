@@ -1,15 +1,16 @@
 -- Each way out is one way through the definition.
 use mathlib.Core.Bool.{not, false≢true}
 use lib.Seq.{sets}
-use Rattle.marks.specs.Marks.{eightAt, changed}
-use Rattle.marks.specs.Marked.{isFull}
-use Rattle.marks.specs.declared.Change.{Change}
-use Rattle.marks.proofs.Laws.{raised-full, raised-put, put-is}
+use Rattle.marks.specs.Marks.{eightAt}
+use Rattle.changes.specs.Changes.{changed, isFull}
+use Rattle.changes.specs.declared.Change.{Change}
+use Rattle.changes.proofs.Laws.{raised-full, raised-put}
+use Rattle.marks.proofs.Laws.{put-is}
 use native.Mathlib.Omega.{arith}
 use mathlib.Core.Path.{ap, _∙_}
 use borrow.Author.Needs.{needs}
-use Rattle.marks.proofs.raise.Statement.{statement}
-use Rattle.marks.proofs.raise.Tie as tie
+use Rattle.eights.proofs.raise.Statement.{statement}
+use Rattle.eights.proofs.raise.Tie as tie
 
 find-requires : tie.Need-find-requires
 find-requires c κs = search needs

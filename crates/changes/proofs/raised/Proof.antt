@@ -1,9 +1,9 @@
 -- Each way out is one way through the definition.
 use borrow.Author.Needs.{needs}
 use Rattle.marks.specs.Marks.{eightAt}
-use Rattle.marks.proofs.Laws.{raised-full, raised-put}
-use Rattle.marks.proofs.raised.Statement.{statement}
-use Rattle.marks.proofs.raised.Tie as tie
+use Rattle.changes.proofs.Laws.{raised-full, raised-put}
+use Rattle.changes.proofs.raised.Statement.{statement}
+use Rattle.changes.proofs.raised.Tie as tie
 
 find-requires : tie.Need-find-requires
 find-requires c κs = search needs

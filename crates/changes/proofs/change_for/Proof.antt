@@ -8,13 +8,14 @@ use mathlib.Core.List.{List}
 use lib.ListN.{length, getD}
 use borrow.Author.Tests.{not-true, not-false}
 use Rattle.spec.specs.Entries.{active, codeField}
-use Rattle.marks.specs.Marks.{eightAt, keyIn, raisedFor, clearedFor, changeFor, ChangeFits}
-use Rattle.marks.specs.declared.Change.{Change}
-use Rattle.marks.proofs.Keys.{change-fits}
+use Rattle.marks.specs.Marks.{eightAt, keyIn}
+use Rattle.changes.specs.Changes.{raisedFor, clearedFor, changeFor, ChangeFits}
+use Rattle.changes.specs.declared.Change.{Change}
+use Rattle.changes.proofs.Laws.{change-fits, change-first, change-raised}
+use Rattle.changes.proofs.Laws.{change-codeless, change-other, change-cleared}
 use Rattle.marks.proofs.Laws.{eight-length, first-at, key-zero, key-some}
-use Rattle.marks.proofs.Laws.{change-first, change-raised, change-codeless, change-other, change-cleared}
-use Rattle.marks.proofs.change_for.Statement.{statement}
-use Rattle.marks.proofs.change_for.Tie as tie
+use Rattle.changes.proofs.change_for.Statement.{statement}
+use Rattle.changes.proofs.change_for.Tie as tie
 
 -- the change by the definition fits
 fitting : (l : List ℕ) (k own word : ℕ) {h : Change} → k + 8 ≤ length l → h ≡ changeFor own (eightAt l k) word

@@ -1,28 +1,29 @@
 -- The change that eight marks give an observation, against the step of the entries that they are marks of.
 use mathlib.Core.Path.{_≡_, refl, sym, ap, _∙_}
-use mathlib.Core.Bool.{true, false, cond, _&&_, not, true≢false, false≢true}
+use mathlib.Core.Bool.{true, false, _&&_, not, true≢false, false≢true}
 use Prim.Native.Nat.{ℕ, zero, suc, _≤_, _<_}
 use native.Mathlib.Omega.{arith}
 use mathlib.Core.List.{List, [], _∷_, _++_, map, map-append}
-use lib.Dec.{leb, ltb, eqb, eqb·suc-zero}
-use lib.ListN.{length, getD, set, replicate, length-append, length-drop, length-set}
+use lib.Dec.{leb, ltb, eqb}
+use lib.ListN.{length, getD, set, length-append, length-drop, length-set}
 use lib.Seq.{set-out, length-take-le}
-use borrow.Author.Tests.{leb-true, leb-false, eqb-true, eqb-false, ne-eqb, le-ltb, le-leb, lt-leb}
+use borrow.Author.Tests.{leb-true, leb-false, eqb-true, eqb-false, le-ltb, le-leb, lt-leb}
 use borrow.Author.Tests.{not-true, not-false}
 use Rattle.spec.specs.Entries.{active, activeAs, normal, codeField, packed, anyEntry, hasCode, anyActive}
 use Rattle.spec.specs.Entries.{entered, cleared, orAlone, stepActive, step}
 use Rattle.spec.specs.Blocks.{padded, unused}
 use Rattle.spec.proofs.Words.{by-test}
 use Rattle.spec.proofs.Blocks.{length-padded}
-use Rattle.spec.proofs.Steps.{Formed, first-tells}
-use Rattle.marks.specs.Marks.{keyIn, keyOf, placeOf, clearedFor, changeFor, ChangeFits, without, changed}
-use Rattle.marks.specs.Marked.{Marked, isFull}
-use Rattle.marks.specs.declared.Change.{Change}
-use Rattle.marks.specs.declared.Change.the-variants.{Put, Alone, Out, Stay, Full}
-use Rattle.marks.proofs.Keys.{raised-cases}
-use Rattle.marks.proofs.Laws.{cleared-none, cleared-unused, cleared-last, cleared-out}
-pub use Rattle.marks.proofs.Keys.{key-active, key-idle, active-key, idle-key, key-small, key-eqb}
-pub use Rattle.marks.proofs.Keys.{mark-some, mark-key, mark-place, place-max, change-fits}
+use Rattle.spec.proofs.Steps.{Formed}
+use Rattle.marks.specs.Marks.{keyIn, keyOf, placeOf}
+use Rattle.marks.specs.Marked.{Marked}
+use Rattle.marks.proofs.Keys.{key-active}
+use Rattle.marks.proofs.Places.{marked-length, mark-used, mark-free, place-free, place-used, marked-zeros}
+use Rattle.marks.proofs.Places.{place-has, place-none, first-mark}
+use Rattle.changes.specs.Changes.{clearedFor, changeFor, ChangeFits, without, changed, isFull}
+use Rattle.changes.specs.declared.Change.{Change}
+use Rattle.changes.specs.declared.Change.the-variants.{Put, Alone, Out, Stay, Full}
+use Rattle.changes.proofs.Laws.{raised-cases, cleared-none, cleared-unused, cleared-last, cleared-out}
 
 -- ---- a change of each word is the change of the words
 
@@ -62,66 +63,6 @@ codeIn r = codeField (packed r)
 
 abbrev placeFor : List ℕ → List ℕ → ℕ
 placeFor r ms = placeOf (suc (codeIn r)) ms
-
--- ---- places, where the marks are those of entries
-
-module _ (own : ℕ) where
-  pub marked-length : (es : List (List ℕ)) (ms : List ℕ) → Marked own es ms → length es ≤ length ms
-  marked-length [] ms m = omega arith
-  marked-length (e ∷ es) [] m = absurd m
-  marked-length (e ∷ es) (x ∷ xs) m = omega (arith, marked-length es xs (m .2))
-
-  -- the mark of an entry isn't 0; the others are
-  pub mark-used : (es : List (List ℕ)) (ms : List ℕ) (i : ℕ) → Marked own es ms → i < length es → 0 < getD ms i 0
-  mark-used [] ms i m h = absurd (omega arith)
-  mark-used (e ∷ es) [] i m h = absurd m
-  mark-used (e ∷ es) (x ∷ xs) zero m h = m .0
-  mark-used (e ∷ es) (x ∷ xs) (suc i) m h = mark-used es xs i (m .2) (omega arith)
-
-  pub mark-free : (es : List (List ℕ)) (ms : List ℕ) (i : ℕ) → Marked own es ms → length es ≤ i → getD ms i 0 ≡ 0
-  mark-free [] [] i m h = refl
-  mark-free [] (x ∷ xs) zero m h = m .0
-  mark-free [] (x ∷ xs) (suc i) m h = mark-free [] xs i (m .1) (omega arith)
-  mark-free (e ∷ es) [] i m h = refl
-  mark-free (e ∷ es) (x ∷ xs) zero m h = absurd (omega arith)
-  mark-free (e ∷ es) (x ∷ xs) (suc i) m h = mark-free es xs i (m .2) (omega arith)
-
-  place-free : (key x : ℕ) (xs : List ℕ) → x ≡ 0 → placeOf key (x ∷ xs) ≡ 0
-  unfolding placeOf
-  place-free key x xs e = rw e
-
-  pub place-used : (c : ℕ) (e : List ℕ) (x : ℕ) (xs : List ℕ) → 0 < x → keyIn x ≡ keyOf own (packed e)
-      → placeOf (suc c) (x ∷ xs) ≡ cond (activeAs own c (packed e)) 0 (suc (placeOf (suc c) xs))
-  unfolding placeOf
-  place-used c e x xs p k = rw (ne-eqb x 0 (omega arith), k, key-eqb own c (packed e))
-
--- marks of no entries
-pub marked-zeros : (own n : ℕ) → Marked own [] (replicate n 0)
-marked-zeros own zero = tt
-marked-zeros own (suc n) = (refl, marked-zeros own n)
-
-module _ (own c : ℕ) where
-  -- the place of a code that is there is its entry's; of any other, behind the last
-  pub place-has : (es : List (List ℕ)) (ms : List ℕ) → Marked own es ms → hasCode own c es ≡ true
-      → placeOf (suc c) ms < length es
-  unfolding anyEntry
-  place-has [] ms m h = absurd (false≢true h)
-  place-has (e ∷ es) [] m h = absurd m
-  place-has (e ∷ es) (x ∷ xs) m h =
-      by-test (activeAs own c (packed e))
-      (λ t. rw (place-used own c e x xs (m .0) (m .1), t) (omega arith))
-      (λ t. rw (place-used own c e x xs (m .0) (m .1), t) (omega (arith, place-has es xs (m .2) (rw t at h))))
-
-  pub place-none : (es : List (List ℕ)) (ms : List ℕ) → Marked own es ms → hasCode own c es ≡ false
-      → placeOf (suc c) ms ≡ length es
-  unfolding anyEntry
-  place-none [] [] m h = omega (arith, place-max (suc c) [])
-  place-none [] (x ∷ xs) m h = place-free own (suc c) x xs (m .0)
-  place-none (e ∷ es) [] m h = absurd m
-  place-none (e ∷ es) (x ∷ xs) m h =
-      by-test (activeAs own c (packed e))
-      (λ t. absurd (true≢false (rw t at h)))
-      (λ t. rw (place-used own c e x xs (m .0) (m .1), t) (ap suc (place-none es xs (m .2) (rw t at h))))
 
 -- ---- an entry put to its place, or behind the last
 
@@ -240,17 +181,6 @@ some-active : (own : ℕ) (es : List (List ℕ)) → anyActive own es ≡ true �
 unfolding anyEntry
 some-active own [] h = absurd (false≢true h)
 some-active own (e ∷ es) h = omega arith
-
--- the first mark's key tells whether any entry is active
-pub first-mark : (own : ℕ) (es : List (List ℕ)) (ms : List ℕ) → Formed own es → Marked own es ms
-    → eqb (keyIn (getD ms 0 0)) 0 ≡ not (anyActive own es)
-unfolding anyEntry
-first-mark own [] ms f m = rw (mark-free own [] ms 0 m (omega arith))
-first-mark own (e ∷ es) [] f m = absurd m
-first-mark own (e ∷ es) (x ∷ xs) f m =
-    by-test (active own (packed e))
-    (λ a. rw (m .1, key-active own (packed e) a, first-tells own e es f, a) (eqb·suc-zero (codeIn e)))
-    (λ a. rw (m .1, key-idle own (packed e) a, first-tells own e es f, a))
 
 -- where some are active, a Normal of code c
 module _ (own c : ℕ) (es : List (List ℕ)) (ms : List ℕ) (r : List ℕ) (m : Marked own es ms) (l : length ms ≡ 8) where

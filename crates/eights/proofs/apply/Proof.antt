@@ -3,9 +3,9 @@ use native.Mathlib.Omega.{arith}
 use Prim.Native.Nat.{_<_}
 use mathlib.Core.Path.{sym}
 use borrow.Author.Needs.{needs}
 use Rattle.marks.proofs.Laws.{put-is, sets-same}
-use Rattle.marks.proofs.apply.Statement.{statement}
-use Rattle.marks.proofs.apply.Tie as tie
+use Rattle.eights.proofs.apply.Statement.{statement}
+use Rattle.eights.proofs.apply.Tie as tie
 
 place-fits : (c : tie.After-known-told) → c .before .change .given .0 .0 < 8
 place-fits c = rw (c .before .change .given .1) at (c .before .before .before .before .pre .1)
