@@ -1,7 +1,7 @@
 -- The invariant: where blocks are to come, the answer so far and the bytes from `at` on decide the whole, and at most
 -- a block stands behind them; where none are, the answer decides it. The measure is the bytes and the blocks to come.
-use Rattle.model.proofs.CellLaws.{rounds-start, next-round, last-round}
-use Rattle.model.specs.Cells.{block, bytesAt, cellBytes}
+use Rattle.names.proofs.CellLaws.{rounds-start, next-round, last-round}
+use Rattle.names.specs.Cells.{block, bytesAt, cellBytes}
 use mathlib.Core.Bool.{_&&_}
 use borrow.Author.Needs.{needs}
 use native.Mathlib.Nat.{div-add-mod, mod-lt}
@@ -9,8 +9,8 @@ use native.Mathlib.Omega.{arith}
 use lib.ListN.{length}
 use Prim.Native.Nat.{_+_, _-_, _*_, _%_, _≤_, _<_}
 use mathlib.Core.Path.{_≡_, sym}
-use Rattle.model.proofs.cells.cell_bytes.Statement.{statement}
-use Rattle.model.proofs.cells.cell_bytes.Tie as tie
+use Rattle.names.proofs.cell_bytes.Statement.{statement}
+use Rattle.names.proofs.cell_bytes.Tie as tie
 
 abbrev Inv-loop : tie.InvT-loop
 Inv-loop s l n₀ at₀ fine₀ n at fine =

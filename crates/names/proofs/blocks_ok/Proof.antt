@@ -1,7 +1,7 @@
 -- The invariant: the answer so far and the bytes from i on decide the blocks. The measure is how many bytes are left.
-use Rattle.model.proofs.CellLaws.{blocks-start}
+use Rattle.names.proofs.CellLaws.{blocks-start}
 use Rattle.spec.proofs.Words.{every-keep, every-kept}
-use Rattle.model.specs.Cells.{cellByte, bytesAt}
+use Rattle.names.specs.Cells.{cellByte, bytesAt}
 use Rattle.spec.specs.Words.{every}
 use mathlib.Core.Bool.{_&&_}
 use borrow.Author.Needs.{needs}
@@ -9,8 +9,8 @@ use native.Mathlib.Omega.{arith}
 use lib.ListN.{getD}
 use Prim.Native.Nat.{_+_, _-_, _≤_}
 use mathlib.Core.Path.{_≡_}
-use Rattle.model.proofs.cells.blocks_ok.Statement.{statement}
-use Rattle.model.proofs.cells.blocks_ok.Tie as tie
+use Rattle.names.proofs.blocks_ok.Statement.{statement}
+use Rattle.names.proofs.blocks_ok.Tie as tie
 
 abbrev Inv-loop : tie.InvT-loop
 Inv-loop s at n end fine₀ i₀ fine i =

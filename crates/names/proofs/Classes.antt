@@ -16,11 +16,11 @@ use Rattle.spec.proofs.Words.{and-right, and-both, not-so, every-at, every-of}
 use Rattle.spec.proofs.Bytes.{among, table, inside, nameRuns, name-at}
 use Rattle.spec.proofs.Model.{Names, names-of}
 use Rattle.scan.proofs.Classes.{Returns, returns-by}
-use Rattle.model.specs.Cells.{cellByte, cellBytes, follows, zerosLast}
-use Rattle.model.proofs.CellLaws.{name-in-cell, rest-name, names-bytes}
-use Rattle.model.proofs.CellLaws.{cell-is, cell-length, cell-byte-at, bytes-in-cell}
-use Rattle.model.proofs.cells.cell_byte.Symbol.{routine as cell-code}
-use Rattle.model.proofs.cells.cell_byte.Met as cell
+use Rattle.names.specs.Cells.{cellByte, cellBytes, follows, zerosLast}
+use Rattle.names.proofs.CellLaws.{name-in-cell, rest-name, names-bytes}
+use Rattle.names.proofs.CellLaws.{cell-is, cell-length, cell-byte-at, bytes-in-cell}
+use Rattle.names.proofs.cell_byte.Symbol.{routine as cell-code}
+use Rattle.names.proofs.cell_byte.Met as cell
 
 -- ---- the test of a byte
 

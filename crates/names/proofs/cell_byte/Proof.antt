@@ -1,8 +1,8 @@
 -- As the definition says it.
-use Rattle.model.specs.Cells.{cellByte}
+use Rattle.names.specs.Cells.{cellByte}
 use borrow.Author.Needs.{needs}
-use Rattle.model.proofs.cells.cell_byte.Statement.{statement}
-use Rattle.model.proofs.cells.cell_byte.Tie as tie
+use Rattle.names.proofs.cell_byte.Statement.{statement}
+use Rattle.names.proofs.cell_byte.Tie as tie
 
 name-byte-requires : tie.Need-name-byte-requires
 name-byte-requires c κs = search needs

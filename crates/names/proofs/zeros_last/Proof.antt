@@ -1,7 +1,7 @@
 -- The invariant: the answer so far and the pairs from i on decide the whole. The measure is how many pairs are left.
-use Rattle.model.proofs.CellLaws.{last-start}
+use Rattle.names.proofs.CellLaws.{last-start}
 use Rattle.spec.proofs.Words.{every-keep, every-kept}
-use Rattle.model.specs.Cells.{follows, zerosLast}
+use Rattle.names.specs.Cells.{follows, zerosLast}
 use Rattle.spec.specs.Words.{every}
 use mathlib.Core.Bool.{_&&_}
 use borrow.Author.Needs.{needs}
@@ -9,8 +9,8 @@ use native.Mathlib.Omega.{arith}
 use lib.ListN.{length, getD}
 use Prim.Native.Nat.{_+_, _-_, _≤_}
 use mathlib.Core.Path.{_≡_}
-use Rattle.model.proofs.cells.zeros_last.Statement.{statement}
-use Rattle.model.proofs.cells.zeros_last.Tie as tie
+use Rattle.names.proofs.zeros_last.Statement.{statement}
+use Rattle.names.proofs.zeros_last.Tie as tie
 
 abbrev Inv-loop : tie.InvT-loop
 Inv-loop cell last fine₀ i₀ fine i =

@@ -1,10 +1,10 @@
-// The names: cells with a name and then zeros in each. The passes over bytes take no branch by a byte, so that
-// they go over many at once; only a single name, which has no whole block, goes byte by byte.
+// The check of the names: cells with a name and then zeros in each. The passes over bytes take no branch by a byte, so
+// that they go over many at once; only a single name, which has no whole block, goes byte by byte.
 ghost use mathlib.Core.Path.{_≡_};
 ghost use Prim.Native.Nat.{_+_, _*_, _≤_};
 ghost use lib.ListN.{length};
 ghost use Rattle.spec.specs.Model.{namesOk};
-ghost use Rattle.model.specs.Cells.{block, cellByte, bytesAt, cellBytes, follows, zerosLast};
+ghost use Rattle.names.specs.Cells.{block, cellByte, bytesAt, cellBytes, follows, zerosLast};
 
 // The bytes of the most names.
 const MAX_BYTES: usize = spec::NAME_BYTES * spec::MAX_NAMES;
@@ -13,7 +13,7 @@ const MAX_BYTES: usize = spec::NAME_BYTES * spec::MAX_NAMES;
 const BLOCK: usize = 32;
 
 // Whether x may stand in a cell: a byte of a name, or 0.
-pub fn cell_byte(x: u8) -> bool
+fn cell_byte(x: u8) -> bool
     ensures { λ r. ⌜ r ≡ cellByte x ⌝ }
 {
     scan::name_byte(x) | (x == 0)

@@ -2,9 +2,9 @@
 -- left.
 use borrow.Author.Tests.{not-true, not-false}
 use mathlib.Core.Bool.{true, false≢true}
-use Rattle.model.proofs.CellLaws.{cells-fit, cell-at, names-bytes}
-use Rattle.model.proofs.Laws.{no-names, names-start}
-use Rattle.model.specs.Cells.{cellBytes}
+use Rattle.names.proofs.CellLaws.{cells-fit, cell-at, names-bytes}
+use Rattle.names.proofs.Laws.{no-names, names-start}
+use Rattle.names.specs.Cells.{cellBytes}
 use Rattle.spec.specs.Model.{cellOk, nameCell, namesOk}
 use Rattle.spec.specs.Words.{every}
 use Rattle.spec.proofs.Words.{every-no, every-yes, every-end}
@@ -13,8 +13,8 @@ use native.Mathlib.Omega.{arith}
 use lib.ListN.{length}
 use Prim.Native.Nat.{_-_, _≤_}
 use mathlib.Core.Path.{_≡_, sym, _∙_}
-use Rattle.model.proofs.cells.names_ok.Statement.{statement}
-use Rattle.model.proofs.cells.names_ok.Tie as tie
+use Rattle.names.proofs.names_ok.Statement.{statement}
+use Rattle.names.proofs.names_ok.Tie as tie
 
 abbrev Inv-loop : tie.InvT-loop
 Inv-loop names l n k₀ k =

@@ -15,7 +15,7 @@ use Rattle.spec.specs.Bytes.{nameByte}
 use Rattle.spec.specs.Model.{nameBytes, letters, zeros, cellOk, nameCell, nameCount}
 use Rattle.spec.proofs.Words.{and-left, and-right, and-both, same-truth, every-at, every-of}
 use Rattle.spec.proofs.Model.{Names}
-use Rattle.model.specs.Cells.{block, cellByte, bytesAt, cellBytes, follows, zerosLast}
+use Rattle.names.specs.Cells.{block, cellByte, bytesAt, cellBytes, follows, zerosLast}
 
 -- ---- loops
 

@@ -1,7 +1,7 @@
 -- The invariant: the bytes from i on decide the whole. The measure is how many bytes are left.
-use Rattle.model.proofs.CellLaws.{bytes-start}
+use Rattle.names.proofs.CellLaws.{bytes-start}
 use Rattle.spec.proofs.Words.{told, every-no, every-yes, every-end}
-use Rattle.model.specs.Cells.{cellByte, cellBytes}
+use Rattle.names.specs.Cells.{cellByte, cellBytes}
 use Rattle.spec.specs.Words.{every}
 use borrow.Author.Needs.{needs}
 use borrow.Author.Tests.{not-true, not-false}
@@ -9,8 +9,8 @@ use native.Mathlib.Omega.{arith}
 use lib.ListN.{length, getD}
 use Prim.Native.Nat.{_-_, _≤_}
 use mathlib.Core.Path.{_≡_}
-use Rattle.model.proofs.cells.few_ok.Statement.{statement}
-use Rattle.model.proofs.cells.few_ok.Tie as tie
+use Rattle.names.proofs.few_ok.Statement.{statement}
+use Rattle.names.proofs.few_ok.Tie as tie
 
 abbrev Inv-loop : tie.InvT-loop
 Inv-loop s i₀ i = (i ≤ length s) × (cellBytes s ≡ every (λ k. cellByte (getD s k 0)) (length s - i) i)
