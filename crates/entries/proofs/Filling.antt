@@ -22,7 +22,8 @@ use Rattle.spec.proofs.Words.{and-left, and-right, not-so}
 use Rattle.marks.specs.Marks.{markOf, keyOf, eightAt}
 use Rattle.marks.specs.Marked.{Marked}
 use Rattle.marks.proofs.Laws.{eight-at}
-use Rattle.marks.proofs.Steps.{key-small, mark-some, mark-key, marked-zeros}
+use Rattle.marks.proofs.Keys.{key-small, mark-some, mark-key}
+use Rattle.marks.proofs.Places.{marked-zeros}
 use Rattle.entries.specs.Forms.{mayFollow, marksOf, filled}
 use Rattle.entries.specs.declared.Filled.{Filled}
 use Rattle.entries.specs.declared.Filled.the-variants.{Used, Broken}

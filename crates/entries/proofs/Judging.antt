@@ -13,7 +13,7 @@ use Rattle.spec.specs.Entries.{active, normal, codeField, usedRows, formOk, rep
 use Rattle.spec.proofs.Words.{by-test}
 use Rattle.marks.specs.Marks.{keyIn, keyOf, placeOf, eightAt}
 use Rattle.marks.proofs.Laws.{first-at}
-use Rattle.marks.proofs.Steps.{place-max}
+use Rattle.marks.proofs.Keys.{place-max}
 use Rattle.marks.proofs.Repeats.{raised-crowded, raised-new, raised-there, idle-fits, idle-first}
 use Rattle.marks.proofs.Repeats.{normal-none, normal-free, normal-there, all-active, all-idle}
 use Rattle.entries.specs.Forms.{repeatedIf, raisedJudged, clearedJudged, judged}

@@ -14,7 +14,8 @@ use Rattle.spec.specs.Entries.{codesDiffer, formOk}
 use Rattle.spec.proofs.Words.{and-left, by-test}
 use Rattle.marks.specs.Marks.{keyIn, keyOf, placeOf}
 use Rattle.marks.specs.Marked.{Marked}
-use Rattle.marks.proofs.Steps.{key-active, key-idle, place-has, place-none}
+use Rattle.marks.proofs.Keys.{key-active, key-idle}
+use Rattle.marks.proofs.Places.{place-has, place-none}
 use Rattle.entries.specs.Forms.{mayFollow, filled}
 use Rattle.entries.specs.declared.Filled.{Filled}
 use Rattle.entries.specs.declared.Filled.the-variants.{Used, Broken}

@@ -13,7 +13,7 @@ use Rattle.spec.proofs.Words.{and-left, and-right, by-test}
 use Rattle.spec.proofs.Blocks.{Threes}
 use Rattle.marks.specs.Marks.{keyOf}
 use Rattle.marks.specs.Marked.{Marked}
-use Rattle.marks.proofs.Steps.{key-small, mark-some, mark-key}
+use Rattle.marks.proofs.Keys.{key-small, mark-some, mark-key}
 use Rattle.entries.specs.Forms.{marksOf}
 
 pub length-marks : (own place : ℕ) (rs : List (List ℕ)) → length (marksOf own place rs) ≡ length rs

@@ -14,12 +14,13 @@ use Rattle.spec.specs.Blocks.{tableRows, putRows, unused, padded}
 use Rattle.spec.specs.Entries.{packed, usedRows, step, formOk}
 use Rattle.spec.proofs.Blocks.{Threes, padded-threes}
 use Rattle.spec.proofs.Steps.{rows-three, used-three, step-three, used-formed}
-use Rattle.marks.specs.Marks.{ChangeFits, changeFor, changed, eightAt}
-use Rattle.marks.specs.Marked.{Marked, isFull}
-use Rattle.marks.specs.declared.Change.{Change}
-use Rattle.marks.specs.declared.Change.the-variants.{Put, Alone, Out, Stay, Full}
-use Rattle.marks.proofs.Change
-use Rattle.marks.proofs.Steps.{change-full, change-steps, changed-map, length-changed}
+use Rattle.changes.specs.Changes.{ChangeFits, changeFor, changed, isFull}
+use Rattle.marks.specs.Marks.{eightAt}
+use Rattle.marks.specs.Marked.{Marked}
+use Rattle.changes.specs.declared.Change.{Change}
+use Rattle.changes.specs.declared.Change.the-variants.{Put, Alone, Out, Stay, Full}
+use Rattle.changes.proofs.Change
+use Rattle.changes.proofs.Steps.{change-full, change-steps, changed-map, length-changed}
 use Rattle.entries.specs.Forms.{marksOf, takesOne}
 use Rattle.entries.proofs.Columns.{column, length-column, drop-sets, put-columns}
 use Rattle.entries.proofs.Columns.{numbers-read, times-read, words-read}

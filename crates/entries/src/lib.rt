@@ -11,7 +11,7 @@ ghost use Rattle.spec.specs.Entries.{usedRows, step, formOk, eachRow, zeroRow};
 ghost use Rattle.marks.specs.Marks.{eightAt};
 ghost use Rattle.entries.specs.Forms.{Table, mayFollow, marksOf, filled, takesOne, judged};
 ghost use Rattle.entries.specs.Forms.{repeatedIf, raisedJudged, clearedJudged};
-use marks::Change;
+use changes::Change;
 use spec::Value;
 
 // How many of an item's entries are behind its first.
@@ -130,7 +130,7 @@ pub fn takes_one(st: &[u64], w: u64, t: u64, k: u64, own: u64, word: u64) -> boo
     let Filled::Used(_) = fill(st, w, t, k, own, &mut marks, 0) else {
         return false;
     };
-    match marks::change_for(&marks, 0, own, word) {
+    match changes::change_for(&marks, 0, own, word) {
         Change::Full => false,
         _ => true,
     }
@@ -216,9 +216,9 @@ pub fn step(st: &mut [u64], w: u64, t: u64, k: u64, own: u64, number: u64, time:
 {
     let mut marks = [0u64; spec::ENTRY_SLOTS];
     fill(st, w, t, k, own, &mut marks, 0);
-    let change = marks::change_for(&marks, 0, own, word);
+    let change = changes::change_for(&marks, 0, own, word);
     let at = (t + k) as usize;
-    marks::apply(st, at, change, number);
-    marks::apply(st, at + (w as usize), change, time);
-    marks::apply(st, at + (w as usize) + (w as usize), change, word);
+    eights::apply(st, at, change, number);
+    eights::apply(st, at + (w as usize), change, time);
+    eights::apply(st, at + (w as usize) + (w as usize), change, word);
 }

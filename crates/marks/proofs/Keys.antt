@@ -1,19 +1,14 @@
 -- What the other laws rest on: keys of packed words, the parts of a mark, places of keys among marks.
 use mathlib.Core.Path.{_≡_}
-use mathlib.Core.Bool.{true, false, _&&_, _||_, not}
+use mathlib.Core.Bool.{true, false, _||_}
 use Prim.Native.Nat.{ℕ, suc, _^_, _≤_, _<_}
 use native.Mathlib.Omega.{arith}
 use mathlib.Core.List.{List, [], _∷_}
-use lib.Arith.{lt-of-le-ne}
 use lib.Dec.{eqb, eqb·suc-suc, eqb·zero-suc}
-use lib.ListN.{length, getD}
-use borrow.Author.Tests.{eqb-true, eqb-false}
-use Rattle.spec.specs.Entries.{active, activeAs, normal, codeField}
+use lib.ListN.{length}
+use Rattle.spec.specs.Entries.{active, activeAs, codeField}
 use Rattle.spec.proofs.Words.{by-test, by-cond}
 use Rattle.marks.specs.Marks.{markOf, placeIn, keyIn, keyOf, placeOf}
-use Rattle.marks.specs.Marks.{raisedFor, clearedFor, changeFor, ChangeFits}
-use Rattle.marks.specs.declared.Change.{Change}
-use Rattle.marks.specs.declared.Change.the-variants.{Put, Full}
 
 -- ---- keys
 
@@ -67,34 +62,3 @@ place-max key (x ∷ xs) =
     by-cond (λ j. j ≤ suc (length xs)) (eqb x 0 || eqb (keyIn x) key) _ _
     (λ e. omega arith)
     (λ e. omega (arith, place-max key xs))
-
-module _ (ms : List ℕ) (l : length ms ≡ 8) where
-  place-lt : (key : ℕ) → eqb (placeOf key ms) 8 ≡ false → placeOf key ms < 8
-  place-lt key e = lt-of-le-ne (omega (arith, place-max key ms)) (eqb-false (placeOf key ms) 8 e)
-
-  -- a Warning or Fault has a place, or none is left
-  pub raised-cases : (P : Change → Type 0) (key : ℕ) → (placeOf key ms ≡ 8 → P Full)
-      → (placeOf key ms < 8 → P (Put (placeOf key ms))) → P (raisedFor key ms)
-  unfolding raisedFor
-  raised-cases P key full put =
-      by-cond P (eqb (placeOf key ms) 8) _ _ (λ e. full (eqb-true _ 8 e)) (λ e. put (place-lt key e))
-
-  cleared-fits : (key : ℕ) → ChangeFits (clearedFor key ms)
-  unfolding clearedFor
-  cleared-fits key =
-      by-cond ChangeFits (eqb (placeOf key ms) 8) _ _ (λ e. tt)
-      (λ e.
-      by-cond ChangeFits (eqb (getD ms (placeOf key ms) 0) 0) _ _ (λ f. tt)
-      (λ f. by-cond ChangeFits (eqb (getD ms 1 0) 0) _ _ (λ g. tt) (λ g. place-lt key e)))
-
-  -- the places of a change are places of the marks
-  pub change-fits : (own word : ℕ) → ChangeFits (changeFor own ms word)
-  unfolding changeFor
-  change-fits own word =
-      by-cond ChangeFits (eqb (keyIn (getD ms 0 0)) 0) _ _ (λ e. tt)
-      (λ e.
-      by-cond ChangeFits (active own word) _ _ (λ f. raised-cases ChangeFits (keyOf own word) (λ q. tt) (λ q. q))
-      (λ f.
-      by-cond ChangeFits (normal word && not (eqb (codeField word) 0)) _ _
-      (λ g. cleared-fits (suc (codeField word)))
-      (λ g. tt)))

@@ -1,9 +1,9 @@
--- What the code comes to: words that are active or Normal, the place of a key, eight words changed where they stand,
--- and each way through a change.
+-- What the code comes to: words that are active or Normal, the place of a key, and one of eight words written where it
+-- stands.
 use Prim.Native.Nat.{ℕ, zero, suc, _+_, _-_, _*_, _/_, _%_, _^_, _≤_, _<_}
-use mathlib.Core.Path.{_≡_, refl, sym, ap, _∙_}
-use mathlib.Core.Bool.{true, false, cond, _||_, and-false, or-true}
-use mathlib.Core.List.{List, [], _∷_, _++_, append-nil}
+use mathlib.Core.Path.{_≡_, sym, ap, _∙_}
+use mathlib.Core.Bool.{true, false, cond, _||_, or-true}
+use mathlib.Core.List.{List, [], _++_, append-nil}
 use native.Mathlib.Nat.{add-zero, mod-lt}
 use lib.Arith.{mod-mul}
 use native.Mathlib.Numerals.{add-one}
@@ -14,11 +14,9 @@ use lib.Seq.{sets, drop-cons, drop-set-lt, getD-drop, getD-take, drop-drop, leng
 use lib.Seq.{take-take, take-add, drop-at}
 use borrow.Author.Tests.{eq-eqb, ne-eqb, eqb-true, eqb-false}
 use Rattle.spec.specs.Value.{itemOf}
-use Rattle.spec.specs.Entries.{active, normal, codeField, kindField, levelField}
+use Rattle.spec.specs.Entries.{active, normal, kindField, levelField}
 use Rattle.spec.proofs.Words.{by-test}
-use Rattle.marks.specs.Marks.{keyIn, keyOf, eightAt, placeOf, without, aloneWith}
-use Rattle.marks.specs.Marks.{raisedFor, clearedFor, changeFor}
-use Rattle.marks.specs.declared.Change.the-variants.{Put, Alone, Out, Stay, Full}
+use Rattle.marks.specs.Marks.{keyIn, keyOf, eightAt, placeOf}
 use Rattle.marks.proofs.Keys.{active-key, idle-key}
 
 -- ---- words that are active, or Normal
@@ -70,6 +68,14 @@ normal-is word =
     let l : levelField word < 256 = mod-lt (word / 2 ^ 24) (lit< tt) in
     let n : kindField word * 256 + levelField word ≡ 768 → ⊥ = λ e. eqb-false (kindField word) 3 a (omega arith) in
     rw (a, ne-eqb (kindField word * 256 + levelField word) 768 n)))
+
+-- a key that the code has tested
+module _ (own word : ℕ) {key : ℕ} (is : key ≡ keyOf own word) where
+  pub key-zero : key ≡ 0 → active own word ≡ false
+  key-zero z = idle-key own word (sym is ∙ z)
+
+  pub key-some : (key ≡ 0 → ⊥) → active own word ≡ true
+  key-some n = active-key own word (λ z. n (is ∙ z))
 
 -- ---- the place of a key
 
@@ -141,69 +147,6 @@ sets-kept (suc j) l k w h =
 pub sets-same : (j : ℕ) (l : List ℕ) (k : ℕ) → k + j ≤ length l → sets l k (take j (drop k l)) ≡ l
 sets-same j l k h = rw (append-nil (take j (drop k l))) at (sets-kept j l k [] h)
 
--- what a loop that takes out word j of eight knows before word i: l stands now, and o stood
-pub record Moving (o : List ℕ) (k j : ℕ) (l : List ℕ) (i : ℕ) : Type 0 where
-  pub fits : k + 8 ≤ length o
-  pub high : i ≤ 7
-  pub len : length l ≡ length o
-  pub rest : sets o k (without 0 j (eightAt o k)) ≡ sets l (k + i) (drop (suc i) (eightAt o k) ++ (0 ∷ []))
-  pub ahead : drop (k + i) l ≡ drop (k + i) o
-
-pub moving-none : (o : List ℕ) (k j : ℕ) → k + 8 ≤ length o → j < 8 → Moving o k j o j
-moving-none o k j h b =
-    record {
-      fits = h;
-      high = omega arith;
-      len = refl;
-      rest = rw (take-take j 8 (drop k o) (omega arith)) (sets-kept j o k _ (omega arith));
-      ahead = refl;
-    }
-
-module _ {o : List ℕ} {k j : ℕ} {l : List ℕ} {i : ℕ} (r : Moving o k j l i) where
-  -- the word to be moved stands as it stood
-  next-word : i < 7 → getD l (k + i + 1) 0 ≡ getD (eightAt o k) (suc i) 0
-  next-word h =
-      let e : k + suc i ≡ k + i + 1 = omega arith in
-      sym (eight-at o k (suc i) 0 (omega arith)
-      ∙ rw (e, ← getD-drop (k + i) o 1 0, ← r .ahead) (getD-drop (k + i) l 1 0))
-
-  pub moving-more : i < 7 → Moving o k j (set l (k + i) (getD l (k + i + 1) 0)) (i + 1)
-  moving-more h =
-      let x = getD l (k + i + 1) 0 in
-      let q : k + (i + 1) ≡ suc (k + i) = omega arith in
-      let b : suc i < length (eightAt o k) = omega (arith, eight-length o k (r .fits)) in
-      record {
-        fits = r .fits;
-        high = omega arith;
-        len = length-set l (k + i) x ∙ r .len;
-        rest = r .rest ∙ rw (drop-cons (eightAt o k) (suc i) 0 b, ← next-word h, q, add-one i);
-        ahead = rw q (drop-set-lt (suc (k + i)) l (k + i) x (omega arith) ∙ one (r .ahead));
-      }
-    where
-      one : drop (k + i) l ≡ drop (k + i) o → drop (suc (k + i)) l ≡ drop (suc (k + i)) o
-      one a = let q : k + i + 1 ≡ suc (k + i) = omega arith in
-          rw (← q, ← drop-drop 1 (k + i) l, ← drop-drop 1 (k + i) o) (ap (drop 1) a)
-
-  pub moving-all : 7 ≤ i → set l (k + 7) 0 ≡ sets o k (without 0 j (eightAt o k))
-  moving-all h =
-      let e : i ≡ 7 = omega arith in
-      let b : length (eightAt o k) ≤ 8 = omega (arith, eight-length o k (r .fits)) in
-      sym (r .rest ∙ rw (e, drop-of-length-le (eightAt o k) {i = 8} b))
-
--- one word, and seven zeros
-pub alone-is : (l : List ℕ) (k x : ℕ) →
-    let l₃ = set (set (set (set l k x) (k + 1) 0) (k + 2) 0) (k + 3) 0 in
-    set (set (set (set l₃ (k + 4) 0) (k + 5) 0) (k + 6) 0) (k + 7) 0 ≡ sets l k (aloneWith 0 x)
-alone-is l k x =
-    let e₁ : k + 1 ≡ suc k = omega arith in
-    let e₂ : k + 2 ≡ suc (suc k) = omega arith in
-    let e₃ : k + 3 ≡ suc (suc (suc k)) = omega arith in
-    let e₄ : k + 4 ≡ suc (suc (suc (suc k))) = omega arith in
-    let e₅ : k + 5 ≡ suc (suc (suc (suc (suc k)))) = omega arith in
-    let e₆ : k + 6 ≡ suc (suc (suc (suc (suc (suc k))))) = omega arith in
-    let e₇ : k + 7 ≡ suc (suc (suc (suc (suc (suc (suc k)))))) = omega arith in
-    rw (e₁, e₂, e₃, e₄, e₅, e₆, e₇)
-
 -- one of eight words written where it stands
 pub put-is : (l : List ℕ) (k j x : ℕ) → k + 8 ≤ length l → j < 8 → set l (k + j) x ≡ sets l k (set (eightAt l k) j x)
 put-is l k j x h b =
@@ -220,61 +163,3 @@ put-is l k j x h b =
     drop-drop (suc j) k l ∙ rw p (sym (drop-set-lt a l (k + j) x (omega arith))) in
     sym (rw (set-split (eightAt l k) j x s, take-take j 8 d (omega arith)) (sets-kept j l k _ (omega arith)
     ∙ rw (g, t) (sets-same n (set l (k + j) x) a (omega (arith, length-set l (k + j) x)))))
-
--- ---- changes
-
-module _ (key : ℕ) (ms : List ℕ) {j : ℕ} (at : j ≡ placeOf key ms) where
-  pub raised-full : j ≡ 8 → Full ≡ raisedFor key ms
-  unfolding raisedFor
-  raised-full e = rw (eq-eqb (placeOf key ms) 8 (sym at ∙ e))
-
-  pub raised-put : (j ≡ 8 → ⊥) → Put j ≡ raisedFor key ms
-  unfolding raisedFor
-  raised-put f = rw (← at, ne-eqb j 8 f)
-
-  pub cleared-none : j ≡ 8 → Stay ≡ clearedFor key ms
-  unfolding clearedFor
-  cleared-none e = rw (eq-eqb (placeOf key ms) 8 (sym at ∙ e))
-
-  pub cleared-unused : (j ≡ 8 → ⊥) → getD ms j 0 ≡ 0 → Stay ≡ clearedFor key ms
-  unfolding clearedFor
-  cleared-unused f e = rw (← at, ne-eqb j 8 f, e)
-
-  pub cleared-last : (j ≡ 8 → ⊥) → (getD ms j 0 ≡ 0 → ⊥) → getD ms 1 0 ≡ 0 → Alone ≡ clearedFor key ms
-  unfolding clearedFor
-  cleared-last f g e = rw (← at, ne-eqb j 8 f, ne-eqb (getD ms j 0) 0 g, e)
-
-  pub cleared-out : (j ≡ 8 → ⊥) → (getD ms j 0 ≡ 0 → ⊥) → (getD ms 1 0 ≡ 0 → ⊥) → Out j ≡ clearedFor key ms
-  unfolding clearedFor
-  cleared-out f g h = rw (← at, ne-eqb j 8 f, ne-eqb (getD ms j 0) 0 g, ne-eqb (getD ms 1 0) 0 h)
-
--- a key that the code has tested
-module _ (own word : ℕ) {key : ℕ} (is : key ≡ keyOf own word) where
-  pub key-zero : key ≡ 0 → active own word ≡ false
-  key-zero z = idle-key own word (sym is ∙ z)
-
-  pub key-some : (key ≡ 0 → ⊥) → active own word ≡ true
-  key-some n = active-key own word (λ z. n (is ∙ z))
-
-module _ (own : ℕ) (ms : List ℕ) (word : ℕ) where
-  pub change-first : keyIn (getD ms 0 0) ≡ 0 → Alone ≡ changeFor own ms word
-  unfolding changeFor
-  change-first e = rw e
-
-  module _ (some : keyIn (getD ms 0 0) ≡ 0 → ⊥) where
-    pub change-raised : active own word ≡ true → raisedFor (keyOf own word) ms ≡ changeFor own ms word
-    unfolding changeFor
-    change-raised a = rw (ne-eqb (keyIn (getD ms 0 0)) 0 some, a)
-
-    pub change-codeless : active own word ≡ false → codeField word ≡ 0 → Alone ≡ changeFor own ms word
-    unfolding changeFor
-    change-codeless a e = rw (ne-eqb (keyIn (getD ms 0 0)) 0 some, a, e, and-false (normal word))
-
-    pub change-other : active own word ≡ false → normal word ≡ false → Alone ≡ changeFor own ms word
-    unfolding changeFor
-    change-other a e = rw (ne-eqb (keyIn (getD ms 0 0)) 0 some, a, e)
-
-    pub change-cleared : active own word ≡ false → normal word ≡ true → (codeField word ≡ 0 → ⊥)
-        → clearedFor (suc (codeField word)) ms ≡ changeFor own ms word
-    unfolding changeFor
-    change-cleared a e f = rw (ne-eqb (keyIn (getD ms 0 0)) 0 some, a, e, ne-eqb (codeField word) 0 f)

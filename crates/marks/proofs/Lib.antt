@@ -1,5 +1,5 @@
--- The laws that the proofs of marks cite.
+-- The laws that the proofs of marks cite, and of marks beside the entries that they are of.
 pub mod Keys
 pub mod Laws
-pub mod Steps
+pub mod Places
 pub mod Repeats

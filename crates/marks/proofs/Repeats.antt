@@ -18,8 +18,8 @@ use Rattle.spec.proofs.Steps.{holds-code, active-not-normal}
 use Rattle.marks.specs.Marks.{keyIn, keyOf, placeOf}
 use Rattle.marks.specs.Marked.{Marked}
 use Rattle.marks.proofs.Keys.{key-active}
-use Rattle.marks.proofs.Steps.{marked-length, mark-used, mark-free, first-mark}
-use Rattle.marks.proofs.Steps.{place-has, place-none, place-used}
+use Rattle.marks.proofs.Places.{marked-length, mark-used, mark-free, first-mark}
+use Rattle.marks.proofs.Places.{place-has, place-none, place-used}
 
 -- ---- a code by its place
 

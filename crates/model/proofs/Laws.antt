@@ -1,5 +1,5 @@
 -- Laws of the model check over plain variables: each branch of a function is one of them.
-use Prim.Native.Nat.{ℕ, suc, _+_, _-_, _*_, _%_, max, _≤_, _<_}
+use Prim.Native.Nat.{ℕ, suc, _+_, _-_, max, _≤_, _<_}
 use mathlib.Core.Path.{_≡_, sym, _∙_}
 use mathlib.Core.Bool.{Bool, true, false, cond, _&&_}
 use mathlib.Core.List.{List}
@@ -8,16 +8,16 @@ use native.Mathlib.Omega.{arith}
 use lib.Dec.{leb, ltb, eqb}
 use lib.ListN.{length, getD, drop, drop-of-length-le}
 use lib.Seq.{drop-cons}
-use borrow.Author.Tests.{lt-ltb, le-ltb, le-leb, lt-leb, eq-eqb}
+use borrow.Author.Tests.{lt-ltb, le-ltb, le-leb, lt-leb}
 use Rattle.spec.specs.Words.{every, firstWhere, countBelow}
 use Rattle.spec.specs.Bytes.{nameByte}
-use Rattle.spec.specs.Model.{nameBytes, maxNames, letters, cellOk, nameCell, nameCount, namesOk}
+use Rattle.spec.specs.Model.{letters, nameCount, namesOk}
 use Rattle.spec.specs.Model.{parentOf, componentName, categoryOf, componentOf, itemName, assetChange, maxCategory}
 use Rattle.spec.specs.Model.{maxComponents, maxItems, modelWords, components, items, Sizes}
 use Rattle.spec.specs.Model.{componentWord, itemWord, isChange, changeItem}
 use Rattle.spec.specs.Model.{sizesOk, componentOk, itemOk, componentsOk, itemsOk, changesOk, modelOk}
 use Rattle.spec.proofs.Words.{not-so, count-step}
-use Rattle.spec.proofs.Model.{sizes-of, Names, names-of}
+use Rattle.spec.proofs.Model.{sizes-of}
 
 -- ---- a name's length: the rest from byte i on
 
@@ -39,19 +39,6 @@ module _ (s : List ℕ) (i : ℕ) (rest : letters s ≡ i + letters (drop i s)) 
   pub letters-end : length s ≤ i → i ≡ letters s
   unfolding letters
   letters-end h = let k : letters (drop i s) ≡ 0 = rw (drop-of-length-le s h) in omega arith
-
--- ---- names
-
-pub no-names : (names : List ℕ) → (Names names → ⊥) → false ≡ namesOk names
-no-names names h = not-so (namesOk names) (λ e. h (names-of names e))
-
-pub names-start : (names : List ℕ)
-    → 1 ≤ length names → length names ≤ nameBytes * maxNames → length names % nameBytes ≡ 0
-    → namesOk names ≡ every (λ k. cellOk (nameCell names k)) (nameCount names - 0) 0
-unfolding namesOk
-names-start names a b e =
-    let q : nameCount names - 0 ≡ nameCount names = omega arith in
-    rw (le-leb _ _ a, le-leb _ _ b, eq-eqb _ _ e, q)
 
 -- ---- words
 

@@ -6,7 +6,6 @@ ghost use Rattle.spec.specs.Model.{letters, maxComponents, maxItems, components
 ghost use Rattle.spec.specs.Model.{parentOf, componentName, categoryOf, componentOf, itemName};
 ghost use Rattle.spec.specs.Model.{componentWord, itemWord, category, changeItem, modelOk};
 
-mod cells;
 mod checks;
 
 // Where the component words begin; the item words follow them.
@@ -151,7 +150,7 @@ pub fn model_ok(model: &[u32], names: &[u8]) -> bool
     if !checks::sizes_ok(model) {
         return false;
     }
-    if !cells::names_ok(names) {
+    if !names::names_ok(names) {
         return false;
     }
     let count = (names.len() / spec::NAME_BYTES) as u64;

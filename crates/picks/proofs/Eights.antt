@@ -13,11 +13,12 @@ use Rattle.spec.specs.Model.{maxItems}
 use Rattle.spec.specs.Words.{bit}
 use Rattle.spec.proofs.Words.{by-test}
 use Rattle.spec.specs.Entries.{normal, codeField}
-use Rattle.marks.specs.Marks.{markOf, keyIn, keyOf, eightAt, placeOf, raisedFor, clearedFor, changeFor, changed}
-use Rattle.marks.specs.Marked.{isFull}
-use Rattle.marks.specs.declared.Change.{Change}
-use Rattle.marks.proofs.Laws.{eight-length, first-at, key-zero, key-some, change-first, change-raised}
-use Rattle.marks.proofs.Steps.{change-fits, length-changed}
+use Rattle.marks.specs.Marks.{markOf, keyIn, keyOf, eightAt, placeOf}
+use Rattle.changes.specs.Changes.{raisedFor, clearedFor, changeFor, changed, isFull}
+use Rattle.changes.specs.declared.Change.{Change}
+use Rattle.marks.proofs.Laws.{eight-length, first-at, key-zero, key-some}
+use Rattle.changes.proofs.Laws.{change-first, change-raised, change-fits}
+use Rattle.changes.proofs.Steps.{length-changed}
 use Rattle.picks.specs.Pass.{steppedEight, steppedAt, stepped, fits}
 
 -- ---- words of one item, and of the others

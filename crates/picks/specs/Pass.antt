@@ -9,8 +9,8 @@ use lib.Seq.{sets}
 use Rattle.spec.specs.Words.{bit}
 use Rattle.spec.specs.Value.{itemOf}
 use Rattle.history.specs.Observations.{ringSize, base, entry}
-use Rattle.marks.specs.Marks.{markOf, keyOf, eightAt, changeFor, changed}
-use Rattle.marks.specs.Marked.{isFull}
+use Rattle.marks.specs.Marks.{markOf, keyOf, eightAt}
+use Rattle.changes.specs.Changes.{changeFor, changed, isFull}
 use Rattle.rows.specs.Rows.{Run}
 
 -- a condition item's eight behind an entry of its own at a place, by its packed word

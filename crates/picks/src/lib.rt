@@ -71,11 +71,11 @@ fn step_item(i: u64, place: u64, word: u64, marks: &mut [u64]) -> bool
     let mark = marks::mark_of(place, key);
     if key != 0 {
         if marks::key_in(marks[x]) != 0 {
-            return marks::raise(marks, x, key, mark);
+            return eights::raise(marks, x, key, mark);
         }
     }
-    let change = marks::change_for(marks, x, i, word);
-    marks::apply(marks, x, change, mark);
+    let change = changes::change_for(marks, x, i, word);
+    eights::apply(marks, x, change, mark);
     true
 }
 

@@ -17,7 +17,7 @@ use Rattle.history.specs.Observations.{ringSize, checkpointAt, itemRows}
 use Rattle.spec.proofs.Words.{by-test, and-left, and-right, every-no, every-yes, every-end}
 use Rattle.spec.proofs.Steps.{used-formed}
 use Rattle.marks.specs.Marks.{markOf, keyOf, eightAt}
-use Rattle.marks.proofs.Steps.{key-small, mark-place}
+use Rattle.marks.proofs.Keys.{key-small, mark-place}
 use Rattle.entries.specs.Forms.{marksOf, filled}
 use Rattle.entries.specs.declared.Filled.the-variants.{Used}
 use Rattle.entries.proofs.Marks.{length-marks, form-zeros, marks-of}

@@ -17,10 +17,13 @@ use Rattle.history.specs.Observations.{ringSize, base, itemAt, numbered, ringOk
 use Rattle.spec.proofs.Words.{by-test, not-so, every-at, every-of, and-left, and-right}
 use Rattle.spec.proofs.Steps.{Formed, step-formed}
 use Rattle.history.proofs.Pass.{nine-ends}
-use Rattle.marks.specs.Marks.{markOf, placeIn, keyOf, eightAt, changeFor, changed}
-use Rattle.marks.specs.Marked.{Marked, isFull}
-use Rattle.marks.proofs.Steps.{changed-map, change-full, change-steps, marked-change, change-fits}
-use Rattle.marks.proofs.Steps.{marked-length, length-changed, key-small, mark-place, mark-key}
+use Rattle.marks.specs.Marks.{markOf, placeIn, keyOf, eightAt}
+use Rattle.changes.specs.Changes.{changeFor, changed, isFull}
+use Rattle.marks.specs.Marked.{Marked}
+use Rattle.changes.proofs.Steps.{changed-map, change-full, change-steps, marked-change, length-changed}
+use Rattle.changes.proofs.Laws.{change-fits}
+use Rattle.marks.proofs.Places.{marked-length}
+use Rattle.marks.proofs.Keys.{key-small, mark-place, mark-key}
 use Rattle.snapshot_rows.specs.Held.{rowOf, usedPlaces}
 use Rattle.picks.specs.Pass.{steppedEight, steppedOk, wordOf, numberStepped, passMarks, passOk}
 use Rattle.picks.proofs.Eights.{eight-stepped, length-all-stepped}

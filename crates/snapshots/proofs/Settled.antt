@@ -16,7 +16,7 @@ use Rattle.history.specs.Observations.{ringSize, base, itemAt, numbered, checkp
 use Rattle.spec.proofs.Words.{by-test}
 use Rattle.marks.specs.Marks.{markOf, eightAt}
 use Rattle.marks.proofs.Laws.{put-is, eight-length}
-use Rattle.marks.proofs.Steps.{mark-place}
+use Rattle.marks.proofs.Keys.{mark-place}
 use Rattle.snapshot_rows.specs.Held.{rowOf, usedPlaces}
 use Rattle.picks.specs.Pass.{wordOf, seenFrom}
 use Rattle.snapshots.specs.Snapshots.{plainPlace, settled}

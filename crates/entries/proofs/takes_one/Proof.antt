@@ -1,6 +1,6 @@
 -- The change is Full exactly where the step has nine.
 use Rattle.spec.specs.Blocks.{tableRows}
-use Rattle.marks.specs.Marked.{isFull}
+use Rattle.changes.specs.Changes.{isFull}
 use Rattle.entries.proofs.Laws.{filled-broken}
 use Rattle.entries.proofs.Filling.{FilledBy, filled-by, rows-many}
 use Rattle.entries.proofs.Stepping.{takes-broken, takes-by, not-full}

@@ -1,0 +1,3 @@
+-- The laws that the proofs of changes cite.
+pub mod Laws
+pub mod Steps

@@ -1,0 +1,2 @@
+-- The laws that the proofs of eights cite.
+pub mod Laws
