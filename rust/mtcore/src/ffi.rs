@@ -12,7 +12,8 @@ use core::ptr;
 pub struct Answer {
     /// 0, or the refusal's number.
     pub number: u64,
-    /// The number of a request's rows or of a delivery's records; 0 for a start and for a refusal.
+    /// The number of a request's rows, of a delivery's records or of a line's bytes; 0 for a start and for a
+    /// refusal.
     pub count: u64,
 }
 
