@@ -195,6 +195,39 @@ pub fn observe_batch<'a>(
     words.map(Answers::read).ok_or(Refusal::Unknown { number: 0 })
 }
 
+/// Observes what an adapter line says, as [`observe`] does it.
+///
+/// # Errors
+///
+/// In this order: [`Refusal::Model`], [`Refusal::Store`], 20 for a malformed line, 21 for a date that there is
+/// not, and then those of [`observe`] from [`Refusal::Item`] on.
+pub fn read_line(
+    model: &[u32],
+    names: &[u8],
+    observations: &mut [u64],
+    line: &[u8],
+    host: u64,
+) -> Result<Observed, Refusal> {
+    Observed::from_word(ffi::read_line(model, names, observations, line, host))
+}
+
+/// Writes the adapter line that reads as an item's value at a time, and answers its bytes.
+///
+/// # Errors
+///
+/// In this order: [`Refusal::Model`], [`Refusal::Item`], [`Refusal::Kind`], 21 for a time after 2099,
+/// [`Refusal::Space`].
+pub fn write_line(
+    model: &[u32],
+    names: &[u8],
+    item: u64,
+    time: u64,
+    value: Value,
+    text: &mut [u8],
+) -> Result<u64, Refusal> {
+    done(ffi::write_line(model, names, item, time, value.word(), text))
+}
+
 /// Stores an asset as the newest and answers its cell.
 ///
 /// The asset with its id is removed, or, if there is none and every cell is in use, the one that was

@@ -210,7 +210,7 @@ mod value;
 pub use agent::{Agent, LentAgent};
 pub use batch::{Answers, Record};
 pub use builder::ModelBuilder;
-pub use calls::{body, observe, observe_batch, request, start, store_asset, Observed};
+pub use calls::{body, observe, observe_batch, read_line, request, start, store_asset, write_line, Observed};
 pub use cells::{cell_body, cell_id};
 pub use model::{component_word, item_word, names, Category, Component, Model, ModelError};
 pub use refusal::Refusal;
