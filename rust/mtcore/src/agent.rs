@@ -125,12 +125,12 @@ where
         sample.max(current).max(assets_words(cells))
     }
 
-    /// Writes an observation as an adapter's line, see [`write_line`](crate::write_line). Only the model is
-    /// asked, not what is recorded.
+    /// Writes an observation as an adapter's line, see [`Model::write_line`]. Only the model is asked, not what
+    /// is recorded.
     ///
     /// # Errors
     ///
-    /// As [`write_line`](crate::write_line).
+    /// As [`Model::write_line`].
     pub fn write_line<'t>(
         &self,
         item: u64,
@@ -138,7 +138,7 @@ where
         value: Value,
         text: &'t mut [u8],
     ) -> Result<&'t [u8], Refusal> {
-        calls::write_line(self.model.words(), self.model.names(), item, time, value, text)
+        self.model.write_line(item, time, value, text)
     }
 
     /// An asset's body, see [`body`](crate::body).

@@ -252,13 +252,14 @@ pub fn read_line(
     Observed::from_word(ffi::read_line(model, names, observations, line, host))
 }
 
-/// Writes an observation as a line and gives the line, which is the front of `text`; bytes behind it stay as
-/// they were. [`read_line`] reads it back to this item, time and value. It takes no store: whether the item
-/// has the value, or ever had it, is not asked.
+/// Writes an observation as a line to the front of `text` and tells its bytes; those behind it stay as they
+/// were. [`read_line`] reads it back to this item, time and value. It takes no store: whether the item has the
+/// value, or ever had it, is not asked.
 ///
 /// The stamp is empty for time 0. There is no needless zero and no needless point, and no line feed at the
-/// end. [`LINE_BYTES`](crate::LINE_BYTES) are always enough for the text. [`Line`](crate::Line) prints the
-/// same where there is no model to hold the value against.
+/// end. [`LINE_BYTES`](crate::LINE_BYTES) are always enough for the text.
+/// [`Model::write_line`](crate::Model::write_line) gives the line itself, and [`Line`](crate::Line) prints it
+/// where there is no model to hold the value against.
 ///
 /// # Errors
 ///
@@ -266,33 +267,29 @@ pub fn read_line(
 /// value), [`Refusal::Stamp`] (a time above [`MAX_STAMP`](crate::MAX_STAMP)), [`Refusal::Space`]. Nothing is
 /// written then.
 ///
-/// (Where an archive of another version counts more bytes than the text has: [`Refusal::Unknown`] with number
-/// 0.)
-///
 /// ```
 /// # let (model, names) = ([1, 3, 0, 131_072, 1, 65_538], mtcore::names(["SYSTEM", "POSITION", "MODE"]).unwrap());
 /// # let names = names.as_flattened();
 /// use mtcore::{Level, Refusal, Value, LINE_BYTES};
 /// let mut text = [0; LINE_BYTES];
 /// // Item 0 is a condition, item 1 a sample, item 2 an event.
-/// let line = mtcore::write_line(&model, &names, 1, 1_789_365_600_250, Value::Sample(-500), &mut text)?;
-/// assert_eq!(line, b"2026-09-14T06:00:00.250Z|1|-0.5");
+/// let bytes = mtcore::write_line(&model, &names, 1, 1_789_365_600_250, Value::Sample(-500), &mut text)?;
+/// assert_eq!(&text[..bytes as usize], b"2026-09-14T06:00:00.250Z|1|-0.5");
 /// let fault = Value::Condition(Level::Fault, 504);
-/// assert_eq!(mtcore::write_line(&model, &names, 0, 0, fault, &mut text)?, b"|0|FAULT:504");
+/// assert_eq!(mtcore::write_line(&model, &names, 0, 0, fault, &mut text), Ok(12));
+/// assert_eq!(&text[..12], b"|0|FAULT:504");
 /// assert_eq!(mtcore::write_line(&model, &names, 2, 0, fault, &mut text), Err(Refusal::Kind));
 /// # Ok::<(), Refusal>(())
 /// ```
-pub fn write_line<'a>(
+pub fn write_line(
     model: &[u32],
     names: &[u8],
     item: u64,
     time: u64,
     value: Value,
-    text: &'a mut [u8],
-) -> Result<&'a [u8], Refusal> {
-    let count = done(ffi::write_line(model, names, item, time, value.word(), text))?;
-    let line = usize::try_from(count).ok().and_then(|count| text.get(..count));
-    line.ok_or(Refusal::Unknown { number: 0 })
+    text: &mut [u8],
+) -> Result<u64, Refusal> {
+    done(ffi::write_line(model, names, item, time, value.word(), text))
 }
 
 /// Stores an asset as the newest and answers its cell.

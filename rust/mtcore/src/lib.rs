@@ -136,8 +136,8 @@
 //!   [`body`] take them as slices each time.
 //! * [`observe_batch`] records what a scan found together in one call: [`Record`]s go in, [`Answers`] come
 //!   out.
-//! * [`read_line`] records what an adapter's line says, [`write_line`] makes such a line, and [`Line`] prints
-//!   one without a model.
+//! * [`read_line`] records what an adapter's line says, [`Model::write_line`] makes such a line, and [`Line`]
+//!   prints one without a model.
 //! * [`request`] says what each request text means, with examples.
 //! * [`observe`] says how conditions are raised and cleared, several on one item.
 //! * [`Reply`], [`Observations`] and [`Assets`] take a reply apart; [`cell_id`] and [`cell_body`] lead from

@@ -220,7 +220,7 @@ fn lines_are_refused_in_order() {
     assert_eq!(read(model.words(), &good, "|9|1.5"), Err(Refusal::Item));
     assert_eq!(read(model.words(), &good, "|1|1.5"), Err(Refusal::Kind));
     let written = |words: &[u32], item, time, value| {
-        mtcore::write_line(words, model.names(), item, time, value, &mut []).map(<[u8]>::len)
+        mtcore::write_line(words, model.names(), item, time, value, &mut [])
     };
     let late = MAX_STAMP + 1;
     assert_eq!(written(&[9; 8], 9, late, Value::Event(1)), Err(Refusal::Model));
