@@ -1,7 +1,8 @@
 /* Tries every helper of mtcore.h, as C and as C++: what goes in comes out again, and what isn't there gives
  * nothing. So does a delivery, whose records are a struct that the header lays out, a discrete item counts its equal
- * values, a condition item holds eight codes, a request beside the numbers held is late or early, and a box goes on
- * from stores of layout 1. Prints the number of trials, or the first that fails. */
+ * values, a condition item holds eight codes, a request beside the numbers held is late or early, lines are read and
+ * written up to the bounds of their sizes and times, and a box goes on from stores of layout 1. Prints the number of
+ * trials, or the first that fails. */
 #include <inttypes.h>
 #include <stdio.h>
 #include <string.h>
@@ -249,6 +250,84 @@ static void try_discrete(void) {
     HOLDS(row_of(4).number == before + counted && row_of(4).time == 9);
 }
 
+static uint64_t read_line(const char *line) {
+    return mtcore_read_line(MODEL, observations, COUNT(observations), (const uint8_t *)line, strlen(line), 11);
+}
+
+/* whether the line of an observation is this, fills its room, and has none in a byte less */
+static int writes(uint64_t item, uint64_t time, uint64_t value, const char *line) {
+    uint8_t text[MTCORE_LINE_BYTES + 1];
+    size_t length = strlen(line), room;
+    int right = 1;
+    for (room = 0; room <= sizeof text; room++) {
+        mtcore_answer r;
+        size_t kept = room < length ? 0 : length;
+        memset(text, '#', sizeof text);
+        r = mtcore_write_line(MODEL, item, time, value, text, room);
+        right = right && r.number == (room < length ? (uint64_t)MTCORE_SPACE : 0) && r.count == kept;
+        right = right && memcmp(text, line, kept) == 0;
+        for (; kept < sizeof text; kept++)
+            right = right && text[kept] == '#';
+    }
+    return right;
+}
+
+/* the refusal of a line, or 0; with this room nothing else is short */
+static uint64_t written(uint64_t item, uint64_t time, uint64_t value) {
+    uint8_t text[MTCORE_LINE_BYTES];
+    return mtcore_write_line(MODEL, item, time, value, text, sizeof text).number;
+}
+
+static void try_written_lines(void) {
+    const uint64_t widest = mtcore_condition(MTCORE_WARNING, 0xffffff);
+    HOLDS(writes(1, 0, mtcore_sample(5000), "|1|5") && writes(4, 0, MTCORE_UNAVAILABLE, "|4|UNAVAILABLE"));
+    HOLDS(writes(1, 1, mtcore_sample(-1), "1970-01-01T00:00:00.001Z|1|-0.001"));
+    HOLDS(writes(1, MTCORE_MAX_STAMP, mtcore_sample(INT32_MIN), "2099-12-31T23:59:59.999Z|1|-2147483.648"));
+    HOLDS(writes(2, MTCORE_MAX_STAMP, widest, "2099-12-31T23:59:59.999Z|2|WARNING:16777215"));
+    HOLDS(writes(0, 0, mtcore_event(UINT32_MAX), "|0|4294967295"));
+    HOLDS(written(2, MTCORE_MAX_STAMP + 1, widest) == MTCORE_STAMP && written(2, UINT64_MAX, widest) == MTCORE_STAMP);
+    HOLDS(written(1, MTCORE_MAX_STAMP + 1, widest) == MTCORE_KIND && written(3, 0, MTCORE_UNAVAILABLE) == MTCORE_KIND);
+    HOLDS(written(ITEMS, MTCORE_MAX_STAMP + 1, widest) == MTCORE_ITEM);
+}
+
+/* the longest line that there is: of item 63, the last that a model can have */
+static void try_longest_line(void) {
+    static uint32_t wide[2 + 1 + 64];
+    uint8_t text[MTCORE_LINE_BYTES];
+    size_t item;
+    mtcore_answer r;
+    wide[0] = 1;
+    wide[1] = 64;
+    for (item = 0; item < 64; item++)
+        wide[3 + item] = MTCORE_DATA_ITEM(MTCORE_CATEGORY_CONDITION, 0, 3);
+    r = mtcore_write_line(wide, COUNT(wide), names, sizeof name_texts, 63, MTCORE_MAX_STAMP,
+                          mtcore_condition(MTCORE_WARNING, 0xffffff), text, sizeof text);
+    HOLDS(r.number == 0 && r.count == MTCORE_LINE_BYTES);
+}
+
+/* what is refused leaves the store; time 0 is the host's, which is 11 here */
+static void try_read_lines(void) {
+    static const char longest[] = "2099-12-31T23:59:59.999Z|0000000002|WARNING:0000000007";
+    static uint64_t kept[COUNT(observations)];
+    char longer[sizeof longest + 1];
+    snprintf(longer, sizeof longer, "%s0", longest);
+    memcpy(kept, observations, sizeof kept);
+    HOLDS(read_line("") == MTCORE_REFUSED + MTCORE_LINE && read_line("|1|5.") == MTCORE_REFUSED + MTCORE_LINE);
+    HOLDS(read_line("|1|5\r") == MTCORE_REFUSED + MTCORE_LINE && read_line("|1|5\n") == MTCORE_REFUSED + MTCORE_LINE);
+    HOLDS(strlen(longer) == MTCORE_MAX_LINE + 1 && read_line(longer) == MTCORE_REFUSED + MTCORE_LINE);
+    HOLDS(read_line("2026-02-30T06:00:00.000Z|9|5") == MTCORE_REFUSED + MTCORE_STAMP);
+    HOLDS(read_line("2100-01-01T00:00:00.000Z|1|5") == MTCORE_REFUSED + MTCORE_STAMP);
+    HOLDS(read_line("|9|5") == MTCORE_REFUSED + MTCORE_ITEM && read_line("|0|-5") == MTCORE_REFUSED + MTCORE_KIND);
+    HOLDS(memcmp(kept, observations, sizeof kept) == 0);
+    HOLDS(strlen(longest) == MTCORE_MAX_LINE && mtcore_refusal_of(read_line(longest)) == 0);
+    HOLDS(row_of(2).time == MTCORE_MAX_STAMP && mtcore_code_of(row_of(2).packed) == 7);
+    HOLDS(mtcore_refusal_of(read_line("|1|-0.5")) == 0 && mtcore_sample_of(packed_of(1)) == -500);
+    HOLDS(row_of(1).time == 11 && read_line("|1|-0.500") == MTCORE_SAME);
+    HOLDS(mtcore_refusal_of(read_line("1970-01-01T00:00:00.000Z|1|2")) == 0 && row_of(1).time == 11);
+    HOLDS(mtcore_refusal_of(read_line("1970-01-01T00:00:00.001Z|1|3")) == 0 && row_of(1).time == 1);
+    HOLDS(mtcore_refusal_of(read_line("2099-12-31T23:59:59.999Z|4|3")) == 0 && row_of(4).time == MTCORE_MAX_STAMP);
+}
+
 /* how start answers a model of two items of these categories, and no stores */
 static uint64_t start_with(uint32_t one, uint32_t other) {
     const uint32_t two[] = {1, 2, MTCORE_COMPONENT(0, 0), MTCORE_DATA_ITEM(one, 0, 1), MTCORE_DATA_ITEM(other, 0, 2)};
@@ -350,6 +429,9 @@ int main(void) {
     try_batch();
     try_conditions();
     try_late_and_early();
+    try_written_lines();
+    try_longest_line();
+    try_read_lines();
     try_cells();
     try_layout_one();
     try_damaged_cells();

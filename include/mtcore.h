@@ -1,5 +1,5 @@
 /*
- * mtcore.h - the core of an MTConnect agent: observations, tool records (assets) and requests.
+ * mtcore.h - the core of an MTConnect agent: observations, adapter lines, tool records (assets) and requests.
  *
  * Link with libmtcore.a (x86-64 Linux). It wants memcpy, memmove and memset at link time and nothing else: any C
  * library has them, and a host without one brings its own three. The core has no heap, no threads, no global state:
@@ -10,11 +10,12 @@
  * - A buffer is a pointer and its length in elements (not bytes). The pointer is aligned for its element:
  *   4 bytes for uint32_t, 8 for uint64_t and mtcore_record. It may be NULL only if the length is 0.
  * - No two buffers of one call overlap, unless the call only reads both.
- * - A refusal changes nothing: no store, no reply, no answers. It is tested for before anything is written.
+ * - A refusal changes nothing: no store, no reply, no answers, no text. It is tested for before anything is written.
  *   Every input is answered, right or wrong; no call traps, loops for ever or reads outside the buffers.
- * - mtcore_start, mtcore_observe, mtcore_observe_batch and mtcore_store_asset write the stores: while one of
- *   them runs, no other call may use the same stores. That lock is the caller's. mtcore_request and mtcore_body
- *   only read the stores: any number of them may run side by side, each with its own reply buffer.
+ * - mtcore_start, mtcore_observe, mtcore_observe_batch, mtcore_read_line and mtcore_store_asset write the stores:
+ *   while one of them runs, no other call may use the same stores. That lock is the caller's. mtcore_request and
+ *   mtcore_body only read the stores: any number of them may run side by side, each with its own reply buffer.
+ *   mtcore_write_line takes no store, and runs beside every call.
  * - The stores hold no pointers. Between calls they may be saved, copied and restored bytewise, also in
  *   another process, and used on without a start. Nobody else should write them: MTCORE_STORE sees a wrong
  *   head, length, item of a ring entry, form of a condition item's entries or length of a body, and no other
@@ -42,7 +43,7 @@ extern "C" {
 /* MAJOR moves where a host has to look at its own code, MINOR where something was added: CHANGELOG.md. Header and
  * archive are taken from the same version; the archive does not hold a number of its own. */
 #define MTCORE_VERSION_MAJOR 3
-#define MTCORE_VERSION_MINOR 0
+#define MTCORE_VERSION_MINOR 1
 
 /* Moves where the form of a store or of the model does. Saved stores outlive a version: save this number beside
  * them, and start anew where it differs, since refusal 2 need not see another form. docs/HOST.md, "Stores of layout
@@ -67,19 +68,21 @@ enum mtcore_refusal {
     MTCORE_INVALID_XPATH = 11,   /* text: path of another form or unknown type; the second form without items */
     MTCORE_ASSET_NOT_FOUND = 13, /* text: an id isn't stored */
     MTCORE_ASSET = 14,           /* id or body break their rules */
-    MTCORE_SPACE = 15,           /* the buffer for the reply, or for the answers, is too short */
+    MTCORE_SPACE = 15,           /* the buffer for the reply, for the answers or for the line is too short */
     MTCORE_BATCH = 16,           /* more records than one delivery may have */
     MTCORE_LATE = 17,            /* text: from (not 0) or at is below first, the lowest number held */
     MTCORE_EARLY = 18,           /* text: from is above last + 1, or at above last, the newest number */
-    MTCORE_CROWDED = 19          /* a ninth native code for a condition item that has eight active */
+    MTCORE_CROWDED = 19,         /* a ninth native code for a condition item that has eight active */
+    MTCORE_LINE = 20,            /* line: not of the form stamp|item|value */
+    MTCORE_STAMP = 21            /* line: a date or time that there isn't, or not of 1970 to 2099 */
 };
 
-/* The words of mtcore_observe, of mtcore_store_asset and of a delivery's answers: bit 63 marks a refusal. Of an
- * observation 0 is Same, which a discrete item never gets; mtcore_observe says when an item does. */
+/* The words of mtcore_observe, of mtcore_read_line, of mtcore_store_asset and of a delivery's answers: bit 63 marks a
+ * refusal. Of an observation 0 is Same, which a discrete item never gets; mtcore_observe says when an item does. */
 #define MTCORE_SAME UINT64_C(0)
 #define MTCORE_REFUSED (UINT64_C(1) << 63)
 
-/* The refusal in such a word, or 0 where the call was not refused. A later version may have numbers above 19: a
+/* The refusal in such a word, or 0 where the call was not refused. A later version may have numbers above 21: a
  * host treats a number that it doesn't know as a refusal all the same. */
 static inline unsigned mtcore_refusal_of(uint64_t word) {
     return word >= MTCORE_REFUSED ? (unsigned)(word & 63) : 0u;
@@ -97,6 +100,18 @@ static inline unsigned mtcore_refusal_of(uint64_t word) {
 #define MTCORE_DEFAULT_COUNT 100 /* a sample's count where the text has none */
 #define MTCORE_MAX_BATCH 256     /* records of a delivery */
 #define MTCORE_MAX_ACTIVE 8      /* native codes active on a condition item */
+
+/* bytes of the longest line that mtcore_write_line makes: a stamp of 24, two bars, an item of two digits, and 16 of the
+ * longest value, WARNING:16777215 (a sample has up to 12, -2147483.648; UNAVAILABLE 11; an event 10, 4294967295) */
+#define MTCORE_LINE_BYTES 44
+
+/* bytes of the longest line that mtcore_read_line reads, with leading zeros: an item of ten digits, and WARNING: with
+ * ten. Every longer one gets MTCORE_LINE. A caller that cuts a stream keeps MTCORE_MAX_LINE + 2 bytes of a line: then a
+ * carriage return can be taken off, and what was too long still is. */
+#define MTCORE_MAX_LINE 54
+
+/* the latest time that a line can have: the last millisecond of 2099 */
+#define MTCORE_MAX_STAMP UINT64_C(4102444799999)
 
 /* uint64_t words of the observation store, for a ring of n observations and m items: of every item, whatever its
  * category, eight entries of three words for what stands now, and eight for what stood when it left the ring */
@@ -381,9 +396,10 @@ static inline mtcore_bytes mtcore_cell_body(const uint8_t *assets, size_t assets
     return body;
 }
 
-/* ---- the six calls ---- */
+/* ---- the eight calls ---- */
 
-/* number 0 and the count: of a request's rows, of a delivery's records, 0 for a start; or the refusal's number and 0 */
+/* number 0 and the count: of a request's rows, of a delivery's records, of a line's bytes, 0 for a start; or the
+ * refusal's number and 0 */
 typedef struct {
     uint64_t number;
     uint64_t count;
@@ -459,6 +475,43 @@ mtcore_answer mtcore_observe_batch(const uint32_t *model, size_t model_len, cons
                                    uint64_t *observations, size_t observations_len,
                                    const mtcore_record *records, size_t records_len, uint64_t host,
                                    uint64_t *answers, size_t answers_len);
+
+/*
+ * Records what an adapter's line says, as mtcore_observe does it of the item, time and value that the line has.
+ *
+ * Takes: the bytes of one line, stamp|item|value, without its line feed, and without the carriage return before it:
+ * - stamp: YYYY-MM-DDThh:mm:ss.fffZ, a real date and time of 1970 to 2099 with seconds 0 to 59; or empty, which is
+ *   time 0, so that `host` is used.
+ * - item: its number in digits.
+ * - value: UNAVAILABLE; for a sample a decimal with at most three digits behind its point, as -0.5 (thousandths are
+ *   what is recorded, here -500); for an event and for a discrete item a code; for a condition NORMAL:, WARNING: or
+ *   FAULT: and its native code.
+ * A number has 1 to 10 digits, leading zeros among them, and 1 to 3 behind a point; '-' stands before a decimal only.
+ * Case matters, and there are no blanks.
+ * Gives: as mtcore_observe: the sequence number, or MTCORE_SAME; or MTCORE_REFUSED + the refusal.
+ * Refuses, in this order: MTCORE_MODEL, MTCORE_STORE (the head), MTCORE_LINE (another form, whatever is wrong with it
+ * besides), MTCORE_STAMP (the form is right and its date or time isn't); then as mtcore_observe: MTCORE_ITEM,
+ * MTCORE_KIND (also a value of another category's form, as -5 or 5.0 for an event, and a number too large for its
+ * kind), MTCORE_STORE (a condition item's entries), (Same, unless discrete,) MTCORE_CROWDED, MTCORE_SPENT,
+ * MTCORE_STORE (the entry about to be overwritten).
+ */
+uint64_t mtcore_read_line(const uint32_t *model, size_t model_len, const uint8_t *names, size_t names_len,
+                          uint64_t *observations, size_t observations_len,
+                          const uint8_t *line, size_t line_len, uint64_t host);
+
+/*
+ * Writes an observation as a line, which mtcore_read_line reads back to this item, time and value. No store is taken:
+ * whether the item has the value, or ever had it, is not asked.
+ *
+ * Takes: item, time and value as mtcore_observe does, and room for the text; MTCORE_LINE_BYTES are always enough.
+ * Gives: 0 and the line's bytes, at the front of the text; there is no line feed and no zero behind them, and bytes
+ * behind them stay. The stamp is empty for time 0, item and value have no needless zero and no needless point: 5000
+ * thousandths are 5, 5500 are 5.5, -1 is -0.001.
+ * Refuses, in this order: MTCORE_MODEL, MTCORE_ITEM, MTCORE_KIND (an asset change item whatever the value),
+ * MTCORE_STAMP (a time above MTCORE_MAX_STAMP), MTCORE_SPACE.
+ */
+mtcore_answer mtcore_write_line(const uint32_t *model, size_t model_len, const uint8_t *names, size_t names_len,
+                                uint64_t item, uint64_t time, uint64_t value, uint8_t *text, size_t text_len);
 
 /*
  * Stores an asset as the newest: in place of the one with its id, in a free cell, or in place of the one that was

@@ -13,10 +13,10 @@ use crate::{
 /// one by [`AsRef`] and [`AsMut`] (`&mut [u64]`, `[u64; 22]`, `Vec<u64>`). The stores cannot be written
 /// but through the agent.
 ///
-/// [`observe`](Agent::observe), [`observe_batch`](Agent::observe_batch),
-/// [`store_asset`](Agent::store_asset) and [`restart`](Agent::restart) take the agent by `&mut`; requests
-/// and bodies only by `&`, so that behind a `RwLock` any number of them run side by side, each with a reply
-/// buffer of its own.
+/// [`observe`](Agent::observe), [`observe_batch`](Agent::observe_batch), [`read_line`](Agent::read_line),
+/// [`store_asset`](Agent::store_asset) and [`restart`](Agent::restart) take the agent by `&mut`; requests,
+/// bodies and lines that are written only by `&`, so that behind a `RwLock` any number of them run side by
+/// side, each with a buffer of its own.
 ///
 /// ```
 /// use mtcore::{Agent, Model, Observed, Reply, Sizes, Value};
@@ -123,6 +123,22 @@ where
         let sample = sample_words(rest / 2, Some(count.max(crate::DEFAULT_COUNT)));
         let current = reply_words(current_rows(items, self.model.conditions()));
         sample.max(current).max(assets_words(cells))
+    }
+
+    /// Writes an observation as an adapter's line, see [`Model::write_line`]. Only the model is asked, not what
+    /// is recorded.
+    ///
+    /// # Errors
+    ///
+    /// As [`Model::write_line`].
+    pub fn write_line<'t>(
+        &self,
+        item: u64,
+        time: u64,
+        value: Value,
+        text: &'t mut [u8],
+    ) -> Result<&'t [u8], Refusal> {
+        self.model.write_line(item, time, value, text)
     }
 
     /// An asset's body, see [`body`](crate::body).
@@ -248,6 +264,46 @@ where
     ) -> Result<Answers<'r>, Refusal> {
         let (model, names) = (self.model.words(), self.model.names());
         calls::observe_batch(model, names, self.observations.as_mut(), records, host, answers)
+    }
+
+    /// Records what an adapter's line says; see [`read_line`](crate::read_line). The line comes without its
+    /// line feed and without the carriage return before it.
+    ///
+    /// # Errors
+    ///
+    /// As [`read_line`](crate::read_line).
+    ///
+    /// ```
+    /// # use mtcore::{Agent, Model, Sizes};
+    /// # let names = mtcore::names(["Device", "POSITION"]).unwrap();
+    /// # let model = Model::new([1, 1, 0, 1], names.as_flattened()).unwrap();
+    /// # let sizes = Sizes { places: 10, cells: 1, origin: 1 };
+    /// # let observations = vec![0; mtcore::observation_words(10, 1)];
+    /// # let assets = vec![0; mtcore::asset_bytes(1)];
+    /// # let mut agent = Agent::start(model, observations, assets, sizes, 1000).unwrap();
+    /// use mtcore::{Observed, Refusal};
+    ///
+    /// // What a connection brought so far. What stands behind the last line feed is no line yet: it is kept
+    /// // until more comes, since half a number is a number too.
+    /// let received = b"|0|12.5\r\n2026-09-14T06:00:00.250Z|0|12.6\n|0|twelve\n2026-09-14T06:00:01.25";
+    /// let end = received.iter().rposition(|&byte| byte == b'\n').map_or(0, |last| last + 1);
+    /// let (lines, kept) = received.split_at(end);
+    /// let (mut recorded, mut refused) = (0, Vec::new());
+    /// for line in lines.split_inclusive(|&byte| byte == b'\n') {
+    ///     let line = line.strip_suffix(b"\n").unwrap_or(line);
+    ///     let line = line.strip_suffix(b"\r").unwrap_or(line);
+    ///     match agent.read_line(line, 1_789_365_601_000) {
+    ///         Ok(Observed::Recorded(_)) => recorded += 1,
+    ///         Ok(Observed::Same) => {}
+    ///         Err(refusal) => refused.push((refusal, line)), // a fault of the adapter: log it, and read on
+    ///     }
+    /// }
+    /// assert_eq!((recorded, kept), (2, &b"2026-09-14T06:00:01.25"[..]));
+    /// assert_eq!(refused, [(Refusal::Line, &b"|0|twelve"[..])]);
+    /// ```
+    pub fn read_line(&mut self, line: &[u8], host: u64) -> Result<Observed, Refusal> {
+        let (model, names) = (self.model.words(), self.model.names());
+        calls::read_line(model, names, self.observations.as_mut(), line, host)
     }
 
     /// Stores an asset as the newest and answers its cell; see [`store_asset`](crate::store_asset).

@@ -1,8 +1,8 @@
-//! The six calls, over slices that the host passes each time.
+//! The eight calls, over slices that the host passes each time.
 
 use crate::{ffi, Answers, Record, Refusal, Sizes, Value};
 
-/// What an accepted observe did.
+/// What an accepted observe did, of a value or of a line.
 #[derive(Clone, Copy, PartialEq, Eq, Hash, Debug)]
 pub enum Observed {
     /// Recorded under this number.
@@ -13,8 +13,8 @@ pub enum Observed {
 }
 
 impl Observed {
-    /// What an answer's word says, of a single observe or of a delivery's record: a number, 0 for Same, or
-    /// 2^63 + the refusal.
+    /// What an answer's word says, of a single observe, of a line or of a delivery's record: a number, 0 for
+    /// Same, or 2^63 + the refusal.
     ///
     /// # Errors
     ///
@@ -193,6 +193,103 @@ pub fn observe_batch<'a>(
     let count = done(ffi::observe_batch(model, names, observations, records, host, answers))?;
     let words = usize::try_from(count).ok().and_then(|count| answers.get(..count));
     words.map(Answers::read).ok_or(Refusal::Unknown { number: 0 })
+}
+
+/// Records what an adapter's line says, as [`observe`] does it of the line's item, time and value.
+///
+/// # Lines
+///
+/// The line is `stamp|item|value`, without its line feed, and without the carriage return before it: one
+/// observation, of an item by its number. Case matters, and there are no blanks.
+///
+/// * stamp: `YYYY-MM-DDThh:mm:ss.fffZ`, in UTC, a real date and time of 1970 to 2099 with seconds 0 to 59. An
+///   empty one is time 0: then the host's time is used.
+/// * item: its number in digits.
+/// * value: `UNAVAILABLE`; for a sample a decimal with at most three digits behind its point; for an event and
+///   for a discrete item a code; for a condition `NORMAL:`, `WARNING:` or `FAULT:` and its native code.
+///
+/// A number has 1 to 10 digits, leading zeros among them, and 1 to 3 behind a point. `-` stands before a
+/// decimal only. A line of more than [`MAX_LINE`](crate::MAX_LINE) bytes has another form.
+///
+/// # Errors
+///
+/// In this order: [`Refusal::Model`], [`Refusal::Store`] (the head), [`Refusal::Line`] (another form, whatever
+/// is wrong with the line besides), [`Refusal::Stamp`] (a date or time that there isn't); then those of
+/// [`observe`]: [`Refusal::Item`], [`Refusal::Kind`] (also a value of another category's form, and a number too
+/// large for its kind), [`Refusal::Store`] (a condition item's entries), (Same, unless discrete,)
+/// [`Refusal::Crowded`], [`Refusal::Spent`], [`Refusal::Store`] (the ring entry about to be overwritten).
+///
+/// A line that is refused adds nothing: the host logs it and reads the next.
+///
+/// ```
+/// # let (model, names) = ([1, 3, 0, 131_072, 1, 65_538], mtcore::names(["SYSTEM", "POSITION", "MODE"]).unwrap());
+/// # let names = names.as_flattened();
+/// # let sizes = mtcore::Sizes { places: 4, cells: 1, origin: 1 };
+/// # let mut observations = [0; mtcore::observation_words(4, 3)];
+/// # let mut assets = [0; mtcore::asset_bytes(1)];
+/// # mtcore::start(&model, &names, &mut observations, &mut assets, sizes, 1).unwrap();
+/// use mtcore::{Observed, Refusal};
+/// let host = 1_789_365_601_000; // 2026-09-14T06:00:01Z
+/// let mut read = |line: &str| mtcore::read_line(&model, &names, &mut observations, line.as_bytes(), host);
+/// // Item 0 is a condition, item 1 a sample, item 2 an event. Start has recorded numbers 1 to 3.
+/// assert_eq!(read("2026-09-14T06:00:00.250Z|1|12.5"), Ok(Observed::Recorded(4)));
+/// assert_eq!(read("2026-09-14T06:00:00.500Z|01|0012.500"), Ok(Observed::Same));
+/// assert_eq!(read("|2|3"), Ok(Observed::Recorded(5))); // at the host's time
+/// assert_eq!(read("|0|WARNING:41"), Ok(Observed::Recorded(6)));
+/// // What is no line, a date that there isn't, an item too many, and a sample's value for an event.
+/// assert_eq!(read("|1|12.5\r"), Err(Refusal::Line));
+/// assert_eq!(read("2026-02-30T06:00:00.250Z|1|12.5"), Err(Refusal::Stamp));
+/// assert_eq!(read("|3|12.5"), Err(Refusal::Item));
+/// assert_eq!(read("|2|12.5"), Err(Refusal::Kind));
+/// ```
+pub fn read_line(
+    model: &[u32],
+    names: &[u8],
+    observations: &mut [u64],
+    line: &[u8],
+    host: u64,
+) -> Result<Observed, Refusal> {
+    Observed::from_word(ffi::read_line(model, names, observations, line, host))
+}
+
+/// Writes an observation as a line to the front of `text` and tells its bytes; those behind it stay as they
+/// were. [`read_line`] reads it back to this item, time and value. It takes no store: whether the item has the
+/// value, or ever had it, is not asked.
+///
+/// The stamp is empty for time 0. There is no needless zero and no needless point, and no line feed at the
+/// end. [`LINE_BYTES`](crate::LINE_BYTES) are always enough for the text.
+/// [`Model::write_line`](crate::Model::write_line) gives the line itself, and [`Line`](crate::Line) prints it
+/// where there is no model to hold the value against.
+///
+/// # Errors
+///
+/// In this order: [`Refusal::Model`], [`Refusal::Item`], [`Refusal::Kind`] (an asset change item whatever the
+/// value), [`Refusal::Stamp`] (a time above [`MAX_STAMP`](crate::MAX_STAMP)), [`Refusal::Space`]. Nothing is
+/// written then.
+///
+/// ```
+/// # let (model, names) = ([1, 3, 0, 131_072, 1, 65_538], mtcore::names(["SYSTEM", "POSITION", "MODE"]).unwrap());
+/// # let names = names.as_flattened();
+/// use mtcore::{Level, Refusal, Value, LINE_BYTES};
+/// let mut text = [0; LINE_BYTES];
+/// // Item 0 is a condition, item 1 a sample, item 2 an event.
+/// let bytes = mtcore::write_line(&model, &names, 1, 1_789_365_600_250, Value::Sample(-500), &mut text)?;
+/// assert_eq!(&text[..bytes as usize], b"2026-09-14T06:00:00.250Z|1|-0.5");
+/// let fault = Value::Condition(Level::Fault, 504);
+/// assert_eq!(mtcore::write_line(&model, &names, 0, 0, fault, &mut text), Ok(12));
+/// assert_eq!(&text[..12], b"|0|FAULT:504");
+/// assert_eq!(mtcore::write_line(&model, &names, 2, 0, fault, &mut text), Err(Refusal::Kind));
+/// # Ok::<(), Refusal>(())
+/// ```
+pub fn write_line(
+    model: &[u32],
+    names: &[u8],
+    item: u64,
+    time: u64,
+    value: Value,
+    text: &mut [u8],
+) -> Result<u64, Refusal> {
+    done(ffi::write_line(model, names, item, time, value.word(), text))
 }
 
 /// Stores an asset as the newest and answers its cell.
@@ -400,6 +497,8 @@ mod tests {
         }
         assert_eq!(accepted((1 << 63) + 16), Err(Refusal::Batch));
         assert_eq!(accepted((1 << 63) + 19), Err(Refusal::Crowded));
+        assert_eq!(accepted((1 << 63) + 20), Err(Refusal::Line));
+        assert_eq!(accepted((1 << 63) + 21), Err(Refusal::Stamp));
         assert_eq!(accepted((1 << 63) + 12), Err(Refusal::Unknown { number: 12 }));
         assert_eq!(accepted(u64::MAX).unwrap_err().number(), (1 << 63) - 1);
         assert_eq!(Observed::from_word((1 << 63) - 1), Ok(Observed::Recorded((1 << 63) - 1)));
@@ -413,6 +512,7 @@ mod tests {
         }
         assert_eq!(done(Answer { number: 17, count: 0 }), Err(Refusal::Late));
         assert_eq!(done(Answer { number: 18, count: 0 }), Err(Refusal::Early));
+        assert_eq!(done(Answer { number: 21, count: 0 }), Err(Refusal::Stamp));
         assert_eq!(done(Answer { number: 12, count: 0 }), Err(Refusal::Unknown { number: 12 }));
     }
 }

@@ -12,7 +12,8 @@ use core::ptr;
 pub struct Answer {
     /// 0, or the refusal's number.
     pub number: u64,
-    /// The number of a request's rows or of a delivery's records; 0 for a start and for a refusal.
+    /// The number of a request's rows, of a delivery's records or of a line's bytes; 0 for a start and for a
+    /// refusal.
     pub count: u64,
 }
 
@@ -76,6 +77,32 @@ pub mod raw {
             host: u64,
             answers: *mut u64,
             answers_len: usize,
+        ) -> Answer;
+
+        /// Observes what an adapter line says: the answer word of observe, or 2^63 + the refusal.
+        pub fn mtcore_read_line(
+            model: *const u32,
+            model_len: usize,
+            names: *const u8,
+            names_len: usize,
+            observations: *mut u64,
+            observations_len: usize,
+            line: *const u8,
+            line_len: usize,
+            host: u64,
+        ) -> u64;
+
+        /// Writes the adapter line of a value, given as kind * 2^32 + low: 0 and its bytes.
+        pub fn mtcore_write_line(
+            model: *const u32,
+            model_len: usize,
+            names: *const u8,
+            names_len: usize,
+            item: u64,
+            time: u64,
+            value: u64,
+            text: *mut u8,
+            text_len: usize,
         ) -> Answer;
 
         /// Stores an asset: its cell, or 2^63 + the refusal.
@@ -216,6 +243,42 @@ pub fn observe_batch(
             host,
             pointer_mut(answers),
             answers.len(),
+        )
+    }
+}
+
+/// `mtcore_read_line` over slices.
+pub fn read_line(model: &[u32], names: &[u8], observations: &mut [u64], line: &[u8], host: u64) -> u64 {
+    // SAFETY: see above.
+    unsafe {
+        raw::mtcore_read_line(
+            pointer(model),
+            model.len(),
+            pointer(names),
+            names.len(),
+            pointer_mut(observations),
+            observations.len(),
+            pointer(line),
+            line.len(),
+            host,
+        )
+    }
+}
+
+/// `mtcore_write_line` over slices. `value` is kind * 2^32 + low, as in a packed value.
+pub fn write_line(model: &[u32], names: &[u8], item: u64, time: u64, value: u64, text: &mut [u8]) -> Answer {
+    // SAFETY: see above.
+    unsafe {
+        raw::mtcore_write_line(
+            pointer(model),
+            model.len(),
+            pointer(names),
+            names.len(),
+            item,
+            time,
+            value,
+            pointer_mut(text),
+            text.len(),
         )
     }
 }

@@ -1,8 +1,8 @@
 //! The proved core of an MTConnect agent (Part 1, version 1.2), for Rust hosts.
 //!
-//! The core keeps a machine's newest observations in a ring and its tool records (assets) in cells, and
-//! answers `sample`, `current` and asset requests. HTTP, XML, `probe` and streaming are the host's. It
-//! allocates nothing and holds nothing: all it works on are slices that the host owns, and this crate is
+//! The core keeps a machine's newest observations in a ring and its tool records (assets) in cells, reads
+//! and writes adapters' lines, and answers `sample`, `current` and asset requests. HTTP, XML, `probe` and
+//! streaming are the host's. It allocates nothing and holds nothing: all it works on are slices that the host owns, and this crate is
 //! `no_std` and has no dependency but the core's archive.
 //!
 //! # Depending on it
@@ -72,6 +72,7 @@
 //!         answer?;
 //!     }
 //!     mill.store_asset(b"T17", b"drill, 8 mm, 412 parts left", now + 400)?;
+//!     mill.read_line(b"2026-09-13T07:00:00.450Z|1|12.501", now + 450)?; // as an adapter sends it
 //!
 //!     // What clients ask. The reply is the largest buffer: this one is for counts up to 100.
 //!     let mut reply = vec![0; mill.reply_words(100)];
@@ -79,11 +80,11 @@
 //!         answer(&mill, "/sample?from=5&count=3&path=//Axes", &mut reply),
 //!         ["next 8", "6 POSITION 12.500", "7 ACTUATOR WARNING 77"]
 //!     );
-//!     assert_eq!(answer(&mill, "/sample?from=10", &mut reply), ["next 10"]);
+//!     assert_eq!(answer(&mill, "/sample?from=10", &mut reply), ["next 11", "10 POSITION 12.501"]);
 //!     // Normal with the code clears the warning; the fault stands on, and is all that current shows.
 //!     mill.observe(servo, 0, now + 500, Value::Condition(Level::Normal, 77))?;
 //!     let servos = "/current?path=//Axes//DataItem[@type=\"ACTUATOR\"]";
-//!     assert_eq!(answer(&mill, servos, &mut reply), ["next 11", "8 ACTUATOR FAULT 502"]);
+//!     assert_eq!(answer(&mill, servos, &mut reply), ["next 12", "8 ACTUATOR FAULT 502"]);
 //!     assert_eq!(answer(&mill, "/assets", &mut reply), ["T17: drill, 8 mm, 412 parts left"]);
 //!     let early = ["OUT_OF_RANGE", "early: the number is above last"];
 //!     assert_eq!(answer(&mill, "/sample?from=2000", &mut reply), early);
@@ -131,10 +132,12 @@
 //! * [`Model`] lists components and data items with their type names. [`ModelBuilder`] puts one together;
 //!   [`component_word`], [`item_word`] and [`names`] are for one that is written as a constant.
 //! * [`Agent`] holds a model and its two stores, so that they cannot be mixed up. The plain functions
-//!   [`start`], [`observe`], [`observe_batch`], [`store_asset`], [`request`] and [`body`] take them as slices
-//!   each time.
+//!   [`start`], [`observe`], [`observe_batch`], [`read_line`], [`write_line`], [`store_asset`], [`request`] and
+//!   [`body`] take them as slices each time.
 //! * [`observe_batch`] records what a scan found together in one call: [`Record`]s go in, [`Answers`] come
 //!   out.
+//! * [`read_line`] records what an adapter's line says, [`Model::write_line`] makes such a line, and [`Line`]
+//!   prints one without a model.
 //! * [`request`] says what each request text means, with examples.
 //! * [`observe`] says how conditions are raised and cleared, several on one item.
 //! * [`Reply`], [`Observations`] and [`Assets`] take a reply apart; [`cell_id`] and [`cell_body`] lead from
@@ -155,6 +158,8 @@
 //! | reply to `/assets`, `/asset/..` | [`assets_words`] | `u64`, 4 + 2 max(A, 125) |
 //! | any reply of k rows | [`reply_words`], [`asset_reply_words`] | `u64` |
 //! | a delivery's answers | one for each record, at most [`MAX_BATCH`] | `u64` |
+//! | a line that is written | [`LINE_BYTES`] | bytes, 44 |
+//! | a line that is read | [`MAX_LINE`] and two more | bytes, 54: a longer line is refused, so no more of it need be kept |
 //!
 //! # A client that polls
 //!
@@ -201,6 +206,7 @@ mod builder;
 mod calls;
 mod cells;
 pub mod ffi;
+mod line;
 mod model;
 mod refusal;
 mod reply;
@@ -210,15 +216,17 @@ mod value;
 pub use agent::{Agent, LentAgent};
 pub use batch::{Answers, Record};
 pub use builder::ModelBuilder;
-pub use calls::{body, observe, observe_batch, request, start, store_asset, Observed};
+pub use calls::{body, observe, observe_batch, read_line, request, start, store_asset, write_line, Observed};
 pub use cells::{cell_body, cell_id};
+pub use line::Line;
 pub use model::{component_word, item_word, names, Category, Component, Model, ModelError};
 pub use refusal::Refusal;
 pub use reply::{AssetRow, Assets, Observations, Reply, Row};
 pub use sizes::{
     asset_bytes, asset_reply_words, assets_words, current_rows, current_words, model_words, name_bytes,
-    observation_words, reply_words, sample_words, Sizes, DEFAULT_COUNT, MAX_ACTIVE, MAX_BATCH, MAX_BODY,
-    MAX_CELLS, MAX_COMPONENTS, MAX_ID, MAX_ITEMS, MAX_NAMED, MAX_NAMES, MAX_PLACES, MAX_TEXT, NAME_BYTES,
+    observation_words, reply_words, sample_words, Sizes, DEFAULT_COUNT, LINE_BYTES, MAX_ACTIVE, MAX_BATCH,
+    MAX_BODY, MAX_CELLS, MAX_COMPONENTS, MAX_ID, MAX_ITEMS, MAX_LINE, MAX_NAMED, MAX_NAMES, MAX_PLACES,
+    MAX_STAMP, MAX_TEXT, NAME_BYTES,
 };
 pub use value::{Level, Value};
 

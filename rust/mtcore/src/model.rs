@@ -1,7 +1,7 @@
 //! Model words and name cells: checked, and read.
 
 use crate::sizes::{MAX_COMPONENTS, MAX_ITEMS, MAX_NAMES, NAME_BYTES};
-use crate::{Row, Value};
+use crate::{calls, Refusal, Row, Value};
 use core::fmt;
 
 /// What an item reports.
@@ -424,6 +424,38 @@ impl<W: AsRef<[u32]>, N: AsRef<[u8]>> Model<W, N> {
     pub fn checked(&self, row: Row) -> Option<(usize, Value)> {
         let (category, value) = (self.category(row.item())?, row.value()?);
         category.holds(value).then_some((usize::try_from(row.item()).ok()?, value))
+    }
+
+    /// Writes an observation as an adapter's line, and gives the line: the front of `text`, for which
+    /// [`LINE_BYTES`](crate::LINE_BYTES) are enough. An adapter needs no stores for it. See
+    /// [`write_line`](crate::write_line).
+    ///
+    /// # Errors
+    ///
+    /// As [`write_line`](crate::write_line). (Where an archive of another version counts more bytes than the
+    /// text has: [`Refusal::Unknown`] with number 0.)
+    ///
+    /// ```
+    /// # use mtcore::{Model, Refusal, Value, LINE_BYTES};
+    /// # let names = mtcore::names(["Device", "POSITION"]).unwrap();
+    /// # let model = Model::new([1, 1, 0, 1], names.as_flattened()).unwrap();
+    /// let mut text = [0; LINE_BYTES];
+    /// let line = model.write_line(0, 1_789_365_600_250, Value::Sample(12_500), &mut text)?;
+    /// assert_eq!(line, b"2026-09-14T06:00:00.250Z|0|12.5");
+    /// // The model has one item, and it is a sample.
+    /// assert_eq!(model.write_line(0, 0, Value::Event(3), &mut text), Err(Refusal::Kind));
+    /// # Ok::<(), Refusal>(())
+    /// ```
+    pub fn write_line<'t>(
+        &self,
+        item: u64,
+        time: u64,
+        value: Value,
+        text: &'t mut [u8],
+    ) -> Result<&'t [u8], Refusal> {
+        let bytes = calls::write_line(self.words(), self.names(), item, time, value, text)?;
+        let line = usize::try_from(bytes).ok().and_then(|bytes| text.get(..bytes));
+        line.ok_or(Refusal::Unknown { number: 0 })
     }
 }
 

@@ -2,8 +2,8 @@
 
 use core::fmt;
 
-/// Why a call was refused. A refused call has changed nothing, neither a store nor the buffer for its reply
-/// or answers.
+/// Why a call was refused. A refused call has changed nothing, neither a store nor the buffer for its reply,
+/// answers or line.
 ///
 /// Later versions of the core give refusals of their own; a number that this version of the crate does
 /// not know arrives as [`Refusal::Unknown`].
@@ -33,7 +33,8 @@ pub enum Refusal {
     /// 4: the model has no such item.
     Item,
     /// 5: the item does not take this value: it is of another category's kind, a native code of 2^24 or
-    /// more, or anything at all for an asset change item.
+    /// more, or anything at all for an asset change item. Of a line also a number that is too large for its
+    /// kind, or a decimal with `-` or a point for an event.
     Kind,
     /// 6: a number is needed and the last one, 2^63 - 1, is used. The host starts anew, with a new
     /// instanceId.
@@ -58,7 +59,7 @@ pub enum Refusal {
     Asset,
     /// 15: the reply buffer is shorter than the reply. A host that reserves less than the largest reply
     /// answers a sample so with TOO_MANY; for other requests it reserves more. Of a delivery: there are
-    /// fewer words for answers than records.
+    /// fewer words for answers than records. Of a line that is written: the text is shorter than it.
     Space,
     /// 16: a delivery of more than 256 records. The host makes several of it.
     Batch,
@@ -75,6 +76,14 @@ pub enum Refusal {
     /// them is cleared, or clears one itself; a level of a code that is active is never refused so. Where
     /// more than eight can come together the alarms are spread over several items.
     Crowded,
+    /// 20: an adapter's line that is not of the form `stamp|item|value`, see [`read_line`](crate::read_line).
+    /// Nothing was recorded, and the next line is read as if this one had not come. The host logs the line:
+    /// the adapter is at fault, or the stream was cut at the wrong place.
+    Line,
+    /// 21: a line of the right form whose date or time there isn't, as a 30th of February, or that is not of
+    /// 1970 to 2099; of a line that is written, a time after 2099. Nothing was recorded. The host logs the
+    /// line: the adapter's clock is wrong.
+    Stamp,
     /// A number that this version of the crate has no name for: an archive of another version is
     /// linked. It is a refusal all the same, and nothing was changed. 12 is such a number: it stood for
     /// late and early together before version 2.0, and is not given any more.
@@ -89,7 +98,7 @@ pub enum Refusal {
 type Entry = (u64, Refusal, &'static str, Option<&'static str>);
 
 /// The refusals that there are, each with its number, since 12 is none's.
-const TABLE: [Entry; 18] = [
+const TABLE: [Entry; 20] = [
     (1, Refusal::Model, "model or names break their rules", None),
     (2, Refusal::Store, "a store is damaged or not the model's", Some("INTERNAL_ERROR")),
     (3, Refusal::Size, "the stores' sizes do not go together", None),
@@ -103,15 +112,17 @@ const TABLE: [Entry; 18] = [
     (11, Refusal::InvalidXpath, "INVALID_XPATH", Some("INVALID_XPATH")),
     (13, Refusal::AssetNotFound, "ASSET_NOT_FOUND", Some("ASSET_NOT_FOUND")),
     (14, Refusal::Asset, "the asset's id or body cannot be stored", None),
-    (15, Refusal::Space, "the buffer for reply or answers is too short", Some("TOO_MANY")),
+    (15, Refusal::Space, "the buffer for reply, answers or line is too short", Some("TOO_MANY")),
     (16, Refusal::Batch, "a delivery has too many records", None),
     (17, Refusal::Late, "late: the number is below first", Some("OUT_OF_RANGE")),
     (18, Refusal::Early, "early: the number is above last", Some("OUT_OF_RANGE")),
     (19, Refusal::Crowded, "eight other codes are active on the item", None),
+    (20, Refusal::Line, "the line is not of the form stamp|item|value", None),
+    (21, Refusal::Stamp, "a date or time that there is not, or not of 1970 to 2099", None),
 ];
 
 impl Refusal {
-    /// The refusal's number: 1 to 19 but for 12, or the one that [`Refusal::Unknown`] holds.
+    /// The refusal's number: 1 to 21 but for 12, or the one that [`Refusal::Unknown`] holds.
     ///
     /// ```
     /// use mtcore::Refusal;
@@ -198,7 +209,7 @@ mod tests {
         for number in (1..100).chain([255, 256, 1 << 32, (1 << 63) - 1, u64::MAX]) {
             let refusal = Refusal::from_number(number).unwrap();
             assert_eq!(refusal.number(), number);
-            let unknown = number == 12 || number > 19;
+            let unknown = number == 12 || number > 21;
             assert_eq!(matches!(refusal, Refusal::Unknown { .. }), unknown, "{number}");
         }
     }
@@ -225,6 +236,8 @@ mod tests {
             (17, Refusal::Late),
             (18, Refusal::Early),
             (19, Refusal::Crowded),
+            (20, Refusal::Line),
+            (21, Refusal::Stamp),
         ];
         assert_eq!(numbered.len(), TABLE.len());
         for (number, refusal) in numbered {
@@ -258,7 +271,9 @@ mod tests {
         assert!(TABLE.iter().all(|(_, _, words, _)| !words.is_empty()));
         assert_eq!(Refusal::InvalidXpath.to_string(), "INVALID_XPATH");
         assert_eq!(Refusal::Crowded.to_string(), "eight other codes are active on the item");
-        assert_eq!(Refusal::from_number(20).unwrap().to_string(), "refusal 20");
-        assert_eq!(Refusal::from_number(20).unwrap().error_code(), None);
+        assert_eq!(Refusal::Line.to_string(), "the line is not of the form stamp|item|value");
+        assert_eq!((Refusal::Line.error_code(), Refusal::Stamp.error_code()), (None, None));
+        assert_eq!(Refusal::from_number(22).unwrap().to_string(), "refusal 22");
+        assert_eq!(Refusal::from_number(22).unwrap().error_code(), None);
     }
 }

@@ -28,6 +28,14 @@ pub const DEFAULT_COUNT: usize = 100;
 pub const MAX_BATCH: usize = 256;
 /// The largest number of native codes that are active on a condition item.
 pub const MAX_ACTIVE: usize = 8;
+/// Bytes of the longest line that [`write_line`](crate::write_line) makes: a stamp of 24, two bars, an item
+/// of two digits, and the longest value, `WARNING:16777215`.
+pub const LINE_BYTES: usize = 44;
+/// Bytes of the longest line that [`read_line`](crate::read_line) reads, with leading zeros: an item of ten
+/// digits, and `WARNING:` with ten. Every longer line is refused as [`Refusal::Line`](crate::Refusal::Line).
+pub const MAX_LINE: usize = 54;
+/// The latest time that a line can have: the last millisecond of 2099.
+pub const MAX_STAMP: u64 = 4_102_444_799_999;
 
 /// Bytes of an id cell of the asset store.
 pub(crate) const ID_CELL: usize = MAX_ID;

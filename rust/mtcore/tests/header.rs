@@ -29,7 +29,7 @@ fn c_name(rust: &str) -> String {
 /// Each has its number in the header, and 12 is none's.
 #[test]
 fn refusals() {
-    let numbers: Vec<u64> = (1..=11).chain(13..=19).collect();
+    let numbers: Vec<u64> = (1..=11).chain(13..=21).collect();
     for &number_here in &numbers {
         let refusal = Refusal::from_number(number_here).unwrap();
         assert_eq!(number(&c_name(&format!("{refusal:?}"))), number_here);
@@ -74,11 +74,15 @@ fn limits() {
         ("MTCORE_DEFAULT_COUNT", mtcore::DEFAULT_COUNT),
         ("MTCORE_MAX_BATCH", mtcore::MAX_BATCH),
         ("MTCORE_MAX_ACTIVE", mtcore::MAX_ACTIVE),
+        ("MTCORE_LINE_BYTES", mtcore::LINE_BYTES),
+        ("MTCORE_MAX_LINE", mtcore::MAX_LINE),
         ("MTCORE_NAME", mtcore::NAME_BYTES),
     ];
     for (name, limit) in limits {
         assert_eq!(number(name), limit as u64, "{name}");
     }
+    let stamp = format!("#define MTCORE_MAX_STAMP UINT64_C({})", mtcore::MAX_STAMP);
+    assert!(HEADER.lines().any(|line| line == stamp), "{stamp}");
 }
 
 /// Of every function declared, its name and its arguments' names. A mention in a comment declares nothing.
@@ -103,7 +107,7 @@ fn functions() {
     let c = declared(calls, |part| part.rsplit([' ', '*']).next().unwrap_or(part));
     let raw = FFI.split_once("extern \"C\" {").unwrap().1.split_once("\n}\n").unwrap().0;
     let rust = declared(raw, |part| part.split(':').next().unwrap_or(part));
-    assert!(c.len() >= 6, "{c:?}");
+    assert_eq!(c.len(), 8, "{c:?}");
     assert_eq!(c, rust);
 }
 

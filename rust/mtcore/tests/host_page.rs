@@ -1,5 +1,5 @@
-//! docs/HOST.md and the crate say the same: its tables of sizes, of categories, of conditions, of requests, of
-//! refusals and of what is late and early, and its version.
+//! docs/HOST.md and the crate say the same: its tables of sizes, of categories, of conditions, of adapter lines,
+//! of requests, of refusals and of what is late and early, and its version.
 
 use mtcore::{
     Agent, AssetRow, Category, Component, Level, Model, ModelBuilder, Observed, Refusal, Reply, Row, Sizes,
@@ -182,6 +182,83 @@ fn conditions_are_as_the_page_says() {
     }
 }
 
+/// The columns of each line of the block that begins with this head, which is a line of its own.
+#[track_caller]
+fn block(head: &str) -> Vec<Vec<&'static str>> {
+    let lines = PAGE.lines().skip_while(|line| !line.trim_start().starts_with(head)).skip(1);
+    let rows: Vec<Vec<_>> = lines.take_while(|line| line.starts_with("    ")).map(columns).collect();
+    assert!(!rows.is_empty(), "the page has no block {head}");
+    rows
+}
+
+/// Two blanks and more stand between columns, and one may stand inside.
+fn columns(line: &str) -> Vec<&str> {
+    line.split("  ").map(str::trim).filter(|column| !column.is_empty()).collect()
+}
+
+/// The mill of the page's lines: an item of each category.
+fn line_mill() -> Mill {
+    let (mut words, mut names) = ([0; mtcore::model_words(1, 5)], [0; mtcore::name_bytes(6)]);
+    let mut build = ModelBuilder::new(&mut words, &mut names, "Device").unwrap();
+    build.item(Component::DEVICE, Category::Event, "EXECUTION").unwrap();
+    build.item(Component::DEVICE, Category::Sample, "POSITION").unwrap();
+    build.item(Component::DEVICE, Category::Condition, "SYSTEM").unwrap();
+    build.item(Component::DEVICE, Category::Discrete, "PART_COUNT").unwrap();
+    build.item(Component::DEVICE, Category::AssetChange, "ASSET_CHANGED").unwrap();
+    let built = build.finish().unwrap();
+    let model = Model::new(built.words().to_vec(), built.names().to_vec()).unwrap();
+    let (observations, assets) =
+        (vec![0; mtcore::observation_words(PLACES, 5)], vec![0; mtcore::asset_bytes(CELLS)]);
+    let sizes = Sizes { places: PLACES as u64, cells: CELLS as u64, origin: 1 };
+    Agent::start(model, observations, assets, sizes, LINES_READ).unwrap()
+}
+
+/// 2026-09-14T06:00:01Z, the host time of the page's lines.
+const LINES_READ: u64 = 1_789_365_601_000;
+
+/// The columns behind a line that was recorded: its value, and the line that is written of it.
+fn recorded(mill: &Mill, number: u64) -> [String; 2] {
+    let (text, mut reply) = (format!("/sample?from={number}&count=1"), [0; mtcore::reply_words(1)]);
+    let Ok(Reply::Observations(read)) = mill.request(text.as_bytes(), &mut reply) else {
+        panic!("{text} is answered");
+    };
+    let row = read.row(0).unwrap();
+    let (item, value) = mill.model().checked(row).unwrap();
+    let words = if let Value::Event(code) = value { format!("code {code}") } else { said(value) };
+    let mut room = [0; mtcore::LINE_BYTES];
+    let line = mill.write_line(item as u64, row.time, value, &mut room).unwrap();
+    assert_eq!(line, mtcore::Line::new(item as u64, row.time, value).unwrap().to_string().as_bytes());
+    [words, String::from_utf8(line.to_vec()).unwrap()]
+}
+
+#[test]
+fn lines_are_read_as_the_page_says() {
+    let mut mill = line_mill();
+    for row in block("line                               answer") {
+        match mill.read_line(row[0].as_bytes(), LINES_READ) {
+            Ok(Observed::Recorded(number)) => {
+                assert_eq!(row[1], number.to_string(), "{row:?}");
+                assert_eq!(row[2..], recorded(&mill, number), "{row:?}");
+            }
+            Ok(Observed::Same) => assert_eq!(row[1..], ["Same"], "{row:?}"),
+            Err(refusal) => panic!("{row:?}: {refusal}"),
+        }
+    }
+}
+
+#[test]
+fn lines_are_refused_as_the_page_says() {
+    let mut mill = line_mill();
+    let before = mill.observations().to_vec();
+    for row in block("line                                     refusal") {
+        let line = row[0].replace("\\r", "\r");
+        let refusal = mill.read_line(line.as_bytes(), LINES_READ).err();
+        assert_eq!(refusal.map(|refusal| refusal.number().to_string()).as_deref(), Some(row[1]), "{row:?}");
+        assert_eq!(mill.observations(), before, "{row:?}");
+    }
+    assert_eq!(mill.read_line(b"", LINES_READ), Err(Refusal::Line));
+}
+
 /// A number of the page, written with commas.
 fn figure(text: &str) -> usize {
     text.replace(',', "").parse().unwrap_or_else(|_| panic!("the page has a figure {text}"))
@@ -210,6 +287,12 @@ fn sizes_are_as_the_page_says() {
         mtcore::assets_words(mtcore::MAX_CELLS),
     ];
     assert_eq!(largest, words.map(|words| 8 * words));
+    let lines: Vec<usize> = table("| buffer | size |")
+        .into_iter()
+        .filter(|row| row[0].starts_with("a line"))
+        .map(|row| figure(row[2].trim_end_matches(" bytes")))
+        .collect();
+    assert_eq!(lines, [mtcore::MAX_LINE + 2, mtcore::LINE_BYTES]);
 }
 
 const KINDS: [(&str, Value); 3] = [
@@ -250,7 +333,7 @@ fn categories_are_as_the_page_says() {
 fn refusals_have_the_page_s_error_codes() {
     let rows = table("| No. | name |");
     let numbers: Vec<u64> = rows.iter().map(|row| row[0].parse().unwrap()).collect();
-    assert_eq!(numbers, (1..=11).chain(13..=19).collect::<Vec<_>>());
+    assert_eq!(numbers, (1..=11).chain(13..=21).collect::<Vec<_>>());
     for (row, number) in rows.into_iter().zip(numbers) {
         let refusal = Refusal::from_number(number).unwrap();
         assert!(!matches!(refusal, Refusal::Unknown { .. }), "{number}");
