@@ -6,6 +6,7 @@ pub mod by_hand;
 pub mod call;
 pub mod client;
 pub mod damaged;
+pub mod dates;
 pub mod entries;
 #[cfg(target_os = "linux")]
 pub mod fenced;

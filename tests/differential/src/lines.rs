@@ -1,6 +1,7 @@
 //! Random adapter lines, and the rule that a line is the observe of its reading.
 
 use crate::call::{Answer, Call, Start};
+use crate::fixture::record;
 use crate::offers::Offers;
 use crate::pair::same;
 use crate::rng::Rng;
@@ -308,5 +309,5 @@ pub fn reading(model: &Model, text: &[u8]) -> Result<Record, u64> {
     let item = line.item(Clean);
     let known = usize::try_from(item).ok().filter(|&known| known < model.items());
     let value = known.map_or(Value::NONE, |known| line.value(model.category(known), Clean));
-    Ok(Record { item, time, value: (value.kind() << 32) + value.low(Clean) })
+    Ok(record(item, time, value))
 }
