@@ -89,7 +89,7 @@ fn before_months<F: FaultSet>(year: u64, faults: F) -> &'static [u64; 13] {
 
 /// Of 1970 to 2099.
 const fn is_leap(year: u64) -> bool {
-    year % 4 == 0
+    year.is_multiple_of(4)
 }
 
 const BEFORE_YEAR: [u64; YEARS + 1] = {
