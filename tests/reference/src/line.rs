@@ -175,10 +175,8 @@ pub fn read<F: FaultSet>(line: &[u8], faults: F) -> Option<Line> {
     };
     let (stamp, rest) = front(line)?;
     let (item, rest) = cut(rest)?;
-    let value = match cut(rest) {
-        Some((value, _)) if faults.has(Fault::ThirdBarTaken) => value,
-        _ => rest,
-    };
+    let third = if faults.has(Fault::ThirdBarTaken) { cut(rest) } else { None };
+    let value = third.map_or(rest, |(value, _)| value);
     Some(Line { stamp, item: number(item, faults)?, said: said(value, faults)? })
 }
 
@@ -271,9 +269,13 @@ fn thousandths<F: FaultSet>(text: &[u8], faults: F) -> Option<u64> {
     if faults.has(Fault::ThousandthsUnscaled) {
         return Some(number);
     }
-    let zeros = text.iter().take_while(|&&byte| byte == b'0').count();
-    let dropped = if faults.has(Fault::ZerosBehindPointDropped) { zeros.min(text.len() - 1) } else { 0 };
-    Some(number * [1, 100, 10, 1][text.len() - dropped])
+    let counted = if faults.has(Fault::ZerosBehindPointDropped) { digits_of(number) } else { text.len() };
+    Some(number * [100, 10, 1][counted - 1])
+}
+
+/// How many digits a number has.
+pub fn digits_of(number: u64) -> usize {
+    number.checked_ilog10().unwrap_or(0) as usize + 1
 }
 
 /// 1 to 10 digits, leading zeros counted.

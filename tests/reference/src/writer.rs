@@ -2,6 +2,7 @@
 
 use crate::calendar::Stamp;
 use crate::faults::{Fault, FaultSet};
+use crate::line::digits_of;
 use crate::value::{Level, Value};
 
 /// More than the longest line has.
@@ -54,7 +55,7 @@ impl Written {
     }
 
     fn number(&mut self, number: u64) {
-        let length = number.checked_ilog10().unwrap_or(0) as usize + 1;
+        let length = digits_of(number);
         digits(&mut self.bytes[self.length..][..length], number);
         self.length += length;
     }
