@@ -152,6 +152,123 @@ impl Call for Delivery {
     }
 }
 
+// Lines.
+
+/// Lines that are read or written in turn, each with a stamp.
+pub struct Lines {
+    name: String,
+    records: Vec<Record>,
+    lines: Vec<Vec<u8>>,
+    read: bool,
+}
+
+impl Lines {
+    /// The lines of some steps, a second apart, once to be read and once to be written.
+    fn both(stage: &Stage, kind: &str, steps: impl Iterator<Item = Step>) -> [Lines; 2] {
+        let record =
+            |(turn, Step { item, value }): (u64, Step)| Record { item, time: HOST + 1000 * turn, value };
+        let records: Vec<Record> = (0..).zip(steps).map(record).collect();
+        [("read", true), ("written", false)].map(|(done, read)| Lines {
+            name: format!("line {done}, {kind}"),
+            lines: records.iter().map(|&record| stage.line(record)).collect(),
+            records: records.clone(),
+            read,
+        })
+    }
+}
+
+/// What rows about lines begin with.
+pub const LINE: &str = "line ";
+
+pub fn sample_lines(stage: &Stage) -> [Lines; 2] {
+    let samples = |step: &Step| step.value >> 32 == 1;
+    Lines::both(stage, "a sample", stage::steps(stage.shape, STEPS).into_iter().filter(samples))
+}
+
+pub fn event_lines(stage: &Stage) -> [Lines; 2] {
+    let events = |step: &Step| step.value >> 32 == 2;
+    Lines::both(stage, "an event", stage::steps(stage.shape, STEPS).into_iter().filter(events))
+}
+
+/// On a stage with conditions.
+pub fn condition_lines(stage: &Stage) -> [Lines; 2] {
+    Lines::both(stage, "a condition", observe_condition(stage).steps.into_iter())
+}
+
+/// On a stage with discrete items, of which an equal Unavailable is recorded too.
+pub fn unavailable_lines(stage: &Stage) -> [Lines; 2] {
+    let unavailable = |item| Step { item: item as u64, value: 0 };
+    Lines::both(stage, "UNAVAILABLE", stage.discrete_items().map(unavailable))
+}
+
+impl Call for Lines {
+    fn name(&self) -> &str {
+        &self.name
+    }
+
+    fn run<C: Core>(&self, core: &C, stage: &mut Stage, turn: usize) -> Answer {
+        let turn = turn % self.lines.len();
+        let Stage { model, names, observations, text, .. } = black_box(stage);
+        if self.read {
+            return [core.read_line(model, names, observations, &self.lines[turn], HOST), 1];
+        }
+        let Record { item, time, value } = self.records[turn];
+        let (number, bytes) = core.write_line(model, names, item, time, value, text);
+        [number + 1, bytes]
+    }
+
+    /// Recorded, or written.
+    fn expects(&self, [word, bytes]: Answer) -> bool {
+        (1..1 << 63).contains(&word) && (self.read || (word == 1 && bytes > 24))
+    }
+}
+
+/// The lines of a delivery, one after the other.
+pub struct Scan {
+    name: String,
+    scans: Vec<Vec<Vec<u8>>>,
+}
+
+pub fn scan(stage: &Stage) -> Scan {
+    let lines = |scan: Vec<Record>| scan.into_iter().map(|record| stage.line(record)).collect();
+    let name = format!("{RECORDS} lines, {} name cells", stage.shape.cells);
+    Scan { name, scans: scans(stage).into_iter().map(lines).collect() }
+}
+
+impl Scan {
+    /// A pass that only finds both bars of each line of a scan: where they stand, added up.
+    pub fn find_bars(&self, turn: usize) -> usize {
+        let scan = black_box(&self.scans[turn % self.scans.len()]);
+        scan.iter().map(|line| bars(line)).sum()
+    }
+}
+
+#[inline(never)]
+fn bars(line: &[u8]) -> usize {
+    line.iter().enumerate().filter(|(_, &byte)| byte == b'|').take(2).map(|(at, _)| at).sum()
+}
+
+impl Call for Scan {
+    fn name(&self) -> &str {
+        &self.name
+    }
+
+    /// How far the last line's word is from the first one's.
+    fn run<C: Core>(&self, core: &C, stage: &mut Stage, turn: usize) -> Answer {
+        let scan = black_box(&self.scans[turn % self.scans.len()]);
+        let Stage { model, names, observations, answers, .. } = black_box(stage);
+        for (line, word) in scan.iter().zip(answers.iter_mut()) {
+            *word = core.read_line(model, names, observations, line, HOST);
+        }
+        [0, answers[RECORDS - 1].wrapping_sub(answers[0])]
+    }
+
+    /// Every line took a number.
+    fn expects(&self, answer: Answer) -> bool {
+        answer == [0, RECORDS as u64 - 1]
+    }
+}
+
 // Requests.
 
 pub struct Request {

@@ -16,7 +16,7 @@ mod stage;
 mod table;
 
 use calls::Call;
-use row::Row;
+use row::{Row, Scanned};
 use stage::{Shape, Stage};
 use std::env;
 
@@ -34,6 +34,8 @@ fn main() {
     table::print_calls(&rows);
     table::print_deliveries(&rows, &NAME_CELLS);
     table::print_conditions(&rows);
+    table::print_lines(&rows);
+    table::print_scans(&lines_of_a_delivery(rounds, wanted.as_deref().unwrap_or("")));
     table::print_floors(&rows);
     table::print_cold(&longest_calls(wanted.as_deref().unwrap_or("")));
     if wanted.is_none() {
@@ -79,6 +81,15 @@ fn calls_of_a_full_box(rounds: usize, wanted: &str) -> Vec<Row> {
     rows.add(&calls::observe_condition(&conditions), &conditions);
     rows.add(&calls::current_conditions(&conditions), &conditions);
     rows.add(&calls::current_at_conditions(&conditions), &conditions);
+    let discrete = stage.with_discrete_items();
+    for (lines, stage) in [
+        (calls::sample_lines(&stage), &stage),
+        (calls::event_lines(&stage), &stage),
+        (calls::condition_lines(&conditions), &conditions),
+        (calls::unavailable_lines(&discrete), &discrete),
+    ] {
+        lines.iter().for_each(|call| rows.add(call, stage));
+    }
     rows.add(&calls::named_assets(), &stage);
     rows.add(&calls::all_assets(), &stage);
     rows.add(&calls::refused_text(), &stage);
@@ -90,6 +101,14 @@ fn calls_of_a_full_box(rounds: usize, wanted: &str) -> Vec<Row> {
     rows.add(&calls::body(), &stage);
     rows.add(&calls::start(), &stage);
     rows.rows
+}
+
+/// As many lines as a delivery has records, with few names and with the most.
+fn lines_of_a_delivery(rounds: usize, wanted: &str) -> Vec<Scanned> {
+    let stages = NAME_CELLS.map(|cells| Stage::new(Shape { cells, ..Shape::LARGEST }));
+    let scans = stages.iter().map(|stage| (calls::scan(stage), stage));
+    let wanted = scans.filter(|(scan, _)| scan.name().contains(wanted));
+    wanted.map(|(scan, stage)| row::measure_scan(&scan, stage, rounds)).collect()
 }
 
 /// The calls that hold a host's lock longest, and some that are frequent, once and with cold caches.

@@ -1,6 +1,6 @@
 //! A row: one call on both sides, compared, then timed.
 
-use crate::calls::{Answer, Call};
+use crate::calls::{Answer, Call, Scan};
 use crate::clock;
 use crate::floor::{self, Floor};
 use crate::sides;
@@ -44,6 +44,30 @@ pub fn measure(call: &impl Call, stage: &Stage, rounds: usize) -> Row {
     let best = clock::best(&mut batches, rounds);
     let floor = best.get(2..4).map(|passes| Floor { stepped: passes[0], plain: passes[1] });
     Row { name: call.name().into(), core: best[0], reference: best[1], floor, core_stack, reference_stack }
+}
+
+/// Nanoseconds for the lines of a delivery.
+pub struct Scanned {
+    pub name: String,
+    pub core: f64,
+    pub reference: f64,
+    /// A pass that only finds their bars.
+    pub bars: f64,
+}
+
+pub fn measure_scan(scan: &Scan, stage: &Stage, rounds: usize) -> Scanned {
+    let (core, reference) = (sides::core(), sides::reference());
+    compare(scan, stage);
+    let (mut left, mut right) = (stage.clone(), stage.clone());
+    let mut core_batch = repeat(scan, &core, &mut left);
+    let mut reference_batch = repeat(scan, &reference, &mut right);
+    let mut bars_batch = |turns| {
+        for turn in 0..turns {
+            black_box(scan.find_bars(turn));
+        }
+    };
+    let best = clock::best(&mut [&mut core_batch, &mut reference_batch, &mut bars_batch], rounds);
+    Scanned { name: scan.name().into(), core: best[0], reference: best[1], bars: best[2] }
 }
 
 /// Both sides have to answer and write the same, and what the row's name says.

@@ -66,6 +66,31 @@ impl<C: Core> Core for Apart<C> {
     }
 
     #[inline(never)]
+    fn read_line(
+        &self,
+        model: &[u32],
+        names: &[u8],
+        observations: &mut [u64],
+        line: &[u8],
+        host: u64,
+    ) -> u64 {
+        self.0.read_line(model, names, observations, line, host)
+    }
+
+    #[inline(never)]
+    fn write_line(
+        &self,
+        model: &[u32],
+        names: &[u8],
+        item: u64,
+        time: u64,
+        value: u64,
+        text: &mut [u8],
+    ) -> (u64, u64) {
+        self.0.write_line(model, names, item, time, value, text)
+    }
+
+    #[inline(never)]
     fn store_asset(
         &self,
         model: &[u32],

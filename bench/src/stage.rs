@@ -6,7 +6,7 @@ use differential::offers::condition;
 use differential::rng::Rng;
 use differential::worlds::cell;
 use reference::stores::{asset_bytes, observation_words};
-use reference::Core;
+use reference::{Core, Record};
 use std::ops::Range;
 
 pub const HOST: u64 = 1_700_000_000_000;
@@ -41,6 +41,8 @@ pub struct Stage {
     pub reply: Vec<u64>,
     /// Words for a delivery.
     pub answers: Vec<u64>,
+    /// Room for a line.
+    pub text: Vec<u8>,
 }
 
 /// One observe's item and value.
@@ -60,6 +62,7 @@ impl Stage {
             assets: vec![0; asset_bytes(shape.a)],
             reply: vec![0; 4 + 3 * shape.n.max(128)],
             answers: vec![0; RECORDS],
+            text: vec![0; 64],
         };
         stage.begin();
         stage.fill_ring(steps(shape, shape.n / 4 * 7));
@@ -116,6 +119,17 @@ impl Stage {
             let number = sides::reference().observe(model, names, observations, item, HOST, HOST, value);
             assert!((1..1 << 63).contains(&number));
         }
+    }
+
+    /// The adapter line of an observation.
+    pub fn line(&self, record: Record) -> Vec<u8> {
+        let Stage { model, names, text, .. } = self;
+        let mut text = text.clone();
+        let Record { item, time, value } = record;
+        let (number, bytes) = sides::reference().write_line(model, names, item, time, value, &mut text);
+        assert_eq!(number, 0);
+        text.truncate(bytes as usize);
+        text
     }
 
     pub fn last(&self) -> u64 {

@@ -1,7 +1,7 @@
 //! Tables in Markdown.
 
 use crate::calls;
-use crate::row::Row;
+use crate::row::{Row, Scanned};
 
 pub fn print_calls(rows: &[Row]) {
     println!("| call | core ns | reference ns | core / reference | core stack | reference stack |");
@@ -53,7 +53,8 @@ const OF_WITHOUT: f64 = 2.0;
 
 /// The calls about conditions, those that have a row. A missed aim is said and fails nothing.
 pub fn print_conditions(rows: &[Row]) {
-    let of_conditions: Vec<&Row> = rows.iter().filter(|row| row.name.contains("condition")).collect();
+    let about = |row: &&Row| row.name.contains("condition") && !row.name.starts_with(calls::LINE);
+    let of_conditions: Vec<&Row> = rows.iter().filter(about).collect();
     if of_conditions.is_empty() {
         return;
     }
@@ -71,6 +72,52 @@ pub fn print_conditions(rows: &[Row]) {
             aim(row.core / row.reference, OF_REFERENCE),
             without.map_or("–".into(), |without| ratio(row.core, without)),
             without.map_or("–".into(), |without| aim(row.core / without, OF_WITHOUT)),
+        );
+    }
+}
+
+/// The calls about lines, those that have a row. A missed aim is said and fails nothing.
+pub fn print_lines(rows: &[Row]) {
+    let of_lines: Vec<&Row> = rows.iter().filter(|row| row.name.starts_with(calls::LINE)).collect();
+    if of_lines.is_empty() {
+        return;
+    }
+    println!("\nLines, with their aims:\n");
+    println!("| call | core ns | reference ns | core / reference | aim |");
+    println!("|---|---:|---:|---:|---|");
+    for row in of_lines {
+        println!(
+            "| {} | {} | {} | {} | {} |",
+            row.name,
+            nanoseconds(row.core),
+            nanoseconds(row.reference),
+            ratio(row.core, row.reference),
+            aim(row.core / row.reference, OF_REFERENCE),
+        );
+    }
+}
+
+/// The lines of a delivery one after the other: how many a second, beside a pass that only finds their bars.
+pub fn print_scans(scans: &[Scanned]) {
+    if scans.is_empty() {
+        return;
+    }
+    println!(
+        "\nLines of a delivery, one after the other, beside a pass that only finds the two bars of each:\n"
+    );
+    println!("| lines | core ns a line | lines a second | core / reference | aim | finding ns a line | core / finding |");
+    println!("|---|---:|---:|---:|---|---:|---:|");
+    for scan in scans {
+        let line = |time: f64| time / calls::RECORDS as f64;
+        println!(
+            "| {} | {} | {} | {} | {} | {} | {} |",
+            scan.name,
+            nanoseconds(line(scan.core)),
+            thousands((1e9 / line(scan.core)) as u64),
+            ratio(scan.core, scan.reference),
+            aim(scan.core / scan.reference, OF_REFERENCE),
+            nanoseconds(line(scan.bars)),
+            ratio(scan.core, scan.bars),
         );
     }
 }

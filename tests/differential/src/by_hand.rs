@@ -1,10 +1,10 @@
 //! Calls over stores changed by hand: core and store layer, compared.
 
 use crate::call::{Answer, Call, Start};
-use crate::fixture::{record, UNTOUCHED};
+use crate::fixture::{record, word, UNTOUCHED};
 use crate::pair::Pair;
 use crate::under_test::{self, UnderTest};
-use reference::{Clean, Record, Value};
+use reference::{Record, Value};
 
 /// The calls over stores as they stand, each over a fresh copy of them.
 pub struct ByHand {
@@ -33,9 +33,23 @@ impl ByHand {
     }
 
     pub fn observe(&self, item: u64, value: Value) -> u64 {
-        let value = (value.kind() << 32) + value.low(Clean);
-        match self.run(&Call::Observe { item, time: 7, host: 8, value }).0 {
+        match self.run(&Call::Observe { item, time: 7, host: 8, value: word(value) }).0 {
             Answer::Word(word) => word,
+            other => panic!("{other:?}"),
+        }
+    }
+
+    pub fn line(&self, line: &str) -> u64 {
+        match self.run(&Call::ReadLine { line: line.into(), host: 8 }).0 {
+            Answer::Word(word) => word,
+            other => panic!("{other:?}"),
+        }
+    }
+
+    /// A line with room for any: its number and bytes.
+    pub fn write(&self, item: u64, time: u64, value: Value) -> (u64, u64) {
+        match self.run(&Call::WriteLine { item, time, value: word(value), text: vec![0; 64] }).0 {
+            Answer::Pair(number, bytes) => (number, bytes),
             other => panic!("{other:?}"),
         }
     }

@@ -18,6 +18,17 @@ pub enum Call {
         host: u64,
         answers: Vec<u64>,
     },
+    ReadLine {
+        line: Vec<u8>,
+        host: u64,
+    },
+    /// With the bytes that stand in the text buffer at the call.
+    WriteLine {
+        item: u64,
+        time: u64,
+        value: u64,
+        text: Vec<u8>,
+    },
     StoreAsset {
         id: Vec<u8>,
         body: Vec<u8>,
@@ -52,9 +63,9 @@ const RETIRED: u64 = 12;
 /// An answer in the C interface's words.
 #[derive(Clone, Copy, PartialEq, Eq, Debug)]
 pub enum Answer {
-    /// Number and count of start, request and observe-batch.
+    /// Number and count of start, request, observe-batch and write-line.
     Pair(u64, u64),
-    /// The answer word of observe and store-asset.
+    /// The answer word of observe, read-line and store-asset.
     Word(u64),
     /// The place of a body; (0, 0) for any empty part.
     Part(u64, u64),
@@ -95,6 +106,14 @@ impl fmt::Debug for Call {
             Call::ObserveBatch { records, host, answers } => {
                 let (count, room) = (records.len(), answers.len());
                 write!(f, "observe-batch of {count} host {host} answers of {room}: {records:x?}")
+            }
+            Call::ReadLine { line, host } => {
+                // The longest are long.
+                let front = &line[..line.len().min(300)];
+                write!(f, "read-line of {} host {host}: {}", line.len(), front.escape_ascii())
+            }
+            Call::WriteLine { item, time, value, text } => {
+                write!(f, "write-line item {item} time {time} value {value:#x} text of {}", text.len())
             }
             Call::StoreAsset { id, body, host } => {
                 write!(f, "store-asset {} body of {} host {host}", id.escape_ascii(), body.len())

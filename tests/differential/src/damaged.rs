@@ -7,7 +7,7 @@ use crate::offers::Offers;
 use crate::pair::Pair;
 use crate::rng::Rng;
 use crate::texts::{self, Scene};
-use crate::{batches, lists, settings, worlds, Counts, Difference};
+use crate::{batches, lines, lists, settings, worlds, Counts, Difference};
 use reference::model::Model;
 use reference::{Clean, Core, Record};
 
@@ -65,13 +65,14 @@ fn step<C: Core>(pair: &mut Pair<C>, call: &Call) -> Result<Answer, String> {
         Call::Request { reply: words, .. } | Call::ObserveBatch { answers: words, .. } => {
             pair.reply == *words
         }
+        Call::WriteLine { text, .. } => pair.text == *text,
         _ => true,
     };
     // Store-asset's cell 0 is the one accepted answer that looks like Same.
     let stored = matches!((call, answer), (Call::StoreAsset { .. }, Answer::Word(0)));
     let unchanged = kept && reply_kept;
     if !stored && !unchanged {
-        return Err("a call that adds nothing changed a store or the reply".into());
+        return Err("a call that adds nothing changed a store, the reply or the text".into());
     }
     Ok(answer)
 }
@@ -238,7 +239,7 @@ impl Draw {
     }
 
     fn call<C: Core>(&self, rng: &mut Rng, pair: &Pair<C>, requests: u64) -> Call {
-        match rng.weighted(&[100 - requests, 12, requests, 6, 12]) {
+        match rng.weighted(&[100 - requests, 12, requests, 6, 12, 20, 4]) {
             0 => {
                 let Record { item, time, value } = batches::record(rng, &self.offers);
                 Call::Observe { item, time, host: worlds::time(rng), value }
@@ -257,6 +258,14 @@ impl Draw {
                 Call::Request { text, reply: worlds::garbage(rng, words) }
             }
             4 => batches::draw(rng, &self.offers),
+            5 => {
+                let record = batches::record(rng, &self.offers);
+                Call::ReadLine { line: lines::draw(rng, record), host: worlds::time(rng) }
+            }
+            6 => {
+                let record = batches::record(rng, &self.offers);
+                lines::write(rng, &pair.expected_model, &pair.expected_names, record)
+            }
             _ => {
                 let mut id = rng.pick(&self.ids).clone();
                 if rng.percent(10) {

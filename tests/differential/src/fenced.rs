@@ -142,6 +142,41 @@ impl<C: Core> Core for Fenced<C> {
         answer
     }
 
+    fn read_line(
+        &self,
+        model: &[u32],
+        names: &[u8],
+        observations: &mut [u64],
+        line: &[u8],
+        host: u64,
+    ) -> u64 {
+        let (side, areas) = (self.side(), &self.areas);
+        let (words, bytes) = (areas[0].lend(model, side), areas[1].lend(names, side));
+        let (ring, text) = (areas[2].lend(observations, side), areas[4].lend(line, side));
+        let answer = self.core.read_line(words, bytes, ring, text, host);
+        assert!(words == model && bytes == names && text == line, "model, names or line were written to");
+        observations.copy_from_slice(ring);
+        answer
+    }
+
+    fn write_line(
+        &self,
+        model: &[u32],
+        names: &[u8],
+        item: u64,
+        time: u64,
+        value: u64,
+        text: &mut [u8],
+    ) -> (u64, u64) {
+        let (side, areas) = (self.side(), &self.areas);
+        let (words, bytes) = (areas[0].lend(model, side), areas[1].lend(names, side));
+        let room = areas[5].lend(text, side);
+        let answer = self.core.write_line(words, bytes, item, time, value, room);
+        assert!(words == model && bytes == names, "model or names were written to");
+        text.copy_from_slice(room);
+        answer
+    }
+
     fn store_asset(
         &self,
         model: &[u32],

@@ -65,8 +65,7 @@ impl Tested<'_> {
 
     /// The answer word of an observe.
     pub fn observe(&mut self, item: u64, time: u64, host: u64, value: Value) -> u64 {
-        let value = (value.kind() << 32) + value.low(Clean);
-        match self.must(&Call::Observe { item, time, host, value }) {
+        match self.must(&Call::Observe { item, time, host, value: word(value) }) {
             Answer::Word(word) => word,
             other => panic!("observe answers {other:?}"),
         }
@@ -78,6 +77,23 @@ impl Tested<'_> {
         match self.must(&Call::ObserveBatch { records: records.to_vec(), host, answers }) {
             Answer::Pair(number, count) => ((number, count), self.pair.reply.clone()),
             other => panic!("observe-batch answers {other:?}"),
+        }
+    }
+
+    /// The answer word of a line.
+    pub fn line(&mut self, line: impl AsRef<[u8]>, host: u64) -> u64 {
+        match self.must(&Call::ReadLine { line: line.as_ref().to_vec(), host }) {
+            Answer::Word(word) => word,
+            other => panic!("read-line answers {other:?}"),
+        }
+    }
+
+    /// A line written into a buffer of so many bytes: number and bytes, and what the buffer then holds.
+    pub fn write(&mut self, item: u64, time: u64, value: Value, room: usize) -> ((u64, u64), Vec<u8>) {
+        let value = word(value);
+        match self.must(&Call::WriteLine { item, time, value, text: vec![UNWRITTEN; room] }) {
+            Answer::Pair(number, bytes) => ((number, bytes), self.pair.text.clone()),
+            other => panic!("write-line answers {other:?}"),
         }
     }
 
@@ -121,9 +137,17 @@ impl Tested<'_> {
 /// What stands in an answer buffer before a delivery.
 pub const UNTOUCHED: u64 = 0xfeed;
 
+/// What stands in a text buffer before a line is written.
+pub const UNWRITTEN: u8 = 0xee;
+
+/// A value's word, as the C interface takes it.
+pub fn word(value: Value) -> u64 {
+    (value.kind() << 32) + value.low(Clean)
+}
+
 /// A record of a value that some item takes.
 pub fn record(item: u64, time: u64, value: Value) -> Record {
-    Record { item, time, value: (value.kind() << 32) + value.low(Clean) }
+    Record { item, time, value: word(value) }
 }
 
 /// The numbers of a reply's rows.

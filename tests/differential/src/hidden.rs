@@ -65,6 +65,31 @@ impl Core for Hidden {
         Core::observe_batch(&self.faulty, model, names, &mut own.0, records, host, answers)
     }
 
+    fn read_line(
+        &self,
+        model: &[u32],
+        names: &[u8],
+        observations: &mut [u64],
+        line: &[u8],
+        host: u64,
+    ) -> u64 {
+        let own = &mut *self.stores.borrow_mut();
+        Core::read_line(&self.sound, model, names, observations, line, host);
+        Core::read_line(&self.faulty, model, names, &mut own.0, line, host)
+    }
+
+    fn write_line(
+        &self,
+        model: &[u32],
+        names: &[u8],
+        item: u64,
+        time: u64,
+        value: u64,
+        text: &mut [u8],
+    ) -> (u64, u64) {
+        Core::write_line(&self.faulty, model, names, item, time, value, text)
+    }
+
     fn store_asset(
         &self,
         model: &[u32],

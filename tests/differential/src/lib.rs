@@ -6,12 +6,14 @@ pub mod by_hand;
 pub mod call;
 pub mod client;
 pub mod damaged;
+pub mod dates;
 pub mod entries;
 #[cfg(target_os = "linux")]
 pub mod fenced;
 pub mod fixture;
 pub mod guard;
 pub mod hidden;
+pub mod lines;
 pub mod lists;
 pub mod offers;
 pub mod pair;
@@ -47,7 +49,7 @@ impl fmt::Display for Difference {
 }
 
 /// Answers by refusal number, 0 for accepted ones.
-pub type ByRefusal = [u64; 20];
+pub type ByRefusal = [u64; 22];
 
 /// What was met, so that a test can tell that its lists reach every case.
 #[derive(Clone, Default, Debug)]
@@ -59,6 +61,9 @@ pub struct Counts {
     /// The same for the records of accepted deliveries, and for those behind a recorded one.
     pub records: ByRefusal,
     pub amid: ByRefusal,
+    /// Lines read, and lines written.
+    pub lines: ByRefusal,
+    pub written: ByRefusal,
     pub stores: ByRefusal,
     pub requests: ByRefusal,
     pub bodies: [u64; 2],
@@ -87,14 +92,16 @@ impl Counts {
         match call {
             Call::Observe { .. } => self.observes[refusal] += 1,
             Call::ObserveBatch { .. } => self.batches[refusal] += 1,
+            Call::ReadLine { .. } => self.lines[refusal] += 1,
+            Call::WriteLine { .. } => self.written[refusal] += 1,
             Call::StoreAsset { .. } => self.stores[refusal] += 1,
             Call::Request { .. } => self.requests[refusal] += 1,
             Call::Body { .. } => self.bodies[usize::from(answer.is_refused())] += 1,
         }
         match (call, answer) {
-            (Call::Observe { .. }, Answer::Word(0)) => self.same += 1,
+            (Call::Observe { .. } | Call::ReadLine { .. }, Answer::Word(0)) => self.same += 1,
             (Call::ObserveBatch { .. }, Answer::Pair(0, n)) => self.words(reply, n as usize),
-            (_, Answer::Pair(0, k)) => self.rows += k,
+            (Call::Request { .. }, Answer::Pair(0, k)) => self.rows += k,
             _ => {}
         }
     }
@@ -126,6 +133,8 @@ impl Counts {
             (&mut self.batches, &other.batches),
             (&mut self.records, &other.records),
             (&mut self.amid, &other.amid),
+            (&mut self.lines, &other.lines),
+            (&mut self.written, &other.written),
             (&mut self.stores, &other.stores),
             (&mut self.requests, &other.requests),
             (&mut self.bodies, &other.bodies),
@@ -147,6 +156,8 @@ impl fmt::Display for Counts {
         writeln!(f, "  observe     {:?}", self.observes)?;
         writeln!(f, "  batch       {:?}", self.batches)?;
         writeln!(f, "  its records {:?}", self.records)?;
+        writeln!(f, "  read-line   {:?}", self.lines)?;
+        writeln!(f, "  write-line  {:?}", self.written)?;
         writeln!(f, "  store-asset {:?}", self.stores)?;
         writeln!(f, "  request     {:?}", self.requests)?;
         write!(f, "  body        {:?}", self.bodies)

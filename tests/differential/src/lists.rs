@@ -1,6 +1,5 @@
 //! Random lists of calls after a start, with clients that poll among them.
 
-use crate::batches;
 use crate::call::{Answer, Call, Start};
 use crate::client::Client;
 use crate::offers::Offers;
@@ -9,7 +8,7 @@ use crate::rng::Rng;
 use crate::session::Session;
 use crate::texts::{self, Scene};
 use crate::windows::Windows;
-use crate::{settings, worlds, Counts, Difference};
+use crate::{batches, lines, settings, worlds, Counts, Difference};
 use reference::machine::Observation;
 use reference::model::Model;
 use reference::{Clean, Core, FaultSet, Record};
@@ -138,12 +137,14 @@ impl Script {
     /// The next call, and the client whose poll it is.
     fn next<C: Core, F: FaultSet>(&mut self, session: &Session<C, F>) -> (Call, Option<usize>) {
         let polls = if self.clients.is_empty() { 0 } else { 20 };
-        match self.rng.weighted(&[45, 9, 30, 6, 6, polls]) {
+        match self.rng.weighted(&[40, 9, 30, 6, 6, 15, 6, polls]) {
             0 => (self.observe(), None),
             1 => (self.store_asset(), None),
             2 => (self.request(session), None),
             3 => (self.body(), None),
             4 => (self.observe_batch(), None),
+            5 => (self.read_line(), None),
+            6 => (self.write_line(session), None),
             _ => {
                 let client = self.rng.index(self.clients.len());
                 if self.clients[client].sleeps(&mut self.rng) {
@@ -220,6 +221,17 @@ impl Script {
         let records = (0..count).map(|_| self.record()).collect();
         let host = self.time();
         batches::call(&mut self.rng, records, host)
+    }
+
+    fn read_line(&mut self) -> Call {
+        let record = self.record();
+        Call::ReadLine { line: lines::draw(&mut self.rng, record), host: self.time() }
+    }
+
+    fn write_line<C: Core, F: FaultSet>(&mut self, session: &Session<C, F>) -> Call {
+        let record = self.record();
+        let (model, names) = (&session.pair.expected_model, &session.pair.expected_names);
+        lines::write(&mut self.rng, model, names, record)
     }
 
     /// Now and then what was offered last, so that it is equal.

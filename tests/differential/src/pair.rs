@@ -20,6 +20,9 @@ pub struct Pair<'c, C: Core> {
     /// The reply of the last request, or the answers of the last delivery, as both left them.
     pub reply: Vec<u64>,
     core_reply: Guarded<u64>,
+    /// The text of the last line written, as both left it.
+    pub text: Vec<u8>,
+    core_text: Guarded<u8>,
     records: Guarded<Record>,
     first: Guarded<u8>,
     second: Guarded<u8>,
@@ -76,6 +79,8 @@ impl<'c, C: Core> Pair<'c, C> {
             expected_assets: start.assets,
             reply: Vec::new(),
             core_reply: Guarded::new(&[]),
+            text: Vec::new(),
+            core_text: Guarded::new(&[]),
             records: Guarded::new(&[]),
             first: Guarded::new(&[]),
             second: Guarded::new(&[]),
@@ -97,6 +102,8 @@ impl<'c, C: Core> Pair<'c, C> {
         let answer = match call {
             Call::Observe { item, time, host, value } => self.observe(*item, *time, *host, *value),
             Call::ObserveBatch { records, host, answers } => self.observe_batch(records, *host, answers),
+            Call::ReadLine { line, host } => self.read_line(line, *host),
+            Call::WriteLine { item, time, value, text } => self.write_line(*item, *time, *value, text),
             Call::StoreAsset { id, body, host } => self.store_asset(id, body, *host),
             Call::Request { text, reply } => self.request(text, reply),
             Call::Body { id } => self.body(id),
@@ -150,6 +157,40 @@ impl<'c, C: Core> Pair<'c, C> {
             return Err("the records were written to".into());
         }
         self.compare_reply(got, expected)
+    }
+
+    fn read_line(&mut self, line: &[u8], host: u64) -> Result<Answer, String> {
+        self.first.set(line);
+        let (model, names, text) = (self.model.inner(), self.names.inner(), self.first.inner());
+        let got = self.core.read_line(model, names, self.observations.inner_mut(), text, host);
+        let expected = Core::read_line(
+            &self.reference,
+            &self.expected_model,
+            &self.expected_names,
+            &mut self.expected_observations,
+            line,
+            host,
+        );
+        if !self.first.holds(line) {
+            return Err("the line was written to".into());
+        }
+        self.compare(Answer::Word(got), Answer::Word(expected))
+    }
+
+    fn write_line(&mut self, item: u64, time: u64, value: u64, text: &[u8]) -> Result<Answer, String> {
+        self.core_text.set(text);
+        self.text.clear();
+        self.text.extend_from_slice(text);
+        let (model, names) = (self.model.inner(), self.names.inner());
+        let got = self.core.write_line(model, names, item, time, value, self.core_text.inner_mut());
+        let (model, names) = (&self.expected_model, &self.expected_names);
+        let expected = Core::write_line(&self.reference, model, names, item, time, value, &mut self.text);
+        let answer = self.compare(Answer::Pair(got.0, got.1), Answer::Pair(expected.0, expected.1))?;
+        if !self.core_text.intact() {
+            return Err("bytes beside the text were written to".into());
+        }
+        same("text byte", self.core_text.inner(), &self.text)?;
+        Ok(answer)
     }
 
     fn store_asset(&mut self, id: &[u8], body: &[u8], host: u64) -> Result<Answer, String> {

@@ -10,6 +10,7 @@ pub struct Session<'c, C: Core, F: FaultSet> {
     pub pair: Pair<'c, C>,
     pub machine: Machine<F>,
     scratch: Vec<u64>,
+    text: Vec<u8>,
 }
 
 impl<'c, C: Core, F: FaultSet> Session<'c, C, F> {
@@ -26,7 +27,7 @@ impl<'c, C: Core, F: FaultSet> Session<'c, C, F> {
         let Ok(machine) = machine else {
             return Ok(Err(expected));
         };
-        let session = Session { pair, machine, scratch: Vec::new() };
+        let session = Session { pair, machine, scratch: Vec::new(), text: Vec::new() };
         session.compare_contents()?;
         Ok(Ok(session))
     }
@@ -47,6 +48,17 @@ impl<'c, C: Core, F: FaultSet> Session<'c, C, F> {
                 same("answer word", &self.pair.reply, &self.scratch)?;
                 let (number, count) = done.pair();
                 Answer::Pair(number, count)
+            }
+            Call::ReadLine { line, host } => {
+                Answer::Word(self.machine.read_line(model, names, line, *host).word())
+            }
+            Call::WriteLine { item, time, value, text } => {
+                self.text.clone_from(text);
+                let value = Value::decode(*value);
+                let done = self.machine.write_line(model, names, *item, *time, value, &mut self.text);
+                same("text byte", &self.pair.text, &self.text)?;
+                let (number, bytes) = done.pair();
+                Answer::Pair(number, bytes)
             }
             Call::StoreAsset { id, body, host } => {
                 Answer::Word(self.machine.store_asset(model, names, id, body, *host).word())

@@ -22,10 +22,14 @@ pub enum Trespass {
     BehindRecords,
     BeforeAnswers,
     BehindAnswers,
+    IntoLine,
+    BehindLine,
+    BeforeWritten,
+    BehindWritten,
 }
 
 impl Trespass {
-    pub const ALL: [Trespass; 16] = [
+    pub const ALL: [Trespass; 20] = [
         Trespass::BeforeObservations,
         Trespass::BehindObservations,
         Trespass::BeforeAssets,
@@ -42,6 +46,10 @@ impl Trespass {
         Trespass::BehindRecords,
         Trespass::BeforeAnswers,
         Trespass::BehindAnswers,
+        Trespass::IntoLine,
+        Trespass::BehindLine,
+        Trespass::BeforeWritten,
+        Trespass::BehindWritten,
     ];
 }
 
@@ -154,6 +162,37 @@ impl Core for Trespasser {
         self.behind(Trespass::BehindRecords, records);
         self.write(Trespass::BeforeAnswers, answers, -1);
         self.behind(Trespass::BehindAnswers, answers);
+        answer
+    }
+
+    fn read_line(
+        &self,
+        model: &[u32],
+        names: &[u8],
+        observations: &mut [u64],
+        line: &[u8],
+        host: u64,
+    ) -> u64 {
+        let answer = Core::read_line(&self.core, model, names, observations, line, host);
+        if !line.is_empty() {
+            self.write(Trespass::IntoLine, line, 0);
+        }
+        self.behind(Trespass::BehindLine, line);
+        answer
+    }
+
+    fn write_line(
+        &self,
+        model: &[u32],
+        names: &[u8],
+        item: u64,
+        time: u64,
+        value: u64,
+        text: &mut [u8],
+    ) -> (u64, u64) {
+        let answer = Core::write_line(&self.core, model, names, item, time, value, text);
+        self.write(Trespass::BeforeWritten, text, -1);
+        self.behind(Trespass::BehindWritten, text);
         answer
     }
 

@@ -66,6 +66,30 @@ mod archive {
             (answer.number, answer.count)
         }
 
+        fn read_line(
+            &self,
+            model: &[u32],
+            names: &[u8],
+            observations: &mut [u64],
+            line: &[u8],
+            host: u64,
+        ) -> u64 {
+            ffi::read_line(model, names, observations, line, host)
+        }
+
+        fn write_line(
+            &self,
+            model: &[u32],
+            names: &[u8],
+            item: u64,
+            time: u64,
+            value: u64,
+            text: &mut [u8],
+        ) -> (u64, u64) {
+            let answer = ffi::write_line(model, names, item, time, value, text);
+            (answer.number, answer.count)
+        }
+
         fn store_asset(
             &self,
             model: &[u32],

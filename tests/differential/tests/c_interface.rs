@@ -28,6 +28,9 @@ fn pointers_of_empty_slices() {
             assert_eq!(raw::mtcore_observe(w, 0, b, 0, r, 0, 0, 1, 1, 0), END + 1);
             let answer = raw::mtcore_observe_batch(w, 0, b, 0, r, 0, l, 0, 1, r, 0);
             assert_eq!((answer.number, answer.count), (1, 0));
+            assert_eq!(raw::mtcore_read_line(w, 0, b, 0, r, 0, b, 0, 1), END + 1);
+            let answer = raw::mtcore_write_line(w, 0, b, 0, 0, 0, 0, c, 0);
+            assert_eq!((answer.number, answer.count), (1, 0));
             assert_eq!(raw::mtcore_store_asset(w, 0, b, 0, r, 0, c, 0, b, 0, b, 0, 1), END + 1);
             let answer = raw::mtcore_request(w, 0, b, 0, r, 0, c, 0, b, 0, r, 0);
             assert_eq!((answer.number, answer.count), (1, 0));
@@ -87,6 +90,33 @@ fn empty_deliveries() {
             assert_eq!((answer.number, answer.count), (0, 0));
         }
     }
+}
+
+/// An empty line and an empty text, and lines over an empty store.
+#[test]
+fn empty_lines() {
+    let (model, names) = (plain_model(2, true), names(&["Device"]));
+    let mut observations = vec![0; mtcore::observation_words(2, 2)];
+    let mut assets = vec![0; mtcore::asset_bytes(1)];
+    let sizes = Sizes { places: 2, cells: 1, origin: 1 };
+    mtcore::start(&model, &names, &mut observations, &mut assets, sizes, 1).unwrap();
+    let mut read = |line: &[u8]| mtcore::read_line(&model, &names, &mut observations, line, 1);
+    assert_eq!(read(b"").map_err(Refusal::number), Err(20));
+    assert_eq!(read(b"|0|5"), Ok(Observed::Recorded(3)));
+    assert_eq!(read(b"|0|5.0"), Ok(Observed::Same));
+    assert_eq!(read(b"2001-02-29T00:00:00.000Z|0|5").map_err(Refusal::number), Err(21));
+    for line in [&b""[..], b"|0|5"] {
+        assert_eq!(mtcore::read_line(&model, &names, &mut [], line, 1), Err(Refusal::Store));
+    }
+    let mut text = [7; 5];
+    let five = Value::Sample(5000);
+    assert_eq!(mtcore::write_line(&model, &names, 0, 0, five, &mut []), Err(Refusal::Space));
+    assert_eq!(mtcore::write_line(&model, &names, 0, 0, five, &mut text[..3]), Err(Refusal::Space));
+    assert_eq!(text, [7; 5]);
+    assert_eq!(mtcore::write_line(&model, &names, 0, 0, five, &mut text), Ok(4));
+    assert_eq!(&text, b"|0|5\x07");
+    let late = mtcore::write_line(&model, &names, 0, u64::MAX, five, &mut text);
+    assert_eq!(late.map_err(Refusal::number), Err(21));
 }
 
 /// The wrapper's results say what the words say.

@@ -1,7 +1,7 @@
 //! Random lists after a start, and random calls over damaged contents.
 
 use differential::under_test::core;
-use differential::{batches, damaged, lists, settings, Counts, Difference};
+use differential::{batches, damaged, lines, lists, settings, Counts, Difference};
 use reference::Clean;
 
 /// Runs a list for each seed and stops at the first difference.
@@ -39,6 +39,12 @@ fn every_answer_is_met(counts: &Counts) {
     for refusal in [0, 4, 5, 6, 19] {
         assert!(counts.amid[refusal] > 0, "no record is answered {refusal} behind a recorded one");
     }
+    for refusal in [0, 4, 5, 6, 19, 20, 21] {
+        assert!(counts.lines[refusal] > 0, "a line is never answered {refusal}");
+    }
+    for refusal in [0, 4, 5, 15, 21] {
+        assert!(counts.written[refusal] > 0, "the writer never answers {refusal}");
+    }
     conditions_are_met(counts);
     for refusal in [0, 6, 14] {
         assert!(counts.stores[refusal] > 0, "store-asset never answers {refusal}");
@@ -54,7 +60,7 @@ fn every_answer_is_met(counts: &Counts) {
     assert!(counts.repeats > 0, "no discrete item repeats its value");
     // No list after an accepted start meets a damaged store.
     assert_eq!((counts.observes[2], counts.stores[2], counts.requests[2]), (0, 0, 0));
-    assert_eq!((counts.batches[2], counts.records[2]), (0, 0));
+    assert_eq!((counts.batches[2], counts.records[2], counts.lines[2]), (0, 0, 0));
 }
 
 /// One call in so many at least has to be of a kind that a list is about.
@@ -85,9 +91,10 @@ fn damaged_contents_get_the_same_answers() {
     if settings::tracing() {
         return;
     }
-    for table in [&counts.observes, &counts.batches, &counts.stores, &counts.requests] {
+    for table in [&counts.observes, &counts.batches, &counts.lines, &counts.stores, &counts.requests] {
         assert!(table[1] > 0 && table[2] > 0, "damage is never noticed");
     }
+    assert!(counts.written[1] > 0, "the writer never notices a damaged model");
     late_and_early_are_met(&counts);
     assert!(counts.observes[19] > 0, "no code is too many");
     for refusal in [2, 6, 19] {
@@ -110,6 +117,21 @@ fn a_delivery_is_its_single_observes() {
     }
 }
 
+/// Against the core itself: the same word and store by a line and by the observe of its reading, and what is
+/// written reads to what it was written for.
+#[test]
+fn a_line_is_the_observe_of_its_reading() {
+    let counts = all(4000, |seed, counts| lines::run(&core(), seed, counts));
+    if settings::tracing() {
+        return;
+    }
+    for refusal in [0, 2, 4, 5, 6, 19, 20, 21] {
+        assert!(counts.lines[refusal] > 0, "a line is never answered {refusal}");
+    }
+    assert!(counts.lines[0] > counts.calls / 4, "too few lines are read: {counts}");
+    assert!(counts.written[0] > counts.calls / 20, "too few lines are written: {counts}");
+}
+
 /// Fewer lists, with every slice against a page that may not be touched.
 #[cfg(target_os = "linux")]
 #[test]
@@ -118,6 +140,7 @@ fn nothing_outside_a_slice_is_touched() {
     all(600, |seed, counts| {
         lists::run(&core, Clean, seed, counts)?;
         damaged::run(&core, seed, counts)?;
-        batches::run(&core, seed, counts)
+        batches::run(&core, seed, counts)?;
+        lines::run(&core, seed, counts)
     });
 }

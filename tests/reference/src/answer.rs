@@ -22,6 +22,8 @@ pub enum Refusal {
     Late = 17,
     Early = 18,
     Crowded = 19,
+    Line = 20,
+    Stamp = 21,
 }
 
 impl Refusal {
@@ -35,7 +37,8 @@ impl Refusal {
     }
 }
 
-/// What start, request and observe-batch answer: how many rows or records there are, or a refusal.
+/// What start, request, observe-batch and write-line answer: how many rows, records or bytes there are, or a
+/// refusal.
 #[derive(Clone, Copy, PartialEq, Eq, Debug)]
 pub enum Done {
     Done(u64),

@@ -51,6 +51,21 @@ pub trait Core {
         answers: &mut [u64],
     ) -> (u64, u64);
 
+    /// The answer word of the observe that the line stands for.
+    fn read_line(&self, model: &[u32], names: &[u8], observations: &mut [u64], line: &[u8], host: u64)
+        -> u64;
+
+    /// Number and bytes. The front of the buffer gets the line.
+    fn write_line(
+        &self,
+        model: &[u32],
+        names: &[u8],
+        item: u64,
+        time: u64,
+        value: u64,
+        text: &mut [u8],
+    ) -> (u64, u64);
+
     /// The answer word.
     fn store_asset(
         &self,

@@ -429,6 +429,128 @@ faults! {
     /// A record that meets a bad ring entry makes it good for the next one.
     BadEntryMended in Stores,
 
+    // Lines: the form.
+    /// A carriage return behind a line is stripped.
+    CarriageReturnStripped in Both,
+    /// A blank behind a line is stripped.
+    BlankStripped in Both,
+    /// A third bar ends the value, whatever stands behind it.
+    ThirdBarTaken in Both,
+    /// Eleven digits are read.
+    ElevenDigitsTaken in Both,
+    /// A leading zero does not count among the ten digits.
+    LineZeroUncounted in Both,
+    /// Words are read in lower case too.
+    LowerCaseTaken in Both,
+    /// `NORMAL` without a code is Normal 0.
+    BareNormalTaken in Both,
+    /// `+5` is read.
+    PlusTaken in Both,
+    /// `.5` is read.
+    NothingBeforePointTaken in Both,
+    /// `5.` is read.
+    NothingBehindPointTaken in Both,
+    /// A fourth digit behind the point is overlooked.
+    FourDecimalsTaken in Both,
+
+    // Lines: stamps.
+    /// Each month has the length of the next.
+    MonthLengthsShifted in Both,
+    /// Every year has a February 29.
+    LeapDayEveryYear in Both,
+    /// 2000 has no February 29, as other years divisible by a hundred.
+    NoLeapDayIn2000 in Both,
+    /// 2100 is read.
+    YearBehindLastTaken in Both,
+    /// Day 0 is the one before the first.
+    DayZeroTaken in Both,
+    /// Hour 24 is read.
+    HourTwentyFourTaken in Both,
+    /// Second 60 is read.
+    SecondSixtyTaken in Both,
+    /// Behind an empty stamp the time stays 0: the host's is lost.
+    EmptyStampKept in Both,
+    /// Behind a stamp that gives 0 the time stays 0.
+    EpochStampKept in Both,
+
+    // Lines: values.
+    /// The item is cut to 32 bits.
+    LineItemCut in Both,
+    /// The point is overlooked: `-0.5` is -5000.
+    PointOverlooked in Both,
+    /// Digits behind the point are thousandths, however few: `-0.5` is -5.
+    ThousandthsUnscaled in Both,
+    /// Zeros right behind the point are dropped: `5.05` is 5500.
+    ZerosBehindPointDropped in Both,
+    /// The sign is the whole part's, and -0 has none: `-0.5` is 500.
+    SignLostBelowOne in Both,
+    /// The sign is the whole part's alone: `-1.5` is -500.
+    SignOfWholeOnly in Both,
+    /// A sample that is too large wraps.
+    SampleWraps in Both,
+    /// The lowest sample is refused.
+    LowestSampleRefused in Both,
+    /// `-0` is an event's code.
+    NegativeZeroCode in Both,
+    /// `5.0` is an event's code.
+    PointedCode in Both,
+    /// A code that is too large wraps.
+    CodeWraps in Both,
+    /// A native code that is too large spills into the level.
+    WideCodeSpills in Both,
+    /// Normal loses its code.
+    NormalLosesCode in Both,
+
+    // Lines: the order of refusals.
+    /// The stamp is looked at before the form of item and value.
+    StampBeforeForm in Both,
+    /// The item is looked at before the value's form.
+    ItemBeforeForm in Both,
+    /// The item is looked at before the stamp.
+    ItemBeforeStamp in Both,
+    /// The kind is looked at before the stamp.
+    KindBeforeStamp in Both,
+    /// A value of another category's form is malformed.
+    OtherFormMalformed in Both,
+    /// The form is looked at before the model.
+    LineBeforeModel in Stores,
+    /// The form is looked at before the head.
+    LineBeforeHead in Stores,
+
+    // Lines: the writer.
+    /// Time 0 has a stamp.
+    StampForTimeZero in Both,
+    /// A stamp has no thousandths.
+    StampToTheSecond in Both,
+    /// An item of one digit gets a leading zero.
+    ItemPadded in Both,
+    /// Zeros behind a sample's point stay: `5.500`.
+    TrailingZerosKept in Both,
+    /// A whole sample has a point: `5.0`.
+    NeedlessPoint in Both,
+    /// Zeros right behind a sample's point are lost: 5050 is `5.5`.
+    WrittenZerosLost in Both,
+    /// -500 is `0.5`.
+    WrittenSignLost in Both,
+    /// Normal 0 is `NORMAL`.
+    NormalWithoutCode in Both,
+    /// The last millisecond of 2099 is refused.
+    LastTimeRefused in Both,
+    /// The millisecond behind it is written.
+    TimeBehindLastWritten in Both,
+    /// The time is looked at before the kind.
+    StampBeforeKind in Both,
+    /// The space is looked at before the time.
+    SpaceBeforeStamp in Both,
+    /// A buffer with exactly the line's bytes is refused.
+    ExactLineRefused in Both,
+    /// The bytes behind the line are cleared.
+    LineTailCleared in Both,
+    /// A refused line writes a byte.
+    RefusedLineWrites in Both,
+    /// A short buffer gets what it has room for, and is refused.
+    ShortRoomFilled in Both,
+
     // Assets.
     /// `?` passes in an id.
     QuestionMarkInIds in Both,

@@ -3,20 +3,23 @@
 //!
 //! Two layers answer the same calls:
 //!
-//! * [`stores`]: the six calls over the flat stores as the C interface takes them. It takes any
+//! * [`stores`]: the calls over the flat stores as the C interface takes them. It takes any
 //!   contents, and its answers are those of document 01 for a damaged store too.
 //! * [`machine`]: the machine that forgets nothing. It holds every observation recorded and every
 //!   asset stored, and searches them.
 //!
-//! Both read a request text, a path and a model through the same modules ([`text`], [`path`],
-//! [`model`]); everything about ring, latest values, checkpoints and asset cells they do apart.
+//! Both read a request text, a path, a model and an adapter line through the same modules ([`text`],
+//! [`path`], [`model`], [`line`] with [`calendar`] and [`writer`]); everything about ring, latest values,
+//! checkpoints and asset cells they do apart.
 //!
 //! Both carry a set of planted [`faults`], empty in earnest ([`faults::Clean`]), with which the
 //! tests are tested.
 
 pub mod answer;
+pub mod calendar;
 pub mod calls;
 pub mod faults;
+pub mod line;
 pub mod machine;
 mod misjudged;
 pub mod model;
@@ -24,6 +27,7 @@ pub mod path;
 pub mod stores;
 pub mod text;
 pub mod value;
+pub mod writer;
 
 pub use answer::{Done, Observed, Refusal, Stored};
 pub use calls::{Core, Record};

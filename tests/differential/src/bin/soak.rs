@@ -5,7 +5,7 @@
 
 use differential::rng::list_seed;
 use differential::under_test::core;
-use differential::{batches, damaged, lists, settings, Counts, Difference};
+use differential::{batches, damaged, lines, lists, settings, Counts, Difference};
 use reference::Clean;
 use std::env;
 use std::io::Write;
@@ -62,5 +62,6 @@ fn soak(master: u64, length: Duration) -> (u64, u64) {
 fn all(seed: u64, counts: &mut Counts) -> Result<(), Difference> {
     lists::run(&core(), Clean, seed, counts)?;
     damaged::run(&core(), seed, counts)?;
-    batches::run(&core(), seed, counts)
+    batches::run(&core(), seed, counts)?;
+    lines::run(&core(), seed, counts)
 }

@@ -7,6 +7,7 @@
 mod batch;
 mod conditions;
 mod contents;
+mod lines;
 mod requests;
 
 use crate::answer::{Observed, Refusal, Stored};

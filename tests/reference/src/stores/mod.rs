@@ -1,10 +1,11 @@
-//! The six calls over their stores, as the C interface takes them: any words, any lengths.
+//! The calls over their stores, as the C interface takes them: any words, any lengths.
 //!
 //! Every call checks all it takes and changes nothing before its last check.
 
 mod assets;
 mod batch;
 mod conditions;
+mod lines;
 mod observations;
 mod request;
 
@@ -105,13 +106,15 @@ impl<F: FaultSet> Stores<F> {
         value: Value,
     ) -> Result<Option<u64>, Refusal> {
         let model = self.model(model, names)?;
-        self.offer(&model, words, None, item, time, host, value)
+        let head = Head::check(words, &model, self.faults).ok_or(Refusal::Store)?;
+        self.offer(&model, &head, words, None, item, time, host, value)
     }
 
-    /// Observe behind the model's check. Same is looked for in other words only by a planted fault.
+    /// Observe behind the checks of model and head. Same is looked for in other words only by a planted fault.
     fn offer(
         &self,
         model: &Model,
+        head: &Head,
         words: &mut [u64],
         stale: Option<&[u64]>,
         item: u64,
@@ -119,14 +122,13 @@ impl<F: FaultSet> Stores<F> {
         host: u64,
         value: Value,
     ) -> Result<Option<u64>, Refusal> {
-        let head = Head::check(words, model, self.faults).ok_or(Refusal::Store)?;
         if item >= model.items() as u64 {
             return Err(Refusal::Item);
         }
         let item = item as usize;
         // A discrete item is asked for no Same, and its latest word is not read.
-        let discrete = self.is_discrete(&head, model, item, value);
-        if !discrete && self.same_before_kind(&head, words, item, value) {
+        let discrete = self.is_discrete(head, model, item, value);
+        if !discrete && self.same_before_kind(head, words, item, value) {
             return Ok(None);
         }
         if !value.allowed(model.category(item), self.faults) {
@@ -139,7 +141,7 @@ impl<F: FaultSet> Stores<F> {
         let time = if missing { host } else { time };
         let packed = value.packed(item as u64, self.faults);
         if head.is_condition(item) {
-            return self.offer_condition(&head, words, stale, item, time, packed);
+            return self.offer_condition(head, words, stale, item, time, packed);
         }
         if !discrete && head.is_latest(stale.unwrap_or(words), item, packed, self.faults) {
             if self.faults.has(Fault::SameRenewsTime) {
@@ -147,7 +149,7 @@ impl<F: FaultSet> Stores<F> {
             }
             return Ok(None);
         }
-        self.add(&head, words, item, time, packed, discrete).map(Some)
+        self.add(head, words, item, time, packed, discrete).map(Some)
     }
 
     /// The same for a condition item: the entries' form, Same, and room among them.
@@ -383,6 +385,29 @@ impl<F: FaultSet> Core for Stores<F> {
         answers: &mut [u64],
     ) -> (u64, u64) {
         Stores::observe_batch(self, model, names, observations, records, host, answers).pair()
+    }
+
+    fn read_line(
+        &self,
+        model: &[u32],
+        names: &[u8],
+        observations: &mut [u64],
+        line: &[u8],
+        host: u64,
+    ) -> u64 {
+        Stores::read_line(self, model, names, observations, line, host).word()
+    }
+
+    fn write_line(
+        &self,
+        model: &[u32],
+        names: &[u8],
+        item: u64,
+        time: u64,
+        value: u64,
+        text: &mut [u8],
+    ) -> (u64, u64) {
+        Stores::write_line(self, model, names, item, time, Value::decode(value), text).pair()
     }
 
     fn store_asset(
