@@ -97,7 +97,7 @@ pub record Making (n : ℕ) (digits : List ℕ) (i left : ℕ) : Type 0 where
   pub len : length digits ≡ 20
   pub text : decimal n ≡ leftText left ++ drop i digits
 
-pub making-last : (n : ℕ) → n < 2 ^ 64 → Making n (set (replicate 20 48) 19 (48 + n % 10)) 19 (n / 10)
+pub making-last : (n : ℕ) → n < 2 ^ 64 → Making n (set (replicate 20 0) 19 (48 + n % 10)) 19 (n / 10)
 making-last n h = record { place = omega arith; small = omega arith; len = refl; text = decimal-last n h }
 
 drop-set : (l : List ℕ) (i x : ℕ) → i < length l → drop i (set l i x) ≡ x ∷ drop (suc i) l

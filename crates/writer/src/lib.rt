@@ -73,7 +73,7 @@ pub fn put_four(out: &mut [u8], at: usize, n: u64) -> usize
 pub fn put_decimal(out: &mut [u8], at: usize, n: u64) -> usize
     ensures { λ r. ⌜ Put (now (out .entry)) at (decimal n) (now (out .exit)) r ⌝ }
 {
-    let mut digits: [u8; 20] = [48; 20];
+    let mut digits: [u8; 20] = [0; 20];
     let mut i: usize = 19;
     digits[i] = 48 + ((n % 10) as u8);
     let mut left = n / 10;
