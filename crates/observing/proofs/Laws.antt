@@ -19,9 +19,9 @@ use Rattle.spec.specs.declared.ObserveAnswer.{ObserveAnswer}
 use Rattle.spec.specs.declared.ObserveAnswer.the-variants.{Recorded}
 use Rattle.spec.proofs.Words.{told, by-test}
 use Rattle.spec.proofs.Packing.{taken-word-lt, word-back, decode-fits}
-use Rattle.entries.specs.Forms.{judged}
-use Rattle.entries.specs.declared.Judged.{Judged}
-use Rattle.entries.specs.declared.Judged.the-variants.{Broken, Repeated, New}
+use Rattle.judging.specs.Findings.{judged}
+use Rattle.judging.specs.declared.Judged.{Judged}
+use Rattle.judging.specs.declared.Judged.the-variants.{Broken, Repeated, New}
 use Rattle.observing.specs.Found.{found, foundGives, observedBy, shortAnswer, Shortened}
 
 module _ (k l w : ℕ) where

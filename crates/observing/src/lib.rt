@@ -9,9 +9,9 @@ ghost use Rattle.spec.specs.Value.{repeats, decode};
 ghost use Rattle.spec.specs.Model.{Sizes, maxItems, items, category};
 ghost use Rattle.history.specs.Observations.{Head, ringSize, latestAt, itemRow, latestOk};
 ghost use Rattle.history.specs.Calls.{timeOr, roomFor, observeBy, observeItem};
-ghost use Rattle.entries.specs.declared.Judged.the-variants.{New};
+ghost use Rattle.judging.specs.declared.Judged.the-variants.{New};
 ghost use Rattle.observing.specs.Found.{found, observedBy, shortAnswer, Shortened};
-use entries::Judged;
+use judging::Judged;
 use spec::ObserveAnswer;
 use spec::Refusal;
 use spec::Value;
@@ -92,7 +92,7 @@ fn judge_latest(model: &[u32], observations: &[u64], cat: u64, item: u64, word: 
     let m = model::items(model);
     let t = observations::latest_at(observations::ring_size(observations, m));
     let k = spec::ENTRIES * item;
-    entries::judge(observations, spec::ENTRIES * m, t, k, item, word)
+    judging::judge(observations, spec::ENTRIES * m, t, k, item, word)
 }
 
 // The long way of a value that its item takes: what is found in its latest decides.

@@ -28,7 +28,8 @@ use Rattle.spec.proofs.Steps.{form-less}
 use Rattle.history.proofs.Added.{rowsFor, rows-for-three, rows-for-few, length-evict, evict-item}
 use Rattle.history.proofs.Heads.{room-for}
 use Rattle.observations.specs.Ring.{ringWord}
-use Rattle.entries.specs.Forms.{Table, takesOne}
+use Rattle.entries.specs.Forms.{Table}
+use Rattle.stepping.specs.Taking.{takesOne}
 use Rattle.plain.specs.Short.{overwritable}
 use Rattle.plain.proofs.Laws.{by-word, number-left, next-ring, put-latest}
 use Rattle.recording.specs.Writing.{Overwriting, InTable}

@@ -30,7 +30,7 @@ fn may_overwrite(model: &[u32], st: &[u64], n: u64, word: u64) -> bool
         return true;
     }
     let t = observations::checkpoint_at(n, m);
-    entries::takes_one(st, spec::ENTRIES * m, t, spec::ENTRIES * item, item, word)
+    stepping::takes_one(st, spec::ENTRIES * m, t, spec::ENTRIES * item, item, word)
 }
 
 // Whether a number is left, and the entry that it overwrites, if any, may go to its item's checkpoint.
@@ -70,7 +70,7 @@ fn set_newest(model: &[u32], st: &mut [u64], t: u64, item: u64, number: u64, tim
     let k = spec::ENTRIES * item;
     let category = model::category(model, item);
     if category == spec::CONDITION {
-        entries::step(st, w, t, k, item, number, time, word);
+        stepping::step(st, w, t, k, item, number, time, word);
     } else {
         observations::put_row(st, w, t, k, number, time, word);
     }

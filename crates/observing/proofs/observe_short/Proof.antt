@@ -6,7 +6,7 @@ use native.Mathlib.Numerals.{add-one}
 use borrow.Author.Tests.{ne-eqb}
 use Rattle.spec.specs.Model.{items, category}
 use Rattle.history.specs.Observations.{ringSize}
-use Rattle.entries.specs.declared.Judged.the-variants.{New}
+use Rattle.judging.specs.declared.Judged.the-variants.{New}
 use Rattle.observing.specs.Found.{found}
 use Rattle.observing.proofs.Laws.{found-same, found-new, by-found}
 use borrow.Author.Needs.{needs}

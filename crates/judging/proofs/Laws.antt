@@ -16,11 +16,11 @@ use Rattle.marks.proofs.Laws.{first-at}
 use Rattle.marks.proofs.Keys.{place-max}
 use Rattle.marks.proofs.Repeats.{raised-crowded, raised-new, raised-there, idle-fits, idle-first}
 use Rattle.marks.proofs.Repeats.{normal-none, normal-free, normal-there, all-active, all-idle}
-use Rattle.entries.specs.Forms.{repeatedIf, raisedJudged, clearedJudged, judged}
-use Rattle.entries.specs.declared.Judged.{Judged}
-use Rattle.entries.specs.declared.Judged.the-variants.{Broken, Repeated, Crowded, New}
+use Rattle.judging.specs.Findings.{repeatedIf, raisedJudged, clearedJudged, judged}
+use Rattle.judging.specs.declared.Judged.{Judged}
+use Rattle.judging.specs.declared.Judged.the-variants.{Broken, Repeated, Crowded, New}
 use Rattle.entries.proofs.Filling.{FilledBy, by-marked, by-eight, by-formed}
 use Rattle.entries.proofs.Marks.{used-at}
 
 -- ---- a branch each
 

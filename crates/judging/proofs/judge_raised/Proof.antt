@@ -1,13 +1,13 @@
 -- The place of the key decides, and the row there.
 use lib.Seq.{getD-take}
 use Rattle.entries.proofs.Filling.{row-of}
-use Rattle.entries.proofs.Judging.{raised-none, raised-free, raised-by}
+use Rattle.judging.proofs.Laws.{raised-none, raised-free, raised-by}
 use native.Mathlib.Omega.{arith}
 use Prim.Native.Nat.{_<_}
 use mathlib.Core.Path.{sym, _∙_}
 use borrow.Author.Needs.{needs}
-use Rattle.entries.proofs.judge_raised.Statement.{statement}
-use Rattle.entries.proofs.judge_raised.Tie as tie
+use Rattle.judging.proofs.judge_raised.Statement.{statement}
+use Rattle.judging.proofs.judge_raised.Tie as tie
 
 find-requires : tie.Need-find-requires
 find-requires c κs = search needs

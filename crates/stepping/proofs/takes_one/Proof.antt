@@ -1,13 +1,13 @@
 -- The change is Full exactly where the step has nine.
 use Rattle.spec.specs.Blocks.{tableRows}
 use Rattle.changes.specs.Changes.{isFull}
 use Rattle.entries.proofs.Laws.{filled-broken}
 use Rattle.entries.proofs.Filling.{FilledBy, filled-by, rows-many}
-use Rattle.entries.proofs.Stepping.{takes-broken, takes-by, not-full}
+use Rattle.stepping.proofs.Laws.{takes-broken, takes-by, not-full}
 use mathlib.Core.Path.{sym, ap, _∙_}
 use borrow.Author.Needs.{needs}
-use Rattle.entries.proofs.takes_one.Statement.{statement}
-use Rattle.entries.proofs.takes_one.Tie as tie
+use Rattle.stepping.proofs.takes_one.Statement.{statement}
+use Rattle.stepping.proofs.takes_one.Tie as tie
 
 -- the rows that were filled
 by : (c : tie.After-enum-told) →

@@ -1,10 +1,10 @@
 -- The place of the key decides.
 use lib.Seq.{getD-take}
-use Rattle.entries.proofs.Judging.{cleared-none, cleared-by}
+use Rattle.judging.proofs.Laws.{cleared-none, cleared-by}
 use native.Mathlib.Omega.{arith}
 use borrow.Author.Needs.{needs}
-use Rattle.entries.proofs.judge_cleared.Statement.{statement}
-use Rattle.entries.proofs.judge_cleared.Tie as tie
+use Rattle.judging.proofs.judge_cleared.Statement.{statement}
+use Rattle.judging.proofs.judge_cleared.Tie as tie
 
 find-requires : tie.Need-find-requires
 find-requires c κs = search needs

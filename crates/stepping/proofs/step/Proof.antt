@@ -1,9 +1,9 @@
 -- The change of each of the three columns is the step of the rows.
 use Rattle.entries.proofs.Filling.{rows-many, marks-filled}
-use Rattle.entries.proofs.Stepping.{step-put}
+use Rattle.stepping.proofs.Laws.{step-put}
 use borrow.Author.Needs.{needs}
-use Rattle.entries.proofs.step.Statement.{statement}
-use Rattle.entries.proofs.step.Tie as tie
+use Rattle.stepping.proofs.step.Statement.{statement}
+use Rattle.stepping.proofs.step.Tie as tie
 
 slice-aggregate-fill : tie.Need-slice-aggregate-fill
 slice-aggregate-fill c = search needs

@@ -21,11 +21,12 @@ use Rattle.changes.specs.declared.Change.{Change}
 use Rattle.changes.specs.declared.Change.the-variants.{Put, Alone, Out, Stay, Full}
 use Rattle.changes.proofs.Change
 use Rattle.changes.proofs.Steps.{change-full, change-steps, changed-map, length-changed}
-use Rattle.entries.specs.Forms.{marksOf, takesOne}
+use Rattle.entries.specs.Forms.{marksOf}
+use Rattle.stepping.specs.Taking.{takesOne}
 use Rattle.entries.proofs.Columns.{column, length-column, drop-sets, put-columns}
 use Rattle.entries.proofs.Columns.{numbers-read, times-read, words-read}
 use Rattle.entries.proofs.Filling.{rows-many, FilledBy, by-marked, by-eight, by-formed}
 use Rattle.entries.proofs.Marks.{length-marks, marks-of, form-zeros, rows-padded}
 
 above : (x : ℕ) → 3 < x → OneOf (0 ∷ 1 ∷ 2 ∷ 3 ∷ []) x → ⊥
 above x h (inl e) = omega arith

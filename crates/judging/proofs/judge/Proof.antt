@@ -3,15 +3,15 @@ use Rattle.spec.specs.Blocks.{tableRows}
 use native.Mathlib.Numerals.{add-one}
 use borrow.Author.Tests.{not-true, not-false}
 use Rattle.marks.proofs.Laws.{key-zero, key-some}
 use Rattle.entries.proofs.Laws.{filled-broken}
 use Rattle.entries.proofs.Filling.{FilledBy, filled-by, row-first, rows-many}
-use Rattle.entries.proofs.Judging.{judged-broken, judged-none, judged-raised, judged-first, judged-idle}
-use Rattle.entries.proofs.Judging.{judged-cleared, judged-all}
+use Rattle.judging.proofs.Laws.{judged-broken, judged-none, judged-raised, judged-first, judged-idle}
+use Rattle.judging.proofs.Laws.{judged-cleared, judged-all}
 use Prim.Native.Nat.{suc}
 use mathlib.Core.Path.{sym, ap, _∙_}
 use borrow.Author.Needs.{needs}
-use Rattle.entries.proofs.judge.Statement.{statement}
-use Rattle.entries.proofs.judge.Tie as tie
+use Rattle.judging.proofs.judge.Statement.{statement}
+use Rattle.judging.proofs.judge.Tie as tie
 
 -- the rows that were filled, n of them used
 by : (c : tie.After-n) →
