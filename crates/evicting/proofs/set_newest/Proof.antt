@@ -3,10 +3,10 @@ use mathlib.Core.Path.{_∙_}
 use Rattle.spec.specs.Model.{category}
 use Rattle.spec.proofs.Words.{told}
 use Rattle.plain.proofs.Laws.{newest-row}
-use Rattle.recording.proofs.Laws.{step-fits, newest-entries}
+use Rattle.evicting.proofs.Laws.{step-fits, newest-entries}
 use borrow.Author.Needs.{needs}
-use Rattle.recording.proofs.set_newest.Statement.{statement}
-use Rattle.recording.proofs.set_newest.Tie as tie
+use Rattle.evicting.proofs.set_newest.Statement.{statement}
+use Rattle.evicting.proofs.set_newest.Tie as tie
 
 items-requires : tie.Need-items-requires
 items-requires c κs = search needs

@@ -1,10 +1,10 @@
 -- The entry that is there goes to its item's checkpoint, which takes it, since evictOk holds.
 use native.Mathlib.Omega.{arith}
 use Rattle.plain.proofs.Laws.{evicted, not-evicted}
-use Rattle.recording.proofs.Laws.{goes-in}
+use Rattle.evicting.proofs.Laws.{goes-in}
 use borrow.Author.Needs.{needs}
-use Rattle.recording.proofs.evict.Statement.{statement}
-use Rattle.recording.proofs.evict.Tie as tie
+use Rattle.evicting.proofs.evict.Statement.{statement}
+use Rattle.evicting.proofs.evict.Tie as tie
 
 sub-if1 : tie.Need-sub-if1
 sub-if1 c = search needs
