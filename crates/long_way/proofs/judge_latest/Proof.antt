@@ -1,10 +1,10 @@
 -- A condition item's entries are judged; of another the word is new.
 use Rattle.spec.specs.Model.{items, category}
 use Rattle.spec.proofs.Words.{told}
-use Rattle.observing.proofs.Laws.{found-entries}
+use Rattle.long_way.proofs.Laws.{found-entries}
 use borrow.Author.Needs.{needs}
-use Rattle.observing.proofs.judge_latest.Statement.{statement}
-use Rattle.observing.proofs.judge_latest.Tie as tie
+use Rattle.long_way.proofs.judge_latest.Statement.{statement}
+use Rattle.long_way.proofs.judge_latest.Tie as tie
 
 returns : tie.Need-returns
 returns c = c .before .before .before .pre .1 .1 .1 (c .if1 .taken)

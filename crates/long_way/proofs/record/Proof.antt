@@ -4,8 +4,8 @@ use native.Mathlib.Numerals.{add-one}
 use Rattle.history.proofs.Observations.{head-of}
 use Rattle.spec.proofs.Words.{told}
 use borrow.Author.Needs.{needs}
-use Rattle.observing.proofs.record.Statement.{statement}
-use Rattle.observing.proofs.record.Tie as tie
+use Rattle.long_way.proofs.record.Statement.{statement}
+use Rattle.long_way.proofs.record.Tie as tie
 
 room-for-requires : tie.Need-room-for-requires
 room-for-requires c κs = search needs

@@ -1,8 +1,8 @@
 -- A number, or 0.
 use mathlib.Core.Path.{refl}
-use Rattle.observing.proofs.Laws.{recorded}
-use Rattle.observing.proofs.short_answer.Statement.{statement}
-use Rattle.observing.proofs.short_answer.Tie as tie
+use Rattle.short_way.proofs.Laws.{recorded}
+use Rattle.short_way.proofs.short_answer.Statement.{statement}
+use Rattle.short_way.proofs.short_answer.Tie as tie
 
 returns : tie.Need-returns
 returns c = rw (c .if1 .taken)

@@ -1,9 +1,9 @@
 -- The category decides first.
 use native.Mathlib.Omega.{arith}
 use borrow.Author.Needs.{needs}
-use Rattle.observing.proofs.Laws.{asked, not-asked}
-use Rattle.observing.proofs.repeats.Statement.{statement}
-use Rattle.observing.proofs.repeats.Tie as tie
+use Rattle.short_way.proofs.Laws.{asked, not-asked}
+use Rattle.short_way.proofs.repeats.Statement.{statement}
+use Rattle.short_way.proofs.repeats.Tie as tie
 
 returns : tie.Need-returns
 returns c = not-asked _ _ _ (omega (arith, c .if1 .taken))

@@ -7,11 +7,11 @@ use borrow.Author.Tests.{ne-eqb}
 use Rattle.spec.specs.Model.{items, category}
 use Rattle.history.specs.Observations.{ringSize}
 use Rattle.judging.specs.declared.Judged.the-variants.{New}
-use Rattle.observing.specs.Found.{found}
-use Rattle.observing.proofs.Laws.{found-same, found-new, by-found}
+use Rattle.short_way.specs.Found.{found}
+use Rattle.short_way.proofs.Laws.{found-same, found-new, by-found}
 use borrow.Author.Needs.{needs}
-use Rattle.observing.proofs.observe_short.Statement.{statement}
-use Rattle.observing.proofs.observe_short.Tie as tie
+use Rattle.short_way.proofs.observe_short.Statement.{statement}
+use Rattle.short_way.proofs.observe_short.Tie as tie
 
 returns : tie.Need-returns
 returns c = record { done = λ n. absurd (n refl); left = λ e. refl; new = λ e n. absurd (n (c .if1 .taken)) }

@@ -1,10 +1,11 @@
 -- What is found decides; what is new has a latest in its form.
 use mathlib.Core.Path.{refl}
 use Rattle.spec.proofs.Words.{told}
-use Rattle.observing.proofs.Laws.{new-latest, by-found}
+use Rattle.short_way.proofs.Laws.{by-found}
+use Rattle.long_way.proofs.Laws.{new-latest}
 use borrow.Author.Needs.{needs}
-use Rattle.observing.proofs.observe_long.Statement.{statement}
-use Rattle.observing.proofs.observe_long.Tie as tie
+use Rattle.long_way.proofs.observe_long.Statement.{statement}
+use Rattle.long_way.proofs.observe_long.Tie as tie
 
 judge-latest-requires : tie.Need-judge-latest-requires
 judge-latest-requires c κs = c .before .before .before .pre
