@@ -1,5 +1,5 @@
 -- What follows T is tested for its length, its opening and its closing, in this order.
-use Rattle.select.proofs.PathLaws.{few, unopened, opened}
+use Rattle.paths.proofs.Laws.{few, unopened, opened}
 use Rattle.spec.specs.Path.{openingBytes}
 use lib.Seq.{length-take-le}
 use borrow.Author.Tests.{not-true, not-false}
@@ -7,8 +7,8 @@ use native.Mathlib.Omega.{arith}
 use Prim.Native.Nat.{_-_}
 use mathlib.Core.Path.{sym, _∙_}
 use borrow.Author.Needs.{needs}
-use Rattle.select.proofs.path.is_typed.Statement.{statement}
-use Rattle.select.proofs.path.is_typed.Tie as tie
+use Rattle.paths.proofs.is_typed.Statement.{statement}
+use Rattle.paths.proofs.is_typed.Tie as tie
 
 returns : tie.Need-returns
 returns c = few (c .before .before .args .rest .now) (omega arith)

@@ -1,8 +1,8 @@
 -- One law for each way out; the names lie within the path.
 use Rattle.spec.specs.Bytes.{bytes, same}
 use Rattle.spec.specs.Path.{rootBytes, aroundBytes}
-use Rattle.select.specs.Forms.{isTyped}
-use Rattle.select.proofs.PathLaws.{short, unrooted, subtree-form, other-form, typed-form, typed-is, typed-long}
+use Rattle.paths.specs.Forms.{isTyped}
+use Rattle.paths.proofs.Laws.{short, unrooted, subtree-form, other-form, typed-form, typed-is, typed-long}
 use lib.Seq.{length-take-le}
 use borrow.Author.Tests.{not-true, not-false}
 use native.Mathlib.Omega.{arith}
@@ -12,8 +12,8 @@ use mathlib.Core.Path.{_≡_, sym, _∙_}
 use mathlib.Core.Bool.{true}
 use mathlib.Core.List.{List}
 use borrow.Author.Needs.{needs}
-use Rattle.select.proofs.path.path_form.Statement.{statement}
-use Rattle.select.proofs.path.path_form.Tie as tie
+use Rattle.paths.proofs.path_form.Statement.{statement}
+use Rattle.paths.proofs.path_form.Tie as tie
 
 -- the two slashes were found
 root : (c : tie.Else2)

@@ -13,7 +13,7 @@ use Rattle.spec.proofs.Words.{and-left}
 use Rattle.spec.proofs.Bytes.{same-ne}
 use Rattle.spec.specs.Path.{subtree, typed, otherForm, opening, closing, typedForm, formBehind, formOf}
 use Rattle.spec.specs.Path.{rootBytes, openingBytes, closingBytes, aroundBytes}
-use Rattle.select.specs.Forms.{isTyped}
+use Rattle.paths.specs.Forms.{isTyped}
 
 -- the rest of a list from a place on, as the code lends it
 abbrev pub rest : List ℕ → ℕ → List ℕ

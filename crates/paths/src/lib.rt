@@ -2,8 +2,14 @@
 ghost use mathlib.Core.Path.{_≡_};
 ghost use lib.ListN.{length};
 ghost use Rattle.spec.specs.Path.{formOf};
-ghost use Rattle.select.specs.Forms.{isTyped, meaning, NamesFit};
-use super::PathForm;
+ghost use Rattle.paths.specs.Forms.{isTyped, meaning, NamesFit};
+
+// The form of a path: //T, by the length of T, and //T//DataItem[@type="Y"], by the lengths of T and Y.
+pub enum PathForm {
+    Subtree(usize),
+    Typed(usize, usize),
+    Other,
+}
 
 // How many bytes stand before T, between T and Y, and behind Y, and around Y together.
 pub const ROOT: usize = 2;

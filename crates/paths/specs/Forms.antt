@@ -6,8 +6,8 @@ use lib.Dec.{leb}
 use lib.ListN.{length, take, drop}
 use Rattle.spec.specs.Bytes.{same}
 use Rattle.spec.specs.Path.{Form, subtree, typed, otherForm, rootBytes, openingBytes, closingBytes, aroundBytes, opening, closing}
-use Rattle.select.specs.declared.PathForm.{PathForm}
-use Rattle.select.specs.declared.PathForm.the-variants.{Subtree, Typed, Other}
+use Rattle.paths.specs.declared.PathForm.{PathForm}
+use Rattle.paths.specs.declared.PathForm.the-variants.{Subtree, Typed, Other}
 
 -- the form, with the names out of the path
 abbrev pub meaning : List ℕ → PathForm → Form
