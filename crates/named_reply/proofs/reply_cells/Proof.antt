@@ -3,9 +3,10 @@ use native.Mathlib.Omega.{arith}
 use borrow.Author.Tests.{not-true, not-false}
 use borrow.Author.Needs.{needs}
 use Rattle.reply.proofs.Laws.{behind, lends, both}
-use Rattle.asset_reply.proofs.Laws.{cells-wrong, cells-short, cells-whole, length-first}
-use Rattle.asset_reply.proofs.reply_cells.Statement.{statement}
-use Rattle.asset_reply.proofs.reply_cells.Tie as tie
+use Rattle.asset_reply.proofs.Laws.{cells-wrong, cells-short, cells-whole}
+use Rattle.named_reply.proofs.Laws.{length-first}
+use Rattle.named_reply.proofs.reply_cells.Statement.{statement}
+use Rattle.named_reply.proofs.reply_cells.Tie as tie
 
 lengths-ok-requires : tie.Need-lengths-ok-requires
 lengths-ok-requires c κs = search needs

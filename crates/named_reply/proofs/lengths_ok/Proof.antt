@@ -8,9 +8,10 @@ use borrow.Author.Tests.{not-true, not-false}
 use borrow.Author.Needs.{needs}
 use Rattle.spec.specs.Assets.{lengthAt, lengthOk}
 use Rattle.history.specs.Calls.{allCells}
-use Rattle.asset_reply.proofs.Laws.{next-cell, no-cell, test-no, test-yes, test-end, length-first}
-use Rattle.asset_reply.proofs.lengths_ok.Statement.{statement}
-use Rattle.asset_reply.proofs.lengths_ok.Tie as tie
+use Rattle.asset_reply.proofs.Laws.{next-cell, no-cell, test-no, test-yes, test-end}
+use Rattle.named_reply.proofs.Laws.{length-first}
+use Rattle.named_reply.proofs.lengths_ok.Statement.{statement}
+use Rattle.named_reply.proofs.lengths_ok.Tie as tie
 
 abbrev Inv-loop : tie.InvT-loop
 Inv-loop assets cells k i₀ i =

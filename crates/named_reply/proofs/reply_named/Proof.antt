@@ -5,9 +5,9 @@ use borrow.Author.Needs.{needs}
 use Rattle.spec.specs.Bytes.{split}
 use Rattle.spec.specs.Assets.{maxAssets}
 use Rattle.reply.proofs.Laws.{both, passed}
-use Rattle.asset_reply.proofs.Laws.{named-missing, named-found, told-missing, told-cells}
-use Rattle.asset_reply.proofs.reply_named.Statement.{statement}
-use Rattle.asset_reply.proofs.reply_named.Tie as tie
+use Rattle.named_reply.proofs.Laws.{named-missing, named-found, told-missing, told-cells}
+use Rattle.named_reply.proofs.reply_named.Statement.{statement}
+use Rattle.named_reply.proofs.reply_named.Tie as tie
 
 find-all-requires : tie.Need-find-all-requires
 find-all-requires c κs =

@@ -7,8 +7,8 @@ use lib.Dec.{ltb}
 use lib.ListN.{length, getD, take}
 use Rattle.spec.specs.Assets.{maxAssets, used}
 use Rattle.history.specs.Calls.{allCells, findAll}
-use Rattle.asset_reply.specs.declared.Found.{Found}
-use Rattle.asset_reply.specs.declared.Found.the-variants as found
+use Rattle.named_reply.specs.declared.Found.{Found}
+use Rattle.named_reply.specs.declared.Found.the-variants as found
 
 -- the first k cells are there, and used ones
 pub record Cells (bs cells : List ℕ) (k : ℕ) : Type 0 where

@@ -4,10 +4,10 @@ use Prim.Native.Nat.{_-_}
 use native.Mathlib.Omega.{arith}
 use lib.ListN.{length}
 use borrow.Author.Needs.{needs}
-use Rattle.asset_reply.proofs.Laws.{Finding, finding-none, finding-room, finding-missing, finding-more}
-use Rattle.asset_reply.proofs.Laws.{finding-last}
-use Rattle.asset_reply.proofs.find_all.Statement.{statement}
-use Rattle.asset_reply.proofs.find_all.Tie as tie
+use Rattle.named_reply.proofs.Laws.{Finding, finding-none, finding-room, finding-missing, finding-more}
+use Rattle.named_reply.proofs.Laws.{finding-last}
+use Rattle.named_reply.proofs.find_all.Statement.{statement}
+use Rattle.named_reply.proofs.find_all.Tie as tie
 
 abbrev Inv-loop : tie.InvT-loop
 Inv-loop assets text start cells₀ u at₀ k₀ cells at k = Finding assets text start at k cells

@@ -4,9 +4,10 @@ use native.Mathlib.Omega.{arith}
 use lib.ListN.{take, length-set}
 use lib.Seq.{getD-take}
 use borrow.Author.Needs.{needs}
-use Rattle.asset_reply.proofs.Laws.{Writing, writing-none, writing-more, writing-end, length-first}
-use Rattle.asset_reply.proofs.write_cells.Statement.{statement}
-use Rattle.asset_reply.proofs.write_cells.Tie as tie
+use Rattle.asset_reply.proofs.Laws.{Writing, writing-none, writing-more, writing-end}
+use Rattle.named_reply.proofs.Laws.{length-first}
+use Rattle.named_reply.proofs.write_cells.Statement.{statement}
+use Rattle.named_reply.proofs.write_cells.Tie as tie
 
 abbrev Inv-loop : tie.InvT-loop
 Inv-loop assets cells k out₀ i₀ out i = Writing assets (take k cells) k out₀ out i
