@@ -3,6 +3,4 @@ pub mod Columns
 pub mod Marks
 pub mod Laws
 pub mod Filling
-pub mod Judging
-pub mod Stepping
 pub mod Unused

@@ -2,14 +2,12 @@
 use Prim.Native.Nat.{ℕ, suc, _+_, _*_, _≤_}
 use mathlib.Core.Bool.{Bool, cond, _&&_, _||_, not}
 use mathlib.Core.List.{List, [], _∷_}
-use lib.Dec.{leb, eqb}
+use lib.Dec.{eqb}
 use lib.ListN.{length, getD}
-use Rattle.spec.specs.Entries.{packed, usedRows, step, formOk, repeatsIn, crowded}
+use Rattle.spec.specs.Entries.{packed, usedRows, formOk}
 use Rattle.marks.specs.Marks.{markOf, keyIn, keyOf, placeOf}
 use Rattle.entries.specs.declared.Filled.{Filled}
 use Rattle.entries.specs.declared.Filled.the-variants.{Used, Broken}
-use Rattle.entries.specs.declared.Judged.{Judged}
-use Rattle.entries.specs.declared.Judged.the-variants.{Broken as Unformed, Repeated, Crowded, New}
 
 -- eight rows from row k on of a table of w rows that begins at word t, in a store of so many words
 pub record Table (w t k words : ℕ) : Type 0 where
@@ -31,31 +29,3 @@ marksOf own place (r ∷ rs) =
 -- how many rows are used; Broken where they are not in their written form
 unfoldable pub filled : ℕ → List (List ℕ) → Filled
 filled own rs = cond (formOk own 0 rs) (Used (length (usedRows rs))) Broken
-
--- they have it, and an observation of this packed word makes no ninth
-unfoldable pub takesOne : ℕ → List (List ℕ) → ℕ → Bool
-takesOne own rs word = formOk own 0 rs && leb (length (step own (usedRows rs) (0 ∷ 0 ∷ word ∷ []))) 8
-
--- Same where a test says so
-abbrev pub repeatedIf : Bool → Judged
-repeatedIf test = cond test Repeated New
-
--- by eight rows and their marks: of a Warning or Fault with this key; of a Normal of one code
-unfoldable pub raisedJudged : List (List ℕ) → List ℕ → ℕ → ℕ → Judged
-raisedJudged rs ms key word =
-    let j = placeOf key ms in
-    cond (eqb j 8) Crowded
-    (cond (eqb (getD ms j 0) 0) New (repeatedIf (eqb (packed (getD rs j [])) word)))
-
-unfoldable pub clearedJudged : List ℕ → ℕ → Judged
-clearedJudged ms key =
-    let j = placeOf key ms in
-    cond (eqb j 8) Repeated (repeatedIf (eqb (getD ms j 0) 0))
-
--- what observe finds in an item's latest rows, of a packed word: 2, Same, 19, or none of them
-unfoldable pub judged : ℕ → List (List ℕ) → ℕ → Judged
-judged own rs word =
-    cond (formOk own 1 rs)
-    (cond (repeatsIn own (usedRows rs) word) Repeated
-    (cond (crowded own (usedRows rs) word) Crowded New))
-    Unformed

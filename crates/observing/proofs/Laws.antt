@@ -1,77 +1,19 @@
--- Whether an item is asked for Same, what is found in an item's latest, and one law to each way out of observing it.
-use Prim.Native.Nat.{ℕ, zero, suc, _+_, _-_, _*_, _^_, _≤_, _<_}
-use mathlib.Core.Path.{_≡_, refl, _∙_}
-use mathlib.Core.Logic.{_≢_}
+-- One law to each way out of observing an item.
+use Prim.Native.Nat.{ℕ, _+_, _-_, _*_, _^_, _≤_, _<_}
+use mathlib.Core.Path.{_≡_}
 use mathlib.Core.Bool.{Bool, true, false}
 use mathlib.Core.List.{List}
 use native.Mathlib.Omega.{arith}
-use lib.Dec.{eqb}
-use lib.ListN.{getD}
-use borrow.Author.Tests.{lt-ltb, le-ltb, eq-eqb, ne-eqb}
-use Rattle.spec.specs.Model.{items, category, discrete}
-use Rattle.spec.specs.Value.{takes, repeats, pack, decode}
-use Rattle.spec.specs.Blocks.{tableRows}
-use Rattle.history.specs.Observations.{ringSize, latestAt, itemRow, latestOk, repeatsAt, crowdedAt}
-use Rattle.history.specs.Calls.{Observed, roomFor, notObserved, observeBy, observeItem}
+use borrow.Author.Tests.{lt-ltb, le-ltb}
+use Rattle.spec.specs.Model.{items, category}
+use Rattle.spec.specs.Value.{takes, pack, decode}
+use Rattle.history.specs.Observations.{ringSize, latestOk, repeatsAt, crowdedAt}
+use Rattle.history.specs.Calls.{notObserved, observeItem}
 use Rattle.spec.specs.declared.Value.{Value}
 use Rattle.spec.specs.declared.Refusal.the-variants.{Item, Kind}
-use Rattle.spec.specs.declared.ObserveAnswer.{ObserveAnswer}
-use Rattle.spec.specs.declared.ObserveAnswer.the-variants.{Recorded}
 use Rattle.spec.proofs.Words.{told, by-test}
 use Rattle.spec.proofs.Packing.{taken-word-lt, word-back, decode-fits}
-use Rattle.entries.specs.Forms.{judged}
-use Rattle.entries.specs.declared.Judged.{Judged}
-use Rattle.entries.specs.declared.Judged.the-variants.{Broken, Repeated, New}
-use Rattle.observing.specs.Found.{found, foundGives, observedBy, shortAnswer, Shortened}
-
-module _ (k l w : ℕ) where
-  pub asked : k ≢ discrete → {x : ℕ} → x ≡ l → eqb x w ≡ repeats k l w
-  unfolding repeats
-  asked h e = rw (ne-eqb _ _ h, e)
-
-  pub not-asked : k ≡ discrete → false ≡ repeats k l w
-  unfolding repeats
-  not-asked h = rw (eq-eqb _ _ h)
-
--- ---- what is found
-
-module _ (cat : ℕ → ℕ) (n m : ℕ) (st : List ℕ) (item word : ℕ) where
-  -- a condition item's entries, by the numbers that the accessors gave
-  pub found-entries : {r : Judged} (k t : ℕ) → k ≡ m → t ≡ latestAt n → cat item ≡ 2
-      → r ≡ judged item (tableRows st t (8 * k) 8 (8 * item)) word → r ≡ found cat n m st item word
-  unfolding found judged latestOk repeatsAt crowdedAt
-  found-entries k t ek et c e = rw (e, et, ek, eq-eqb (cat item) 2 c)
-
-  -- another's one word
-  module _ (c : cat item ≢ 2) {s : Bool}
-      (es : s ≡ repeats (cat item) (getD (itemRow st (latestAt n) m item) 2 0) word) where
-    pub found-same : s ≡ true → Repeated ≡ found cat n m st item word
-    unfolding found latestOk repeatsAt crowdedAt
-    found-same g = rw (ne-eqb (cat item) 2 c, told es g)
-
-    pub found-new : s ≡ false → New ≡ found cat n m st item word
-    unfolding found latestOk repeatsAt crowdedAt
-    found-new g = rw (ne-eqb (cat item) 2 c, told es g)
-
-  -- what is new has a latest in its form
-  pub new-latest : found cat n m st item word ≡ New → latestOk cat n m st item ≡ true
-  unfolding found
-  new-latest e =
-      by-test (latestOk cat n m st item) (λ t. t)
-      (λ t. absurd (let b : Broken ≡ New = rw t at e in let z : _≡_ {A = ℕ} 0 1 = (cc) in omega arith))
-
--- an item of another category has no form to test
-pub plain-latest : (cat : ℕ → ℕ) (n m : ℕ) (st : List ℕ) (item : ℕ) → cat item ≢ 2 → latestOk cat n m st item ≡ true
-unfolding latestOk
-plain-latest cat n m st item c = rw (ne-eqb (cat item) 2 c)
-
--- what is found decides
-pub by-found : (cat : ℕ → ℕ) (m : ℕ) (st : List ℕ) (item time word : ℕ) (j : Judged)
-    → j ≡ found cat (ringSize st) m st item word
-    → observedBy cat m st item time word
-    ≡ foundGives j (observeBy (roomFor cat m st) cat m st item time word) st
-unfolding observedBy
-by-found cat m st item time word j e = rw (← e)
+use Rattle.short_way.specs.Found.{found, observedBy}
 
 -- ---- the ways out
 
@@ -103,16 +45,6 @@ module _ (model st : List ℕ) (item time : ℕ) (v : Value) (m : ℕ) (em : m �
         (λ d. rw (a, b, d))
         (λ d. rw (a, b, d))))
         (λ a. rw a))
-
--- ---- the short way's answer
-
-pub recorded : (r : ℕ) → r ≢ 0 → Recorded r ≡ shortAnswer r
-recorded zero n = absurd (n refl)
-recorded (suc r) n = refl
-
-pub short-done : {r cat : ℕ} {is : Judged} {x : Observed} {old after : List ℕ} → Shortened r cat is x old after
-    → r ≢ 2 ^ 64 - 1 → {a : ObserveAnswer} → a ≡ shortAnswer r → (a ≡ x .answer) × (after ≡ x .observations)
-short-done s h e = (e ∙ s .done h .0, s .done h .1)
 
 -- ---- a word that an item takes
 

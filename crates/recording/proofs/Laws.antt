@@ -1,55 +1,33 @@
--- A table that takes an observation; the test of the packed word about to be overwritten, and one law to each branch of
--- the room for a number; what an addition asks of the tables.
-use Prim.Native.Nat.{ℕ, suc, _+_, _-_, _*_, _^_, _≤_, _<_}
-use mathlib.Core.Path.{_≡_, refl, sym, _∙_}
-use mathlib.Core.Logic.{inl}
+-- The test of the packed word about to be overwritten, and one law to each branch of the room for a number; what an
+-- addition asks of the tables.
+use Prim.Native.Nat.{ℕ, suc, _+_, _-_, _*_, _≤_, _<_}
+use mathlib.Core.Path.{_≡_, _∙_}
 use mathlib.Core.Bool.{Bool, true, false, cond}
 use mathlib.Core.List.{List, [], _∷_}
 use native.Mathlib.Omega.{arith}
 use native.Mathlib.Numerals.{add-one}
-use lib.Dec.{ltb}
 use lib.ListN.{length}
 use borrow.Author.Tests.{le-leb, lt-leb, lt-ltb, le-ltb, eq-eqb}
-use Rattle.spec.specs.Words.{row, put}
-use Rattle.spec.specs.Model.{maxItems}
+use Rattle.spec.specs.Words.{put}
 use Rattle.spec.specs.Value.{itemOf}
-use Rattle.spec.specs.Blocks.{tableRows, putRows, padded}
-use Rattle.spec.specs.Entries.{step, usedRows, formOk}
+use Rattle.spec.specs.Blocks.{tableRows}
+use Rattle.spec.specs.Entries.{formOk}
 use Rattle.history.specs.Observations.{maxNumber, ringSize, base, last, ringAt, latestAt, checkpointAt, place, Head}
-use Rattle.history.specs.Observations.{itemAt, itemRows, isCondition, setNewest, overwrites, overwritten, evict, evictOk}
+use Rattle.history.specs.Observations.{itemRows, isCondition, evict, evictOk}
 use Rattle.history.specs.Observations.{latestOk}
 use Rattle.history.specs.Calls.{roomFor}
 use Rattle.spec.specs.declared.Refusal.the-variants.{Spent, Store}
 use Rattle.spec.specs.declared.Verdict.the-variants.{Fine, Refused}
-use Rattle.spec.proofs.Words.{and-left, and-right, by-cond}
 use Rattle.spec.proofs.Tables.{length-put}
-use Rattle.spec.proofs.Blocks.{table-rows-apart}
 use Rattle.spec.proofs.Steps.{form-less}
-use Rattle.history.proofs.Added.{rowsFor, rows-for-three, rows-for-few, length-evict, evict-item}
+use Rattle.history.proofs.Added.{length-evict}
 use Rattle.history.proofs.Heads.{room-for}
 use Rattle.observations.specs.Ring.{ringWord}
-use Rattle.entries.specs.Forms.{Table, takesOne}
+use Rattle.stepping.specs.Taking.{takesOne}
 use Rattle.plain.specs.Short.{overwritable}
 use Rattle.plain.proofs.Laws.{by-word, number-left, next-ring, put-latest}
-use Rattle.recording.specs.Writing.{Overwriting, InTable}
-
--- ---- a table that takes an observation; k is the number of items that the code has
-
-module _ (cat : ℕ → ℕ) (st : List ℕ) (t m k item : ℕ) (em : k ≡ m) where
-  -- what the step of a condition item's entries asks
-  pub step-fits : InTable cat m t item st → m ≤ maxItems → cat item ≡ 2
-      → Table (8 * k) t (8 * item) (length st)
-      × ((item < 2 ^ 24) × (formOk item 0 (tableRows st t (8 * k) 8 (8 * item)) ≡ true))
-  step-fits i h c =
-      rw em (
-        record { inside = omega (arith, i .low); room = omega (arith, i .room) },
-        (omega (arith, i .low), i .form (eq-eqb (cat item) 2 c)),
-      )
-
-  pub newest-entries : (r e : List ℕ) → cat item ≡ 2
-      → e ≡ putRows st t (8 * k) (8 * item) (padded 8 (step item (usedRows (tableRows st t (8 * k) 8 (8 * item))) r))
-      → e ≡ setNewest cat st t m item r
-  newest-entries r e c q = rw (eq-eqb (cat item) 2 c, ← em) q
+use Rattle.evicting.specs.Writing.{Overwriting, InTable}
+use Rattle.evicting.proofs.Laws.{evict-latest}
 
 -- ---- the test of a packed word
 
@@ -62,26 +40,6 @@ module _ (cat : ℕ → ℕ) (n m : ℕ) (st : List ℕ) (word i : ℕ) (hi : i 
       → r ≡ takesOne i (tableRows st t (8 * k) 8 (8 * i)) word → r ≡ overwritable cat n m st word
   unfolding overwritable takesOne
   over-entries l k t ek et h e = rw (e, et, ek, ← hi, lt-ltb i m l, eq-eqb (cat i) 2 h)
-
-  -- what it says of a condition item's checkpoint
-  pub over-form : overwritable cat n m st word ≡ true → isCondition cat i ≡ true
-      → formOk i 0 (itemRows st (checkpointAt n m) m i) ≡ true
-  unfolding overwritable
-  over-form ok c =
-      let a = and-right (ltb i m) _ (rw (← hi) at ok) in
-      and-left (formOk i 0 (itemRows st (checkpointAt n m) m i)) _ (rw c at a)
-
--- ---- the entry about to be overwritten, at place p with packed word w: what its item's checkpoint asks
-
-pub goes-in : (cat : ℕ → ℕ) (n m b s p w : ℕ) (st : List ℕ) → p ≡ place n b s → w ≡ ringWord st n p → (i : ℕ)
-    → i ≡ itemOf w → n ≤ s - b → Overwriting cat n m b s st → InTable cat m (checkpointAt n m) i st
-goes-in cat n m b s p w st hp hw i hi u o =
-    let there : i ≡ itemAt n b st s = rw (hi, hw, hp) in
-    record {
-      low = rw there (evict-item cat n m b s st (o .ok) (le-leb _ _ u));
-      room = omega (arith, o .ring .len);
-      form = over-form cat n m st w i hi (sym (by-word cat n m b s p w st hp hw u) ∙ o .ok);
-    }
 
 -- ---- the room for a number
 
@@ -127,21 +85,6 @@ latest-in o l f = record { low = l; room = omega (arith, o .ring .len); form = f
 
 -- the latest stays through the eviction and the ring's entry
 module _ (cat : ℕ → ℕ) (n m b s : ℕ) (st : List ℕ) (o : Overwriting cat n m b s st) where
-  pub evict-latest : (i : ℕ) → i < m
-      → itemRows (evict cat n m b s st) (latestAt n) m i ≡ itemRows st (latestAt n) m i
-  unfolding evict row
-  evict-latest i l =
-      by-cond (λ (x : List ℕ). itemRows x (latestAt n) m i ≡ itemRows st (latestAt n) m i) (overwrites n b s) _ _
-      (λ e.
-      let j = itemAt n b st s in
-      let r = overwritten n b st s in
-      let low = evict-item cat n m b s st (o .ok) e in
-      table-rows-apart (rowsFor cat st (checkpointAt n m) m j r) st (checkpointAt n m) (8 * m) (8 * j)
-      (rows-for-three cat st (checkpointAt n m) m j r refl)
-      (omega (arith, rows-for-few cat st (checkpointAt n m) m j r))
-      (latestAt n) (8 * m) 8 (8 * i) (omega arith) (inl (omega arith)))
-      (λ e. refl)
-
   pub still-in : (p time word item t : ℕ) (x y : List ℕ) → x ≡ evict cat n m b s st → p < n
       → y ≡ put x ringAt n p (time ∷ word ∷ []) → t ≡ latestAt n → InTable cat m (latestAt n) item st
       → InTable cat m t item y
@@ -153,5 +96,5 @@ module _ (cat : ℕ → ℕ) (n m b s : ℕ) (st : List ℕ) (o : Overwriting ca
         room = omega (arith, len, i .room);
         form =
             λ c.
-            rw (ey, put-latest n m x p time word item hp (i .low), ex, evict-latest item (i .low)) (i .form c);
+            rw (ey, put-latest n m x p time word item hp (i .low), ex, evict-latest cat n m b s st o item (i .low)) (i .form c);
       })

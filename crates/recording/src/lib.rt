@@ -1,14 +1,13 @@
 // Numbers given to observations: whether one is left, and adding with eviction.
 ghost use mathlib.Core.Path.{_≡_};
 ghost use mathlib.Core.Bool.{true};
-ghost use mathlib.Core.List.{[], _∷_};
 ghost use Prim.Native.Nat.{_<_};
 ghost use Rattle.spec.specs.Model.{Sizes, items, category};
-ghost use Rattle.history.specs.Observations.{Head, ringSize, latestAt, place, setNewest, evict, add, latestOk};
+ghost use Rattle.history.specs.Observations.{Head, ringSize, latestAt, add, latestOk};
 ghost use Rattle.history.specs.Calls.{roomFor, added};
 ghost use Rattle.spec.specs.declared.Verdict.the-variants.{Fine};
 ghost use Rattle.plain.specs.Short.{overwritable};
-ghost use Rattle.recording.specs.Writing.{Overwriting, InTable};
+ghost use Rattle.evicting.specs.Writing.{Overwriting, InTable};
 use spec::Refusal;
 use spec::Verdict;
 
@@ -30,7 +29,7 @@ fn may_overwrite(model: &[u32], st: &[u64], n: u64, word: u64) -> bool
         return true;
     }
     let t = observations::checkpoint_at(n, m);
-    entries::takes_one(st, spec::ENTRIES * m, t, spec::ENTRIES * item, item, word)
+    stepping::takes_one(st, spec::ENTRIES * m, t, spec::ENTRIES * item, item, word)
 }
 
 // Whether a number is left, and the entry that it overwrites, if any, may go to its item's checkpoint.
@@ -56,44 +55,6 @@ pub fn room_for(model: &[u32], st: &[u64]) -> Verdict
     Verdict::Refused(Refusal::Store)
 }
 
-// The table at word t takes an observation of the item: the entries of a condition item, or another's one row.
-fn set_newest(model: &[u32], st: &mut [u64], t: u64, item: u64, number: u64, time: u64, word: u64)
-    requires { ⌜ Sizes (now model) ⌝ }
-    requires { ⌜ InTable (category (now model)) (items (now model)) t item (now st) ⌝ }
-    ensures { λ r. ⌜
-        now (st .exit)
-        ≡ setNewest (category (now (model .entry))) (now (st .entry)) t (items (now (model .entry))) item
-        (number ∷ time ∷ word ∷ [])
-        ⌝ }
-{
-    let w = spec::ENTRIES * model::items(model);
-    let k = spec::ENTRIES * item;
-    let category = model::category(model, item);
-    if category == spec::CONDITION {
-        entries::step(st, w, t, k, item, number, time, word);
-    } else {
-        observations::put_row(st, w, t, k, number, time, word);
-    }
-}
-
-// The entry at place p that number s is about to overwrite, if any, goes to its item's checkpoint.
-pub fn evict(model: &[u32], st: &mut [u64], n: u64, b: u64, s: u64, p: u64)
-    requires { ⌜ Sizes (now model) ⌝ }
-    requires { ⌜ Overwriting (category (now model)) n (items (now model)) b s (now st) ⌝ }
-    requires { ⌜ (p ≡ place n b s) × (p < n) ⌝ }
-    ensures { λ r. ⌜
-        now (st .exit) ≡ evict (category (now (model .entry))) n (items (now (model .entry))) b s (now (st .entry))
-        ⌝ }
-{
-    if n <= s - b {
-        let time = observations::ring_time(st, n, p);
-        let word = observations::ring_word(st, n, p);
-        let item = value::item_of(word);
-        let checkpoint = observations::checkpoint_at(n, model::items(model));
-        set_newest(model, st, checkpoint, item, s - n, time, word);
-    }
-}
-
 // Number s: the overwritten entry's checkpoint, the ring, the item's latest, and last.
 fn write(model: &[u32], st: &mut [u64], n: u64, b: u64, s: u64, item: u64, time: u64, word: u64)
     requires { ⌜ Sizes (now model) ⌝ }
@@ -105,10 +66,10 @@ fn write(model: &[u32], st: &mut [u64], n: u64, b: u64, s: u64, item: u64, time:
         ⌝ }
 {
     let p = observations::place(n, b, s);
-    evict(model, st, n, b, s, p);
+    evicting::evict(model, st, n, b, s, p);
     observations::put_ring(st, n, p, time, word);
     let latest = observations::latest_at(n);
-    set_newest(model, st, latest, item, s, time, word);
+    evicting::set_newest(model, st, latest, item, s, time, word);
     observations::set_last(st, s);
 }
 

@@ -23,10 +23,10 @@ use Rattle.spec.proofs.Words.{by-cond}
 use Rattle.spec.proofs.Bytes.{same-ne}
 use Rattle.spec.proofs.Bits.{set-lt, set-ext}
 use Rattle.spec.proofs.Path.{under-zero}
-use Rattle.select.specs.declared.PathForm.{PathForm}
-use Rattle.select.specs.declared.PathForm.the-variants.{Subtree, Typed}
+use Rattle.paths.specs.declared.PathForm.{PathForm}
+use Rattle.paths.specs.declared.PathForm.the-variants.{Subtree, Typed}
 use Rattle.spec.specs.Path.{rootBytes, openingBytes}
-use Rattle.select.specs.Forms.{meaning, NamesFit}
+use Rattle.paths.specs.Forms.{meaning, NamesFit}
 use Rattle.select.specs.Choice.{taken, chosen, byNames, SelectionFits}
 
 -- ---- names

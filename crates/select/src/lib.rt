@@ -9,16 +9,8 @@ ghost use Rattle.spec.specs.Model.{nameBytes, maxComponents, Checked, component
 ghost use Rattle.spec.specs.Model.{parentOf, componentName, componentOf, itemName};
 ghost use Rattle.spec.specs.Path.{isNamed, under, select};
 ghost use Rattle.select.specs.Choice.{taken, chosen, byNames, SelectionFits};
+use paths::PathForm;
 use spec::Selection;
-
-mod path;
-
-// The form of a path: //T, by the length of T, and //T//DataItem[@type="Y"], by the lengths of T and Y.
-pub enum PathForm {
-    Subtree(usize),
-    Typed(usize, usize),
-    Other,
-}
 
 // Whether name k is the text t. Most names differ early: only a name that agrees so far is measured.
 fn is_named(names: &[u8], k: u64, t: &[u8]) -> bool
@@ -127,17 +119,17 @@ pub fn select_path(model: &[u32], names: &[u8], path: &[u8]) -> Selection
     ensures { λ r. ⌜ r ≡ select (now (model .entry)) (now (names .entry)) (some (now (path .entry))) ⌝ }
     ensures { λ r. ⌜ SelectionFits r (items (now (model .entry))) ⌝ }
 {
-    let form = path::path_form(path);
+    let form = paths::path_form(path);
     match form {
         PathForm::Subtree(n) => {
-            let end = path::ROOT + n;
-            select_names(model, names, &path[path::ROOT..end], false, &path[end..])
+            let end = paths::ROOT + n;
+            select_names(model, names, &path[paths::ROOT..end], false, &path[end..])
         }
         PathForm::Typed(n, k) => {
-            let end = path::ROOT + n;
-            let at = end + path::OPENING;
+            let end = paths::ROOT + n;
+            let at = end + paths::OPENING;
             let stop = at + k;
-            select_names(model, names, &path[path::ROOT..end], true, &path[at..stop])
+            select_names(model, names, &path[paths::ROOT..end], true, &path[at..stop])
         }
         PathForm::Other => Selection::NotFound,
     }

@@ -24,8 +24,8 @@ use Rattle.history.proofs.Rows.{evict-ok}
 use Rattle.history.proofs.Start.{blank-rep}
 use Rattle.plain.specs.Short.{putNumber}
 use Rattle.plain.proofs.Laws.{put-latest, numbered, newest-first}
-use Rattle.recording.specs.Writing.{Overwriting}
-use Rattle.recording.proofs.Laws.{evict-latest}
+use Rattle.evicting.specs.Writing.{Overwriting}
+use Rattle.evicting.proofs.Laws.{evict-latest}
 use Rattle.starting.specs.Start.{Starting}
 
 -- start's loop: k items are added, as the reference model holds them, the others have no entry yet, p is the next

@@ -59,7 +59,7 @@ fn start_store(model: &[u32], st: &mut [u64], n: u64, b: u64, host: u64)
     let mut p: u64 = 0;
     while item < m {
         let word = value::pack(item, Value::Unavailable);
-        recording::evict(model, st, n, b, b + item, p);
+        evicting::evict(model, st, n, b, b + item, p);
         plain::put_number(st, n, m, p, item, b + item, host, word);
         item += 1;
         p += 1;

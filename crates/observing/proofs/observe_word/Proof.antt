@@ -4,8 +4,9 @@ use native.Mathlib.Omega.{arith}
 use Rattle.spec.specs.Model.{items, category}
 use Rattle.spec.specs.Value.{decode}
 use Rattle.history.specs.Calls.{observeItem}
-use Rattle.observing.specs.Found.{observedBy}
-use Rattle.observing.proofs.Laws.{item-refused, kind-refused, passed, word-fits, word-packed, short-done}
+use Rattle.short_way.specs.Found.{observedBy}
+use Rattle.short_way.proofs.Laws.{short-done}
+use Rattle.observing.proofs.Laws.{item-refused, kind-refused, passed, word-fits, word-packed}
 use borrow.Author.Needs.{needs}
 use Rattle.observing.proofs.observe_word.Statement.{statement}
 use Rattle.observing.proofs.observe_word.Tie as tie

@@ -1,0 +1,2 @@
+-- The laws that the proofs of evicting cite.
+pub mod Laws

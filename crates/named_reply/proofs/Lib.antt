@@ -1,0 +1,2 @@
+-- The laws that the functions' proofs cite.
+pub mod Laws
