@@ -1,13 +1,13 @@
 -- Worked adapter lines, read by both layers unless 2 is the answer, and written: document 02, Req 06. The bounds of each
 -- number, the value by the item's category, where two refusals meet.
-use Prim.Native.Nat.{ℕ, _+_}
+use Prim.Native.Nat.{ℕ}
 use Prim.Native.String.{String}
 use mathlib.Core.Path.{_≡_, refl}
 use mathlib.Core.List.{List, [], _∷_, _++_}
 use lib.IntN.{pos, negsuc}
 use lib.ListN.{length, replicate}
 use Rattle.spec.specs.Bytes.{bytes}
-use Rattle.spec.specs.Reply.{Replied, refuse}
+use Rattle.spec.specs.Reply.{refuse}
 use Rattle.history.specs.Reference.{State}
 use Rattle.history.specs.Calls.{writeLine}
 use Rattle.history.specs.History.{Call, Start}

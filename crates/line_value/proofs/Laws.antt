@@ -7,7 +7,7 @@ use native.Mathlib.Omega.{arith}
 use borrow.Author.Tests.{lt-ltb, le-ltb}
 use lib.IntN.{pos, negsuc}
 use Rattle.spec.specs.Value.{noValue, valueWord, levelNumber, decode}
-use Rattle.lines.specs.Lines.{sampleFor, eventFor, stateFor, decimalFor}
+use Rattle.lines.specs.Lines.{sampleFor, eventFor, stateFor}
 use Rattle.spec.specs.declared.Level.{Level}
 use Rattle.spec.specs.declared.Value.{Value}
 use Rattle.spec.specs.declared.Value.the-variants.{Sample, Event, Condition}

@@ -1,6 +1,5 @@
 // The call that writes an adapter line: all that it is given is tested in the order of the refusals, and behind the
 // last of them the line is written, whole.
-ghost use mathlib.Core.Path.{_≡_};
 ghost use Rattle.spec.specs.Reply.{Gives};
 ghost use Rattle.history.specs.Calls.{writeLine};
 use spec::Answer;
