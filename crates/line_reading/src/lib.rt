@@ -7,10 +7,12 @@ ghost use Rattle.history.specs.Observations.{Head};
 ghost use Rattle.history.specs.Calls.{observeItem, observeReading, observeLine};
 use lines::Form;
 use lines::Line;
+use short_way::LEFT;
 use spec::ObserveAnswer;
 use spec::Refusal;
 
-// An observation of an item, its value by the form that a line has it in.
+// An observation of an item, its value by the form that a line has it in: as observing does it of a word. It is written
+// out here, since the compiler joins observing's own into the walk over a batch only while nobody else calls it.
 fn observe_form(
     model: &[u32],
     observations: &mut [u64],
@@ -31,7 +33,15 @@ fn observe_form(
     }
     let category = model::category(model, item);
     let word = line_value::word_for(category, form);
-    observing::observe_word(model, observations, item, time, word)
+    if !value::takes_word(category, word) {
+        return ObserveAnswer::Refused(Refusal::Kind);
+    }
+    let packed = value::pack_word(item, word);
+    let short = short_way::observe_short(model, observations, category, item, time, packed);
+    if short != LEFT {
+        return short_way::short_answer(short);
+    }
+    long_way::observe_long(model, observations, category, item, time, packed)
 }
 
 // What a line says, observed behind the checks of model and head.
