@@ -7,7 +7,7 @@ use reference::faults::Layer;
 use reference::{Clean, Fault, FaultSet, Faults, Stores};
 
 /// Lists tried before a fault counts as missed.
-const MOST_LISTS: u64 = 5000;
+const MOST_LISTS: u64 = 3000;
 
 /// The calls made until the lists told a fault apart.
 fn told_apart(mut run: impl FnMut(u64, &mut Counts) -> Result<(), Difference>) -> Option<u64> {
