@@ -1,5 +1,5 @@
 -- Digits read back: a number is what its digits spell.
-use Prim.Native.Nat.{ℕ, zero, suc, ◌+◌, ◌/◌, ◌%◌, ◌^◌, ◌≤◌, ◌<◌}
+use Prim.Native.Nat.{ℕ, zero, suc, ◌+◌, ◌-◌, ◌*◌, ◌/◌, ◌%◌, ◌^◌, ◌≤◌, ◌<◌}
 use mathlib.Core.Path.{◌≡◌, refl, sym, ap, ◌∙◌}
 use mathlib.Core.Bool.{Bool, true, false, cond, not, true≢false}
 use mathlib.Core.List.{List, [], ◌∷◌, ◌++◌}
@@ -14,7 +14,7 @@ use Rattle.spec.proofs.Bytes.{Lacks, all_append, all-imp}
 pub value-append : (m : ℕ) (s t : List ℕ) → value_from m (s ++ t) ≡ value_from (value_from m s) t
 unfolding value_from
 value-append m [] t = refl
-value-append m (x ∷ s) t = value-append _ s t
+value-append m (x ∷ s) t = value-append (m * 10 + (x - 48)) s t
 
 pub digit-is : (n : ℕ) → digit (48 + n % 10) ≡ true
 unfolding digit
