@@ -90,7 +90,8 @@ def turn(text, names, kind):
             code = "".join(x if x.startswith(('"', 'b"')) else TOKEN.sub(word, x) for x in pieces)
         elif kind == "antt":
             code, comment = split_comment(line, "--")
-            code = TOKEN.sub(word, code)
+            pieces = re.split(r'("(?:[^"\\]|\\.)*")', code)
+            code = "".join(x if x.startswith('"') else TOKEN.sub(word, x) for x in pieces)
         else:
             if re.match(r"(old|new): ", line):
                 pieces = re.split(r'(b?"(?:[^"\\]|\\.)*")', line)

@@ -41,7 +41,7 @@ module _ (model names t : List ℕ) {o : List ℕ} {at : ℕ} {o₁ : List ℕ} 
   pub start-put : {o₃ : List ℕ} {r : ℕ} {o₄ : List ℕ} {u : ℕ} (c : ℕ) → t ≡ component_type model names c
       → Put o at (bytes "<ComponentStream component=\"" ++ (t ++ 34 ∷ [])) o₁ p
       → Put o₁ p (bytes " name=\"" ++ (t ++ 34 ∷ [])) o₂ q
-      → Put o₂ q (bytes " component_id=\"c" ++ (decimal c ++ 34 ∷ [])) o₃ r → Put o₃ r (bytes ">\n") o₄ u
+      → Put o₂ q (bytes " componentId=\"c" ++ (decimal c ++ 34 ∷ [])) o₃ r → Put o₃ r (bytes ">\n") o₄ u
       → Put o at (tag (component_tag model names c) ++ 10 ∷ []) o₄ u
   unfolding component_tag
   start-put c e a b d f =

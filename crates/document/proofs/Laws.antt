@@ -22,17 +22,17 @@ put_is {o} {at} {s} {t} {e} {r} q p = subst (λ (x : List ℕ). Put o at x e r) 
 -- ---- the header
 
 pub given-text : (N instance creation : ℕ)
-    → (bytes "<Header creation_time=\"" ++ (stamp_text creation ++ 34 ∷ []))
-    ++ ((bytes " sender=\"box\" instance_id=\"" ++ (decimal instance ++ 34 ∷ []))
-    ++ (bytes " buffer_size=\"" ++ (decimal N ++ 34 ∷ [])))
+    → (bytes "<Header creationTime=\"" ++ (stamp_text creation ++ 34 ∷ []))
+    ++ ((bytes " sender=\"box\" instanceId=\"" ++ (decimal instance ++ 34 ∷ []))
+    ++ (bytes " bufferSize=\"" ++ (decimal N ++ 34 ∷ [])))
     ≡ given_part N instance creation
 unfolding given_part
 given-text N instance creation = simp append_assoc
 
 pub numbers-text : (next first last : ℕ)
-    → (bytes " version=\"1.2\" next_sequence=\"" ++ (decimal next ++ 34 ∷ []))
-    ++ ((bytes " first_sequence=\"" ++ (decimal first ++ 34 ∷ []))
-    ++ (bytes " last_sequence=\"" ++ (decimal last ++ 34 ∷ [])))
+    → (bytes " version=\"1.2\" nextSequence=\"" ++ (decimal next ++ 34 ∷ []))
+    ++ ((bytes " firstSequence=\"" ++ (decimal first ++ 34 ∷ []))
+    ++ (bytes " lastSequence=\"" ++ (decimal last ++ 34 ∷ [])))
     ≡ numbers_part next first last
 unfolding numbers_part
 numbers-text next first last = simp append_assoc

@@ -14,15 +14,15 @@ start_lines =
 unfoldable pub given_part : ℕ → ℕ → ℕ → List ℕ
 given_part N instance creation =
     bytes "<Header"
-    ++ (attribute (bytes "creation_time") (stamp_text creation)
+    ++ (attribute (bytes "creationTime") (stamp_text creation)
     ++ (attribute (bytes "sender") (bytes "box")
-    ++ (attribute (bytes "instance_id") (decimal instance)
-    ++ attribute (bytes "buffer_size") (decimal N))))
+    ++ (attribute (bytes "instanceId") (decimal instance)
+    ++ attribute (bytes "bufferSize") (decimal N))))
 
 -- from the version on
 unfoldable pub numbers_part : ℕ → ℕ → ℕ → List ℕ
 numbers_part next first last =
     attribute (bytes "version") (bytes "1.2")
-    ++ (attribute (bytes "next_sequence") (decimal next)
-    ++ (attribute (bytes "first_sequence") (decimal first)
-    ++ attribute (bytes "last_sequence") (decimal last)))
+    ++ (attribute (bytes "nextSequence") (decimal next)
+    ++ (attribute (bytes "firstSequence") (decimal first)
+    ++ attribute (bytes "lastSequence") (decimal last)))

@@ -122,7 +122,7 @@ pub stamps-malformed :
     ∷ bytes "2024-01-01T00:00:00.000Z |1|0" ∷ bytes " 2024-01-01T00:00:00.000Z|1|0"
     ∷ bytes "2024-01-01t00:00:00.000Z|1|0" ∷ bytes "2024-01-01 00:00:00.000Z|1|0"
     ∷ bytes "2024-1-01T00:00:00.0000Z|1|0" ∷ bytes "2024-01-01T00:00:00,000Z|1|0"
-    ∷ bytes "dddd-dd-dd_tdd:dd:dd.ddd_z|1|0" ∷ bytes "2024-99-99T99:99:99.999Z|1|+5"
+    ∷ bytes "dddd-dd-ddTdd:dd:dd.dddZ|1|0" ∷ bytes "2024-99-99T99:99:99.999Z|1|+5"
     ∷ bytes "2024-99-99T99:99:99.999Z||5" ∷ bytes "2024-99-99T99:99:99.999Z|1|5|" ∷ [])
 unfolding opened
 stamps-malformed = refl

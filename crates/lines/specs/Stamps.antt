@@ -96,7 +96,7 @@ formed (f ∷ fs) [] = false
 formed (f ∷ fs) (x ∷ s) = cond (eqb f 100) (digit x) (eqb x f) && formed fs s
 
 abbrev pub stamp_form : List ℕ
-stamp_form = bytes "dddd-dd-dd_tdd:dd:dd.ddd_z"
+stamp_form = bytes "dddd-dd-ddTdd:dd:dd.dddZ"
 
 -- the number that n bytes from `at` on spell
 abbrev pub field : List ℕ → ℕ → ℕ → ℕ

@@ -72,17 +72,17 @@ abbrev bench_lines : List (List ℕ)
 bench_lines =
     bytes "<?xml version=\"1.0\" encoding=\"UTF-8\"?>"
     ∷ bytes "<MTConnectStreams xmlns=\"urn:mtconnect.org:MTConnectStreams:1.2\">"
-    ∷ (bytes "<Header creation_time=\"1970-01-01T00:00:02.000Z\" sender=\"box\" instance_id=\"1\""
-    ++ bytes " buffer_size=\"3\" version=\"1.2\" next_sequence=\"5\" first_sequence=\"2\" last_sequence=\"4\"/>")
+    ∷ (bytes "<Header creationTime=\"1970-01-01T00:00:02.000Z\" sender=\"box\" instanceId=\"1\""
+    ++ bytes " bufferSize=\"3\" version=\"1.2\" nextSequence=\"5\" firstSequence=\"2\" lastSequence=\"4\"/>")
     ∷ bytes "<Streams>"
     ∷ bytes "<DeviceStream name=\"Device\" uuid=\"Device\">"
-    ∷ bytes "<ComponentStream component=\"Axes\" name=\"Axes\" component_id=\"c1\">"
+    ∷ bytes "<ComponentStream component=\"Axes\" name=\"Axes\" componentId=\"c1\">"
     ∷ bytes "<Samples>"
-    ∷ (bytes "<Position data_item_id=\"i1\" sequence=\"2\""
+    ∷ (bytes "<Position dataItemId=\"i1\" sequence=\"2\""
     ++ bytes " timestamp=\"1970-01-01T00:00:01.000Z\">UNAVAILABLE</Position>")
-    ∷ (bytes "<Position data_item_id=\"i1\" sequence=\"3\""
+    ∷ (bytes "<Position dataItemId=\"i1\" sequence=\"3\""
     ++ bytes " timestamp=\"1970-01-01T00:00:01.010Z\">5</Position>")
-    ∷ (bytes "<Position data_item_id=\"i1\" sequence=\"4\""
+    ∷ (bytes "<Position dataItemId=\"i1\" sequence=\"4\""
     ++ bytes " timestamp=\"1970-01-01T00:00:01.030Z\">-0.001</Position>")
     ∷ bytes "</Samples>"
     ∷ bytes "</ComponentStream>"
@@ -143,7 +143,7 @@ abbrev mixed_names : List ℕ
 mixed_names =
     cells_of
     (bytes "SYSTEM" ∷ bytes "3D_x" ∷ bytes "EXECUTION" ∷ bytes "ASSET_CHANGED" ∷ bytes "Linear"
-    ∷ bytes "block_NUMBER" ∷ bytes "Device" ∷ bytes "_" ∷ bytes "Axes" ∷ bytes "x9_y" ∷ [])
+    ∷ bytes "block_NUMBER" ∷ bytes "Device" ∷ bytes "_" ∷ bytes "Axes" ∷ bytes "x9Y" ∷ [])
 
 abbrev mixed_reply : List ℕ
 mixed_reply =
@@ -157,55 +157,55 @@ abbrev mixed_lines : List (List ℕ)
 mixed_lines =
     bytes "<?xml version=\"1.0\" encoding=\"UTF-8\"?>"
     ∷ bytes "<MTConnectStreams xmlns=\"urn:mtconnect.org:MTConnectStreams:1.2\">"
-    ∷ (bytes "<Header creation_time=\"2099-12-31T23:59:59.999Z\" sender=\"box\""
-    ++ bytes " instance_id=\"18446744073709551615\" buffer_size=\"131072\" version=\"1.2\""
-    ++ bytes " next_sequence=\"21\" first_sequence=\"9\" last_sequence=\"20\"/>")
+    ∷ (bytes "<Header creationTime=\"2099-12-31T23:59:59.999Z\" sender=\"box\""
+    ++ bytes " instanceId=\"18446744073709551615\" bufferSize=\"131072\" version=\"1.2\""
+    ++ bytes " nextSequence=\"21\" firstSequence=\"9\" lastSequence=\"20\"/>")
     ∷ bytes "<Streams>"
     ∷ bytes "<DeviceStream name=\"Device\" uuid=\"Device\">"
-    ∷ bytes "<ComponentStream component=\"Device\" name=\"Device\" component_id=\"c0\">"
+    ∷ bytes "<ComponentStream component=\"Device\" name=\"Device\" componentId=\"c0\">"
     ∷ bytes "<Events>"
-    ∷ (bytes "<Execution data_item_id=\"i2\" sequence=\"12\""
+    ∷ (bytes "<Execution dataItemId=\"i2\" sequence=\"12\""
     ++ bytes " timestamp=\"1970-01-01T00:00:01.000Z\">3</Execution>")
-    ∷ (bytes "<AssetChanged data_item_id=\"i3\" sequence=\"16\""
+    ∷ (bytes "<AssetChanged dataItemId=\"i3\" sequence=\"16\""
     ++ bytes " timestamp=\"1970-01-01T00:00:01.010Z\">UNAVAILABLE</AssetChanged>")
-    ∷ (bytes "<Execution data_item_id=\"i2\" sequence=\"18\""
+    ∷ (bytes "<Execution dataItemId=\"i2\" sequence=\"18\""
     ++ bytes " timestamp=\"1970-01-01T00:00:01.020Z\">UNAVAILABLE</Execution>")
-    ∷ (bytes "<AssetChanged data_item_id=\"i3\" sequence=\"19\""
+    ∷ (bytes "<AssetChanged dataItemId=\"i3\" sequence=\"19\""
     ++ bytes " timestamp=\"1970-01-01T00:00:01.020Z\">8</AssetChanged>")
     ∷ bytes "</Events>"
     ∷ bytes "<Condition>"
-    ∷ (bytes "<Fault data_item_id=\"i0\" sequence=\"11\" timestamp=\"2000-02-29T00:00:00.123Z\""
-    ++ bytes " type=\"SYSTEM\" native_code=\"7\"/>")
-    ∷ (bytes "<Unavailable data_item_id=\"i0\" sequence=\"13\" timestamp=\"2099-12-31T23:59:59.999Z\""
+    ∷ (bytes "<Fault dataItemId=\"i0\" sequence=\"11\" timestamp=\"2000-02-29T00:00:00.123Z\""
+    ++ bytes " type=\"SYSTEM\" nativeCode=\"7\"/>")
+    ∷ (bytes "<Unavailable dataItemId=\"i0\" sequence=\"13\" timestamp=\"2099-12-31T23:59:59.999Z\""
     ++ bytes " type=\"SYSTEM\"/>")
-    ∷ (bytes "<Warning data_item_id=\"i0\" sequence=\"18\" timestamp=\"1970-01-01T00:00:01.020Z\""
-    ++ bytes " type=\"SYSTEM\" native_code=\"16777215\"/>")
+    ∷ (bytes "<Warning dataItemId=\"i0\" sequence=\"18\" timestamp=\"1970-01-01T00:00:01.020Z\""
+    ++ bytes " type=\"SYSTEM\" nativeCode=\"16777215\"/>")
     ∷ bytes "</Condition>"
     ∷ bytes "</ComponentStream>"
-    ∷ bytes "<ComponentStream component=\"Linear\" name=\"Linear\" component_id=\"c2\">"
+    ∷ bytes "<ComponentStream component=\"Linear\" name=\"Linear\" componentId=\"c2\">"
     ∷ bytes "<Samples>"
-    ∷ bytes "<T3dX data_item_id=\"i1\" sequence=\"9\" timestamp=\"1970-01-01T00:00:00.000Z\">5.5</T3dX>"
-    ∷ (bytes "<T3dX data_item_id=\"i1\" sequence=\"20\""
+    ∷ bytes "<T3dX dataItemId=\"i1\" sequence=\"9\" timestamp=\"1970-01-01T00:00:00.000Z\">5.5</T3dX>"
+    ∷ (bytes "<T3dX dataItemId=\"i1\" sequence=\"20\""
     ++ bytes " timestamp=\"1970-01-01T00:00:01.030Z\">UNAVAILABLE</T3dX>")
-    ∷ bytes "<T3dX data_item_id=\"i1\" sequence=\"9\" timestamp=\"1970-01-01T00:00:00.000Z\">5.5</T3dX>"
+    ∷ bytes "<T3dX dataItemId=\"i1\" sequence=\"9\" timestamp=\"1970-01-01T00:00:00.000Z\">5.5</T3dX>"
     ∷ bytes "</Samples>"
     ∷ bytes "</ComponentStream>"
-    ∷ bytes "<ComponentStream component=\"Linear\" name=\"Linear\" component_id=\"c3\">"
+    ∷ bytes "<ComponentStream component=\"Linear\" name=\"Linear\" componentId=\"c3\">"
     ∷ bytes "<Samples>"
-    ∷ bytes "<T data_item_id=\"i5\" sequence=\"17\" timestamp=\"1970-01-01T00:00:01.010Z\">-2147483.648</T>"
-    ∷ (bytes "<T data_item_id=\"i5\" sequence=\"18446744073709551615\""
+    ∷ bytes "<T dataItemId=\"i5\" sequence=\"17\" timestamp=\"1970-01-01T00:00:01.010Z\">-2147483.648</T>"
+    ∷ (bytes "<T dataItemId=\"i5\" sequence=\"18446744073709551615\""
     ++ bytes " timestamp=\"1970-01-01T00:00:00.001Z\">0.01</T>")
     ∷ bytes "</Samples>"
     ∷ bytes "<Events>"
-    ∷ (bytes "<BlockNumber data_item_id=\"i4\" sequence=\"14\""
+    ∷ (bytes "<BlockNumber dataItemId=\"i4\" sequence=\"14\""
     ++ bytes " timestamp=\"1970-01-01T00:00:01.000Z\">4294967295</BlockNumber>")
-    ∷ (bytes "<BlockNumber data_item_id=\"i4\" sequence=\"20\""
+    ∷ (bytes "<BlockNumber dataItemId=\"i4\" sequence=\"20\""
     ++ bytes " timestamp=\"1970-01-01T00:00:01.030Z\">UNAVAILABLE</BlockNumber>")
     ∷ bytes "</Events>"
     ∷ bytes "<Condition>"
-    ∷ (bytes "<Normal data_item_id=\"i7\" sequence=\"15\" timestamp=\"1970-01-01T00:00:01.000Z\""
-    ++ bytes " type=\"SYSTEM\" native_code=\"0\"/>")
-    ∷ (bytes "<Unavailable data_item_id=\"i7\" sequence=\"20\" timestamp=\"1970-01-01T00:00:01.030Z\""
+    ∷ (bytes "<Normal dataItemId=\"i7\" sequence=\"15\" timestamp=\"1970-01-01T00:00:01.000Z\""
+    ++ bytes " type=\"SYSTEM\" nativeCode=\"0\"/>")
+    ∷ (bytes "<Unavailable dataItemId=\"i7\" sequence=\"20\" timestamp=\"1970-01-01T00:00:01.030Z\""
     ++ bytes " type=\"SYSTEM\"/>")
     ∷ bytes "</Condition>"
     ∷ bytes "</ComponentStream>"
@@ -249,8 +249,8 @@ pub empty-document : document bench_model bench_names (0 ∷ 2 ∷ 4 ∷ 5 ∷ [
     ≡ ended
     (bytes "<?xml version=\"1.0\" encoding=\"UTF-8\"?>"
     ∷ bytes "<MTConnectStreams xmlns=\"urn:mtconnect.org:MTConnectStreams:1.2\">"
-    ∷ (bytes "<Header creation_time=\"1970-01-01T00:00:02.000Z\" sender=\"box\" instance_id=\"1\""
-    ++ bytes " buffer_size=\"3\" version=\"1.2\" next_sequence=\"5\" first_sequence=\"2\" last_sequence=\"4\"/>")
+    ∷ (bytes "<Header creationTime=\"1970-01-01T00:00:02.000Z\" sender=\"box\" instanceId=\"1\""
+    ++ bytes " bufferSize=\"3\" version=\"1.2\" nextSequence=\"5\" firstSequence=\"2\" lastSequence=\"4\"/>")
     ∷ bytes "<Streams/>"
     ∷ bytes "</MTConnectStreams>"
     ∷ [])
@@ -260,7 +260,7 @@ empty-document = refl
 -- ---- element names
 
 pub element-names : map element_name
-    (bytes "PATH_FEEDRATE" ∷ bytes "x9_y" ∷ bytes "3D_x" ∷ bytes "_" ∷ bytes "__a" ∷ bytes "a__b_" ∷ bytes "_9"
+    (bytes "PATH_FEEDRATE" ∷ bytes "x9Y" ∷ bytes "3D_x" ∷ bytes "_" ∷ bytes "__a" ∷ bytes "a__b_" ∷ bytes "_9"
     ∷ bytes "9" ∷ bytes "az_AZ_zA_Za_09" ∷ bytes "A1B2_c" ∷ bytes "TTTTTTTTTTTTTTTTTTTTTTTT"
     ∷ bytes "012345678901234567890123" ∷ [])
     ≡ bytes "PathFeedrate" ∷ bytes "X9y" ∷ bytes "T3dX" ∷ bytes "T" ∷ bytes "A" ∷ bytes "AB" ∷ bytes "T9"

@@ -216,7 +216,7 @@ row-inner element r i = rw (all_append, i) (attributes-inner r)
 row_opens : (element : List ℕ) (r : Row) → Fill element → Inner element → Opens (element ++ row_attributes r) element
 unfolding stands_alone row_attributes fill_byte name_byte
 row_opens element r f i =
-    let A = attribute (bytes "data_item_id") (105 ∷ decimal r.item) in
+    let A = attribute (bytes "dataItemId") (105 ∷ decimal r.item) in
     let B = attribute (bytes "sequence") (decimal r.number) in
     let C = attribute (bytes "timestamp") (stamp_text r.time) in
     let q : last_byte (element ++ (A ++ (B ++ C))) ≡ 34 =
@@ -318,10 +318,10 @@ module _ (model names : List ℕ) where
       let T = component_type model names i in
       let A = attribute (bytes "component") T in
       let B = attribute (bytes "name") T in
-      let C = attribute (bytes "component_id") (99 ∷ decimal i) in
+      let C = attribute (bytes "componentId") (99 ∷ decimal i) in
       let q : last_byte (bytes "ComponentStream" ++ (A ++ (B ++ C))) ≡ 34 =
       ap last_byte (ap (◌++◌ (bytes "ComponentStream")) (sym (append_assoc A B C)))
-      ∙ attribute-last (bytes "ComponentStream" ++ (A ++ B)) (bytes "component_id") (99 ∷ decimal i) in
+      ∙ attribute-last (bytes "ComponentStream" ++ (A ++ B)) (bytes "componentId") (99 ∷ decimal i) in
       record { inner = component-inner model names i; starts = rw q; no_end = refl; named = refl }
 
   device-opens : Opens (device_tag model names) (bytes "DeviceStream")

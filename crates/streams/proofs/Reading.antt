@@ -84,7 +84,7 @@ next-cut name t s hn ht h = attribute-cut [] name t s refl hn ht h
 -- the parts of a row's line up to its stamp, and those behind
 abbrev row_parts : List ℕ → Row → List (List ℕ) → List (List ℕ)
 row_parts element r rest =
-    ((60 ∷ element) ++ bytes " data_item_id=")
+    ((60 ∷ element) ++ bytes " dataItemId=")
     ∷ (105 ∷ decimal r.item)
     ∷ bytes " sequence="
     ∷ decimal r.number
@@ -100,21 +100,21 @@ row_cut : (element : List ℕ) (r : Row) (s : List ℕ) → Fill element
     → split 34 ((60 ∷ element) ++ (row_attributes r ++ s)) ≡ row_parts element r (split 34 s)
 unfolding row_attributes all
 row_cut element r s h =
-    let A = attribute (bytes "data_item_id") (105 ∷ decimal r.item) in
+    let A = attribute (bytes "dataItemId") (105 ∷ decimal r.item) in
     let B = attribute (bytes "sequence") (decimal r.number) in
     let C = attribute (bytes "timestamp") (stamp_text r.time) in
     let e : (A ++ (B ++ C)) ++ s ≡ A ++ (B ++ (C ++ s)) =
     append_assoc A (B ++ C) s ∙ ap (◌++◌ A) (append_assoc B C s) in
     ap (λ (x : List ℕ). split 34 ((60 ∷ element) ++ x)) e
-    ∙ attribute-cut (60 ∷ element) (bytes "data_item_id") (105 ∷ decimal r.item) (B ++ (C ++ s))
+    ∙ attribute-cut (60 ∷ element) (bytes "dataItemId") (105 ∷ decimal r.item) (B ++ (C ++ s))
     (no-quote element h) refl (item-fill r.item)
     (next-cut (bytes "sequence") (decimal r.number) (C ++ s) refl (decimal-fill r.number)
     (next-cut (bytes "timestamp") (stamp_text r.time) s refl (stamp-fill r.time) refl))
 
 opening-row : (element : List ℕ) (r : Row) (rest : List (List ℕ)) → Fill element
-    → opening (row_parts element r rest) ≡ (60 ∷ element) ∷ bytes "data_item_id=" ∷ []
+    → opening (row_parts element r rest) ≡ (60 ∷ element) ∷ bytes "dataItemId=" ∷ []
 unfolding opening split join_first all
-opening-row element r rest h = split-more 32 (60 ∷ element) (bytes "data_item_id=") (no-blank element h)
+opening-row element r rest h = split-more 32 (60 ∷ element) (bytes "dataItemId=") (no-blank element h)
 
 is-row : (element : List ℕ) (r : Row) (rest : List (List ℕ)) → Fill element
     → is_row (row_parts element r rest) ≡ true
@@ -167,14 +167,14 @@ code_parts : Value → List (List ℕ)
 code_parts Unavailable = bytes "/>" ∷ []
 code_parts (Sample x) = bytes "/>" ∷ []
 code_parts (Event c) = bytes "/>" ∷ []
-code_parts (Condition l c) = bytes " native_code=" ∷ decimal c ∷ bytes "/>" ∷ []
+code_parts (Condition l c) = bytes " nativeCode=" ∷ decimal c ∷ bytes "/>" ∷ []
 
 code-cut : (v : Value) → split 34 (native_code v ++ bytes "/>") ≡ code_parts v
 unfolding code_parts split join_first all
 code-cut Unavailable = refl
 code-cut (Sample x) = refl
 code-cut (Event c) = refl
-code-cut (Condition l c) = next-cut (bytes "native_code") (decimal c) (bytes "/>") refl (decimal-fill c) refl
+code-cut (Condition l c) = next-cut (bytes "nativeCode") (decimal c) (bytes "/>") refl (decimal-fill c) refl
 
 condition-cut : (type : List ℕ) (r : Row) → Fill type
     → quoted (condition_line type r)
@@ -231,37 +231,37 @@ module _ (type : List ℕ) (named : all name_byte type ≡ true) (filled : Fill 
 
 module _ (reply : List ℕ) (N instance creation : ℕ) where
   header-cut : quoted (empty_tag (header_tag reply N instance creation))
-      ≡ bytes "<Header creation_time=" ∷ stamp_text creation
+      ≡ bytes "<Header creationTime=" ∷ stamp_text creation
       ∷ bytes " sender=" ∷ bytes "box"
-      ∷ bytes " instance_id=" ∷ decimal instance
-      ∷ bytes " buffer_size=" ∷ decimal N
+      ∷ bytes " instanceId=" ∷ decimal instance
+      ∷ bytes " bufferSize=" ∷ decimal N
       ∷ bytes " version=" ∷ bytes "1.2"
-      ∷ bytes " next_sequence=" ∷ decimal (get_or reply 3 0)
-      ∷ bytes " first_sequence=" ∷ decimal (get_or reply 1 0)
-      ∷ bytes " last_sequence=" ∷ decimal (get_or reply 2 0)
+      ∷ bytes " nextSequence=" ∷ decimal (get_or reply 3 0)
+      ∷ bytes " firstSequence=" ∷ decimal (get_or reply 1 0)
+      ∷ bytes " lastSequence=" ∷ decimal (get_or reply 2 0)
       ∷ bytes "/>" ∷ []
   unfolding header_tag split join_first all fill_byte name_byte
   header-cut =
       let end = bytes "/>" in
-      let last = attribute (bytes "last_sequence") (decimal (get_or reply 2 0)) ++ end in
-      let first = attribute (bytes "first_sequence") (decimal (get_or reply 1 0)) ++ last in
-      let next = attribute (bytes "next_sequence") (decimal (get_or reply 3 0)) ++ first in
+      let last = attribute (bytes "lastSequence") (decimal (get_or reply 2 0)) ++ end in
+      let first = attribute (bytes "firstSequence") (decimal (get_or reply 1 0)) ++ last in
+      let next = attribute (bytes "nextSequence") (decimal (get_or reply 3 0)) ++ first in
       let version = attribute (bytes "version") (bytes "1.2") ++ next in
-      let buffer = attribute (bytes "buffer_size") (decimal N) ++ version in
-      let started = attribute (bytes "instance_id") (decimal instance) ++ buffer in
+      let buffer = attribute (bytes "bufferSize") (decimal N) ++ version in
+      let started = attribute (bytes "instanceId") (decimal instance) ++ buffer in
       let sender = attribute (bytes "sender") (bytes "box") ++ started in
       let e : empty_tag (header_tag reply N instance creation)
-      ≡ bytes "<Header" ++ (attribute (bytes "creation_time") (stamp_text creation) ++ sender) = simp append_assoc in
+      ≡ bytes "<Header" ++ (attribute (bytes "creationTime") (stamp_text creation) ++ sender) = simp append_assoc in
       ap (split 34) e
-      ∙ attribute-cut (bytes "<Header") (bytes "creation_time") (stamp_text creation) sender refl refl
+      ∙ attribute-cut (bytes "<Header") (bytes "creationTime") (stamp_text creation) sender refl refl
       (stamp-fill creation)
       (next-cut (bytes "sender") (bytes "box") started refl refl
-      (next-cut (bytes "instance_id") (decimal instance) buffer refl (decimal-fill instance)
-      (next-cut (bytes "buffer_size") (decimal N) version refl (decimal-fill N)
+      (next-cut (bytes "instanceId") (decimal instance) buffer refl (decimal-fill instance)
+      (next-cut (bytes "bufferSize") (decimal N) version refl (decimal-fill N)
       (next-cut (bytes "version") (bytes "1.2") next refl refl
-      (next-cut (bytes "next_sequence") (decimal (get_or reply 3 0)) first refl (decimal-fill (get_or reply 3 0))
-      (next-cut (bytes "first_sequence") (decimal (get_or reply 1 0)) last refl (decimal-fill (get_or reply 1 0))
-      (next-cut (bytes "last_sequence") (decimal (get_or reply 2 0)) end refl (decimal-fill (get_or reply 2 0)) refl)))))))
+      (next-cut (bytes "nextSequence") (decimal (get_or reply 3 0)) first refl (decimal-fill (get_or reply 3 0))
+      (next-cut (bytes "firstSequence") (decimal (get_or reply 1 0)) last refl (decimal-fill (get_or reply 1 0))
+      (next-cut (bytes "lastSequence") (decimal (get_or reply 2 0)) end refl (decimal-fill (get_or reply 2 0)) refl)))))))
 
   -- what a header's line is to give
   abbrev pub header_of : Header

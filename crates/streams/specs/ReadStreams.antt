@@ -29,7 +29,7 @@ time_from s = time_of (date_in s)
 
 -- a row's first attribute is dataItemId
 unfoldable pub is_row : List (List ℕ) → Bool
-is_row ps = same (part (opening ps) 1) (bytes "data_item_id=")
+is_row ps = same (part (opening ps) 1) (bytes "dataItemId=")
 
 abbrev pub level_named : List ℕ → Level
 level_named name = cond (same name (bytes "Normal")) Normal (cond (same name (bytes "Warning")) Warning Fault)

@@ -141,7 +141,7 @@ empty_tag t = tag (t ++ 47 ∷ [])
 -- dataItemId, sequence, timestamp; time 0 in full
 unfoldable pub row_attributes : Row → List ℕ
 row_attributes r =
-    attribute (bytes "data_item_id") (105 ∷ decimal r.item)
+    attribute (bytes "dataItemId") (105 ∷ decimal r.item)
     ++ (attribute (bytes "sequence") (decimal r.number)
     ++ attribute (bytes "timestamp") (stamp_text r.time))
 
@@ -165,7 +165,7 @@ abbrev pub native_code : Value → List ℕ
 native_code Unavailable = []
 native_code (Sample x) = []
 native_code (Event c) = []
-native_code (Condition l c) = attribute (bytes "native_code") (decimal c)
+native_code (Condition l c) = attribute (bytes "nativeCode") (decimal c)
 
 -- a row of Condition
 unfoldable pub condition_line : List ℕ → Row → List ℕ
@@ -191,14 +191,14 @@ group_name (suc (suc g)) = bytes "Condition"
 unfoldable pub header_tag : List ℕ → ℕ → ℕ → ℕ → List ℕ
 header_tag reply N instance creation =
     bytes "Header"
-    ++ (attribute (bytes "creation_time") (stamp_text creation)
+    ++ (attribute (bytes "creationTime") (stamp_text creation)
     ++ (attribute (bytes "sender") (bytes "box")
-    ++ (attribute (bytes "instance_id") (decimal instance)
-    ++ (attribute (bytes "buffer_size") (decimal N)
+    ++ (attribute (bytes "instanceId") (decimal instance)
+    ++ (attribute (bytes "bufferSize") (decimal N)
     ++ (attribute (bytes "version") (bytes "1.2")
-    ++ (attribute (bytes "next_sequence") (decimal (get_or reply 3 0))
-    ++ (attribute (bytes "first_sequence") (decimal (get_or reply 1 0))
-    ++ attribute (bytes "last_sequence") (decimal (get_or reply 2 0)))))))))
+    ++ (attribute (bytes "nextSequence") (decimal (get_or reply 3 0))
+    ++ (attribute (bytes "firstSequence") (decimal (get_or reply 1 0))
+    ++ attribute (bytes "lastSequence") (decimal (get_or reply 2 0)))))))))
 
 abbrev pub item_type : List ℕ → List ℕ → ℕ → List ℕ
 item_type model names j = name_text names (item_name (item_word model j))
@@ -218,7 +218,7 @@ component_tag model names i =
     bytes "ComponentStream"
     ++ (attribute (bytes "component") (component_type model names i)
     ++ (attribute (bytes "name") (component_type model names i)
-    ++ attribute (bytes "component_id") (99 ∷ decimal i)))
+    ++ attribute (bytes "componentId") (99 ∷ decimal i)))
 
 unfoldable pub component_lines : List ℕ → List ℕ → ℕ → List Row → List (List ℕ)
 component_lines model names i rows =
