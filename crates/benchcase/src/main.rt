@@ -3,7 +3,7 @@
 ghost use Rattle.std.specs.Prelude.{◌≤◌, length};
 
 // The next byte of the line, or its end.
-#[derive(Drop)]
+#[derive(Clone, Copy)]
 enum Next {
     Byte(u8),
     End,

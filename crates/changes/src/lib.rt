@@ -5,7 +5,7 @@ ghost use Rattle.changes.specs.Changes.{raised_for, cleared_for, change_for, Cha
 
 // What an observation does to the eight entries of its item: it is put at a place, it stands alone, the entry at a
 // place goes out, they stay, or it would be a ninth.
-#[derive(Drop)]
+#[derive(Clone, Copy)]
 pub enum Change {
     Put(u64),
     Alone,

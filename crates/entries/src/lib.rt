@@ -10,7 +10,7 @@ ghost use Rattle.entries.specs.Forms.{Table, may_follow, marks_of, filled};
 const BEHIND: usize = spec::ENTRY_SLOTS - 1;
 
 // The entries of an item: how many are used, or that they are not in their written form.
-#[derive(Drop)]
+#[derive(Clone, Copy)]
 pub enum Filled {
     Used(u64),
     Broken,

@@ -9,7 +9,7 @@ use entries::Filled;
 use spec::Value;
 
 // What observe finds in an item's latest entries.
-#[derive(Drop)]
+#[derive(Clone, Copy)]
 pub enum Judged {
     Broken,
     Repeated,

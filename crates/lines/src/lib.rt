@@ -2,7 +2,7 @@
 use spec::Level;
 
 // A date and time of day.
-#[derive(Drop)]
+#[derive(Clone, Copy)]
 pub struct Date {
     pub year: u64,
     pub month: u64,
@@ -15,7 +15,7 @@ pub struct Date {
 
 // The form of a line's value: none, UNAVAILABLE, a decimal by its sign, point, whole part and thousandths, or a level
 // with its code.
-#[derive(Drop)]
+#[derive(Clone, Copy)]
 pub enum Form {
     Unread,
     Missing,
@@ -24,7 +24,7 @@ pub enum Form {
 }
 
 // What a line says: time, item and the value's form; or that it is malformed, or has an impossible stamp.
-#[derive(Drop)]
+#[derive(Clone, Copy)]
 pub enum Line {
     Malformed,
     BadStamp,

@@ -12,7 +12,7 @@ use spec::{Answer, Place, Record};
 
 // The answer of start, request, observe_batch, write_line and streams: 0 and k, or the refusal's number and 0.
 #[repr(C)]
-#[derive(Drop)]
+#[derive(Clone, Copy)]
 pub struct Outcome {
     pub number: u64,
     pub count: u64,
@@ -20,7 +20,7 @@ pub struct Outcome {
 
 // A part of the asset store; length 0 where it was refused.
 #[repr(C)]
-#[derive(Drop)]
+#[derive(Clone, Copy)]
 pub struct Part {
     pub start: u64,
     pub length: u64,

@@ -11,7 +11,7 @@ ghost use Rattle.named_reply.specs.Cells.{Cells, FoundAll};
 use spec::{ASSET_SLOTS, Answer, Refusal};
 
 // How many cells were found, or that an id isn't stored.
-#[derive(Drop)]
+#[derive(Clone, Copy)]
 pub enum Found {
     Cells(u64),
     Missing,

@@ -25,7 +25,7 @@ const RING_AT: u64 = HEAD_WORDS as u64;
 const TABLE_WORDS: u64 = 3 * spec::ENTRIES;
 
 // An observation's number, time and packed word.
-#[derive(Drop)]
+#[derive(Clone, Copy)]
 pub struct Row {
     pub number: u64,
     pub time: u64,

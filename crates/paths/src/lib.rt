@@ -4,7 +4,7 @@ ghost use Rattle.spec.specs.Path.{form_of};
 ghost use Rattle.paths.specs.Forms.{is_typed, meaning, NamesFit};
 
 // The form of a path: //T, by the length of T, and //T//DataItem[@type="Y"], by the lengths of T and Y.
-#[derive(Drop)]
+#[derive(Clone, Copy)]
 pub enum PathForm {
     Subtree(usize),
     Typed(usize, usize),

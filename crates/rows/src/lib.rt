@@ -6,14 +6,14 @@ ghost use Rattle.history.specs.Observations.{Head, ring_size, base};
 ghost use Rattle.rows.specs.Rows.{items_ok, sampled, counted, rows_at, rows_into, Run, TwoRuns};
 
 // How many rows there are, or that a ring value read has no item of the model.
-#[derive(Drop)]
+#[derive(Clone, Copy)]
 pub enum Counted {
     Count(u64),
     Broken,
 }
 
 // Where two runs begin: the first at `place`, and at place 0 the number `turn`.
-#[derive(Drop)]
+#[derive(Clone, Copy)]
 pub struct Split {
     pub place: u64,
     pub turn: u64,

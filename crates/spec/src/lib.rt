@@ -48,7 +48,7 @@ pub const DEFAULT_COUNT: u64 = 100;
 pub const MAX_BATCH: usize = 256;
 
 // A condition's level.
-#[derive(Drop)]
+#[derive(Clone, Copy)]
 pub enum Level {
     Normal,
     Warning,
@@ -56,7 +56,7 @@ pub enum Level {
 }
 
 // An observation's value: a sample in thousandths of the item's unit, an event's code, a level with its native code.
-#[derive(Drop)]
+#[derive(Clone, Copy)]
 pub enum Value {
     Unavailable,
     Sample(i32),
@@ -66,7 +66,7 @@ pub enum Value {
 
 // A record of a batch: an item, a time and a value's word, laid out as C has it.
 #[repr(C)]
-#[derive(Drop)]
+#[derive(Clone, Copy)]
 pub struct Record {
     pub item: u64,
     pub time: u64,
@@ -74,7 +74,7 @@ pub struct Record {
 }
 
 // The refusals, in the order of their numbers: 1 to 21, of which 12 is none's.
-#[derive(Drop)]
+#[derive(Clone, Copy)]
 pub enum Refusal {
     Model,
     Store,
@@ -100,14 +100,14 @@ pub enum Refusal {
 
 // The answer of start, request and observe_batch: how many rows the reply has or records were observed, or the
 // refusal.
-#[derive(Drop)]
+#[derive(Clone, Copy)]
 pub enum Answer {
     Done(u64),
     Refused(Refusal),
 }
 
 // The answer of observe: the observation's number, Same where nothing was added, or the refusal.
-#[derive(Drop)]
+#[derive(Clone, Copy)]
 pub enum ObserveAnswer {
     Recorded(u64),
     Same,
@@ -115,28 +115,28 @@ pub enum ObserveAnswer {
 }
 
 // The answer of store_asset: the cell that now holds the asset, or the refusal.
-#[derive(Drop)]
+#[derive(Clone, Copy)]
 pub enum StoreAnswer {
     Stored(u64),
     Refused(Refusal),
 }
 
 // What a check gives: nothing against it, or the refusal.
-#[derive(Drop)]
+#[derive(Clone, Copy)]
 pub enum Verdict {
     Fine,
     Refused(Refusal),
 }
 
 // What a path selects: a set of items, one bit each, or none where the path is refused.
-#[derive(Drop)]
+#[derive(Clone, Copy)]
 pub enum Selection {
     Items(u64),
     NotFound,
 }
 
 // A part of the asset store, by its start and its length.
-#[derive(Drop)]
+#[derive(Clone, Copy)]
 pub enum Place {
     At(usize, usize),
     Nothing,
