@@ -1,4 +1,6 @@
 // An answer as document 01 writes it: number and count, or one word.
+#![tactic(auto)]
+
 ghost use Rattle.std.specs.Prelude.{◌≡◌, ◌<◌};
 ghost use Rattle.answers.specs.Places.{number_at};
 ghost use Rattle.spec.specs.Answers.{refusal_number, refusal_word, answer_number, answer_count, observe_word, store_word};

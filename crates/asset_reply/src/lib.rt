@@ -1,4 +1,6 @@
 // The reply of all assets, newest first.
+#![tactic(auto)]
+
 ghost use Rattle.std.specs.Prelude.{◌≡◌, ◌*◌, ◌≤◌, length};
 ghost use Rattle.std.proofs.lemmas.List.Edits.{sets};
 ghost use Rattle.spec.specs.Assets.{AssetHead, used, length_at, length_ok};

@@ -1,4 +1,6 @@
 // The asset store: its head, its ids, its bodies, and what store-asset and start write.
+#![tactic(auto)]
+
 ghost use Rattle.std.specs.Prelude.{◌≡◌, true, ◌<◌, ◌≤◌, length};
 ghost use Rattle.spec.specs.Assets as spec;
 ghost use Rattle.spec.specs.Assets.{AssetHead, max_assets, id_bytes, max_body, capacity, used};

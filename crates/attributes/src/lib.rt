@@ -1,4 +1,6 @@
 // An attribute: the bytes up to its text, the text, and the quote behind it.
+#![tactic(auto)]
+
 ghost use Rattle.std.specs.Prelude.{[], ◌∷◌, ◌++◌};
 ghost use Rattle.spec.specs.Bytes.{decimal};
 ghost use Rattle.lines.specs.Stamps.{stamp_text};

@@ -1,4 +1,6 @@
 // The bench case of document 01: its start and its observes, and one request behind them.
+#![tactic(auto)]
+
 ghost use Rattle.std.specs.Prelude.{◌≡◌, ◌≤◌, replicate};
 ghost use Rattle.cases.specs.Bench.{bench_model, bench_names, bench_words, bench_bytes, bench_stores, bench_request};
 ghost use Rattle.bench.specs.Print.{words_of, reply_length};

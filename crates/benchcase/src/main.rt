@@ -1,5 +1,7 @@
 // The bench case of document 01 with one request from standard input: number and k on a line, then the reply's words
 // on a line.
+#![tactic(auto)]
+
 ghost use Rattle.std.specs.Prelude.{◌≤◌, length};
 
 // The next byte of the line, or its end.

@@ -1,4 +1,6 @@
 // Times as dates and times of day, 1970 to 2099.
+#![tactic(auto)]
+
 ghost use Rattle.std.specs.Prelude.{true, ◌&&◌, ◌≡◌, ◌≤◌, leb};
 ghost use Rattle.lines.specs.Stamps.{month_length, real_date, day_number, time_of, date_of};
 

@@ -1,4 +1,6 @@
 // What one more observation does to a condition item's eight entries, told by their marks.
+#![tactic(auto)]
+
 ghost use Rattle.std.specs.Prelude.{◌≡◌, ◌+◌, ◌^◌, ◌≤◌, ◌<◌, length};
 ghost use Rattle.marks.specs.Marks.{eight_at};
 ghost use Rattle.changes.specs.Changes.{raised_for, cleared_for, change_for, ChangeFits};

@@ -1,4 +1,6 @@
 // The components of a document, with the rows of each.
+#![tactic(auto)]
+
 ghost use Rattle.std.specs.Prelude.{[], ◌∷◌, ◌++◌, ◌<◌};
 ghost use Rattle.spec.specs.Model.{components, Checked};
 ghost use Rattle.streams.specs.Streams.{having, row_component, tag, device_tag, component_tag, component_lines};

@@ -1,4 +1,6 @@
 // A streams document, written: whole, or not at all.
+#![tactic(auto)]
+
 ghost use Rattle.std.specs.Prelude.{true, [], ◌∷◌, ◌++◌, ◌≡◌};
 ghost use Rattle.streams.specs.Streams.{words_ok, empty_tag, header_tag, streams_lines, ended, document};
 ghost use Rattle.writer.specs.Puts.{Put};

@@ -1,5 +1,7 @@
 // Eight words changed where they stand: what an observation does to a condition item's entries, done to a column of
 // them or to their marks.
+#![tactic(auto)]
+
 ghost use Rattle.std.specs.Prelude.{◌≡◌, true, not, ◌+◌, ◌≤◌, ◌<◌, length};
 ghost use Rattle.std.proofs.lemmas.List.Edits.{sets};
 ghost use Rattle.marks.specs.Marks.{eight_at};

@@ -1,4 +1,6 @@
 // The element name of a data item's type: Pascal case without '_'.
+#![tactic(auto)]
+
 ghost use Rattle.std.specs.Prelude.{◌≡◌};
 ghost use Rattle.spec.specs.Bytes.{split};
 ghost use Rattle.streams.specs.Streams.{upper, lower, capitals, element_name};

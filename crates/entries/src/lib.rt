@@ -1,4 +1,6 @@
 // The eight entries of a condition item in a table of the store: their written form, as marks, and how many are used.
+#![tactic(auto)]
+
 ghost use Rattle.std.specs.Prelude.{◌≡◌, true, ◌+◌, ◌^◌, ◌≤◌, ◌<◌, length, replicate};
 ghost use Rattle.std.proofs.lemmas.List.Edits.{sets};
 ghost use Rattle.spec.specs.Blocks.{table_rows};

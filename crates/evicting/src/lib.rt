@@ -1,4 +1,6 @@
 // A table of the store takes an observation, and the entry that a number overwrites goes to its item's checkpoint.
+#![tactic(auto)]
+
 ghost use Rattle.std.specs.Prelude.{◌≡◌, [], ◌∷◌, ◌<◌};
 ghost use Rattle.spec.specs.Model.{Sizes, items, category};
 ghost use Rattle.history.specs.Observations.{place, set_newest, evict};

@@ -1,4 +1,6 @@
 // The text of a value, as adapter lines and documents have it.
+#![tactic(auto)]
+
 ghost use Rattle.lines.specs.Lines.{level_word, part_text, point_text, unsigned_text, sample_text, value_text};
 ghost use Rattle.writer.specs.Puts.{Put};
 

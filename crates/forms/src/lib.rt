@@ -1,4 +1,6 @@
 // The form of a line's value, from its text.
+#![tactic(auto)]
+
 ghost use Rattle.std.specs.Prelude.{◌≡◌, ◌-◌, ◌*◌, ◌^◌, ◌≤◌};
 ghost use Rattle.spec.specs.Bytes.{split};
 ghost use Rattle.lines.specs.Lines.{whole_form, point_form, by_point, decimal_form, state_form, coded_form, plain_form};

@@ -1,4 +1,6 @@
 // What observe finds in a condition item's latest entries: 2, Same, 19, or none of them.
+#![tactic(auto)]
+
 ghost use Rattle.std.specs.Prelude.{◌≡◌, ◌^◌, ◌≤◌, ◌<◌, length};
 ghost use Rattle.spec.specs.Blocks.{table_rows};
 ghost use Rattle.marks.specs.Marks.{eight_at};

@@ -1,4 +1,6 @@
 // The rows of current: the latest entries of the selected items, counted and written.
+#![tactic(auto)]
+
 ghost use Rattle.std.specs.Prelude.{◌≡◌, true, ◌+◌, ◌*◌, ◌^◌, ◌≤◌, ◌<◌, length};
 ghost use Rattle.spec.specs.Blocks.{table_rows};
 ghost use Rattle.spec.specs.Entries.{used_rows};

@@ -1,4 +1,6 @@
 // Adapter lines, read and written.
+#![tactic(auto)]
+
 ghost use Rattle.std.specs.Prelude.{true, ◌≡◌};
 ghost use Rattle.lines.specs.Lines.{stamp_formed, is_read, dated_line, line_in, read_line, stamp_part, line_of};
 ghost use Rattle.writer.specs.Puts.{Put};

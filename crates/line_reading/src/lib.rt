@@ -1,5 +1,7 @@
 // The call that reads an adapter line: model, head and line are tested in the order of the refusals, and behind the
 // last of them the line is observed as it reads.
+#![tactic(auto)]
+
 ghost use Rattle.std.specs.Prelude.{◌≡◌};
 ghost use Rattle.spec.specs.Model.{Sizes, items, category};
 ghost use Rattle.lines.specs.Lines.{value_for};

@@ -1,4 +1,6 @@
 // The value of an adapter line as a value's word, by its form and the category of its item.
+#![tactic(auto)]
+
 ghost use Rattle.std.specs.Prelude.{◌≡◌, true};
 ghost use Rattle.spec.specs.Value.{decode};
 ghost use Rattle.lines.specs.Lines.{sample_for, event_for, state_for, decimal_for, value_for};

@@ -1,5 +1,7 @@
 // The call that writes an adapter line: all that it is given is tested in the order of the refusals, and behind the
 // last of them the line is written, whole.
+#![tactic(auto)]
+
 ghost use Rattle.spec.specs.Reply.{Gives};
 ghost use Rattle.history.specs.Calls.{write_line};
 

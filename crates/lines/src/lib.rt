@@ -1,4 +1,6 @@
 // The types of adapter lines and their time stamps. What they mean stands in specs/.
+#![tactic(auto)]
+
 use spec::Level;
 
 // A date and time of day.

@@ -1,5 +1,7 @@
 // The long way of an observation: what is found in its item's latest entries decides, and it is recorded where there is
 // room for it.
+#![tactic(auto)]
+
 ghost use Rattle.std.specs.Prelude.{◌≡◌, ◌<◌, true, ◌≢◌};
 ghost use Rattle.spec.specs.Model.{Sizes, items, category};
 ghost use Rattle.history.specs.Observations.{Head, ring_size, latest_ok};

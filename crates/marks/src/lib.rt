@@ -1,5 +1,7 @@
 // The eight entries of a condition item as marks. A mark is the place of its entry's row, from 1 on, times 2^32, and a
 // key: 0 where the entry isn't active, else its code and 1. An unused entry's mark is 0.
+#![tactic(auto)]
+
 ghost use Rattle.std.specs.Prelude.{◌≡◌, ◌+◌, ◌*◌, ◌^◌, ◌≤◌, ◌<◌, length};
 ghost use Rattle.spec.specs.Entries.{normal, code_field};
 ghost use Rattle.marks.specs.Marks.{mark_of, place_in, key_in, key_of, eight_at, place_of};

@@ -1,4 +1,6 @@
 // The model and the names: their check, which every call makes, and the words of a checked model.
+#![tactic(auto)]
+
 ghost use Rattle.std.specs.Prelude.{◌≡◌, ◌≤◌, ◌<◌, length};
 ghost use Rattle.spec.specs.Model.{letters, max_components, max_items, components, items, Sizes};
 ghost use Rattle.spec.specs.Model.{parent_of, component_name, category_of, component_of, item_name};

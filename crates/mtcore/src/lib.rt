@@ -1,5 +1,7 @@
 // The C interface: every exported function, thin over the calls of `agent`, `delivery`, `line_reading`, `line_writing`
 // and `streaming`. include/mtcore.h declares the same.
+#![tactic(auto)]
+
 ghost use Rattle.std.specs.Prelude.{◌≡◌, take, drop};
 ghost use Rattle.spec.specs.Answers.{answer_number, answer_count, observe_word, store_word};
 ghost use Rattle.spec.specs.Value.{decode};

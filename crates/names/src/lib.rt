@@ -1,5 +1,7 @@
 // The check of the names: cells with a name and then zeros in each. The passes over bytes take no branch by a byte, so
 // that they go over many at once; only a single name, which has no whole block, goes byte by byte.
+#![tactic(auto)]
+
 ghost use Rattle.std.specs.Prelude.{◌≡◌, ◌+◌, ◌*◌, ◌≤◌, length};
 ghost use Rattle.spec.specs.Model.{names_ok};
 ghost use Rattle.names.specs.Cells.{block, cell_byte, bytes_at, cell_bytes, follows, zeros_last};

@@ -1,5 +1,7 @@
 // What observe does behind the checks of model and head: an item and its value are refused, repeat the item's
 // latest, or are recorded.
+#![tactic(auto)]
+
 ghost use Rattle.std.specs.Prelude.{◌≡◌};
 ghost use Rattle.spec.specs.Value.{decode};
 ghost use Rattle.spec.specs.Model.{Sizes, items};

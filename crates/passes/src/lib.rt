@@ -1,5 +1,7 @@
 // One pass over the ring, for current with at: each item's newest place, and the marks of condition items, in two runs
 // without a wrap. The place of the pass's first number is FIRST_PLACE.
+#![tactic(auto)]
+
 ghost use Rattle.std.specs.Prelude.{◌≡◌, ◌-◌, ◌*◌, ◌<◌, ◌≤◌, length};
 ghost use Rattle.spec.specs.Model.{max_items};
 ghost use Rattle.history.specs.Observations.{Head, ring_size, base};

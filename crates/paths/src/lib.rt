@@ -1,4 +1,6 @@
 // The form of a path: the names in it, by their lengths.
+#![tactic(auto)]
+
 ghost use Rattle.std.specs.Prelude.{◌≡◌, length};
 ghost use Rattle.spec.specs.Path.{form_of};
 ghost use Rattle.paths.specs.Forms.{is_typed, meaning, NamesFit};

@@ -1,5 +1,7 @@
 // A block of the ring, in the pass of current with at: each item's newest place, and the entries of condition items,
 // picked out and stepped to their items' marks.
+#![tactic(auto)]
+
 ghost use Rattle.std.specs.Prelude.{◌≡◌, true, suc, ◌-◌, ◌*◌, ◌^◌, ◌<◌, ◌≤◌, length};
 ghost use Rattle.spec.specs.Model.{max_items};
 ghost use Rattle.history.specs.Observations.{Head};

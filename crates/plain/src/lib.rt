@@ -1,4 +1,6 @@
 // The short way of an addition, by one row: for items without conditions, and for a start.
+#![tactic(auto)]
+
 ghost use Rattle.std.specs.Prelude.{◌≡◌, true, false, ◌≤◌, ◌<◌, length};
 ghost use Rattle.spec.specs.Model.{Sizes, max_items, items, category};
 ghost use Rattle.history.specs.Observations.{max_ring, Head, store_words, is_condition, evict, evict_ok};

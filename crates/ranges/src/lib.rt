@@ -1,4 +1,6 @@
 // Sequence numbers that a request names: a sample's start and end, and whether a number is late or early.
+#![tactic(auto)]
+
 ghost use Rattle.std.specs.Prelude.{◌≡◌, suc, ◌≤◌};
 ghost use Rattle.history.specs.Observations.{max_number};
 ghost use Rattle.history.specs.Calls as calls;

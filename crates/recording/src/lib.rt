@@ -1,4 +1,6 @@
 // Numbers given to observations: whether one is left, and adding with eviction.
+#![tactic(auto)]
+
 ghost use Rattle.std.specs.Prelude.{◌≡◌, true, ◌<◌};
 ghost use Rattle.spec.specs.Model.{Sizes, items, category};
 ghost use Rattle.history.specs.Observations.{Head, ring_size, latest_at, add, latest_ok};

@@ -1,4 +1,6 @@
 // A reply's rows: their words, and whether a document can be made of them.
+#![tactic(auto)]
+
 ghost use Rattle.std.specs.Prelude.{true, [], ◌≡◌, ◌+◌, ◌*◌, ◌≤◌, ◌<◌, leb, length, get_or};
 ghost use Rattle.spec.specs.Model.{Sizes};
 ghost use Rattle.spec.specs.Reply.{rows_of};

@@ -1,4 +1,6 @@
 // A component's rows in a document, group by group.
+#![tactic(auto)]
+
 ghost use Rattle.std.specs.Prelude.{[], ◌∷◌, ◌++◌, ◌≡◌, ◌+◌, ◌*◌, ◌<◌, ◌≤◌, length, get_or};
 ghost use Rattle.spec.specs.Model.{name_bytes, name_text, max_components};
 ghost use Rattle.spec.specs.Reply.{rows_of};

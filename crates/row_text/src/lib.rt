@@ -1,4 +1,6 @@
 // The line of a row, with its line feed.
+#![tactic(auto)]
+
 ghost use Rattle.std.specs.Prelude.{[], ◌∷◌, ◌++◌};
 ghost use Rattle.streams.specs.Streams.{row_of, element_name, row_attributes, text_line, state_name, native_code};
 ghost use Rattle.streams.specs.Streams.{condition_line, row_line};

@@ -1,5 +1,7 @@
 // The rows of a sample: the numbers from f up to, but without, e, at most a ring of them, whose items are selected.
 // A pass over the ring is two runs without a wrap, so that no entry costs a division.
+#![tactic(auto)]
+
 ghost use Rattle.std.specs.Prelude.{◌≡◌, true, ◌+◌, ◌-◌, ◌*◌, ◌<◌, ◌≤◌, length, set};
 ghost use Rattle.spec.specs.Model.{max_items};
 ghost use Rattle.history.specs.Observations.{Head, ring_size, base};

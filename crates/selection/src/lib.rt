@@ -1,4 +1,6 @@
 // Selections: sets of items, one bit each. Their form is known here alone: others test, add, move, count, or take all.
+#![tactic(auto)]
+
 ghost use Rattle.std.specs.Prelude.{◌≡◌, cond, ◌+◌, ◌*◌, ◌^◌, ◌<◌, ◌≤◌};
 ghost use Rattle.std.specs.Int.Count.{ones};
 ghost use Rattle.spec.specs.Words.{bit, set_of};

@@ -1,4 +1,6 @@
 // The short way of an observation, which most go: an item without conditions, whose one latest word decides.
+#![tactic(auto)]
+
 ghost use Rattle.std.specs.Prelude.{◌≡◌, ◌≤◌, ◌<◌, get_or};
 ghost use Rattle.spec.specs.Value.{repeats};
 ghost use Rattle.spec.specs.Model.{Sizes, max_items, items, category};

@@ -1,5 +1,7 @@
 // The rows that marks hold, eight marks of each item side by side: an item's entry at a mark's place is of its
 // checkpoint, from place 1 on, or of the ring, where a pass's first number has place 9.
+#![tactic(auto)]
+
 ghost use Rattle.std.specs.Prelude.{◌≡◌, [], ◌∷◌, suc, ◌+◌, ◌*◌, ◌^◌, ◌<◌, ◌≤◌, length};
 ghost use Rattle.spec.specs.Model.{max_items};
 ghost use Rattle.history.specs.Observations.{Head, ring_size, base, last, checkpoint_at};

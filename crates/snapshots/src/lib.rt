@@ -1,6 +1,8 @@
 // The marks of current with at: each selected item's entries behind one pass over the ring, from its checkpoint on. An
 // entry is held as a mark: of the checkpoint by its place from 1 on, of the ring by its number, which is 9 for the
 // pass's first. A condition item's marks are stepped along the pass; of another the newest place is kept, by item.
+#![tactic(auto)]
+
 ghost use Rattle.std.specs.Prelude.{◌≡◌, true, ◌&&◌, ℕ, ◌+◌, ◌-◌, ◌*◌, ◌^◌, ◌<◌, ◌≤◌, length, get_or, replicate};
 ghost use Rattle.std.proofs.lemmas.List.Edits.{sets};
 ghost use Rattle.spec.specs.Model.{Sizes, max_items, items, category};

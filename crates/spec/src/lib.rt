@@ -1,5 +1,6 @@
 // The bounds, sizes and categories that the code shares, and the types that the calls take and answer. What they
 // mean stands in specs/, where each bound has its name too.
+#![tactic(auto)]
 
 // Items and components of a model; the lengths of arrays with a place for each.
 pub const MAX_ITEMS: u64 = 64;

@@ -1,4 +1,6 @@
 // The 24 bytes of a time's stamp, written.
+#![tactic(auto)]
+
 ghost use Rattle.std.specs.Prelude.{[], ◌∷◌, ◌++◌};
 ghost use Rattle.lines.specs.Digits.{fixed};
 ghost use Rattle.lines.specs.Stamps.{day_text, clock_text, date_text, stamp_text};

@@ -1,4 +1,6 @@
 // The form of a stamp's 24 bytes, and the date that stands in them.
+#![tactic(auto)]
+
 ghost use Rattle.std.specs.Prelude.{cond, ◌≡◌, ◌+◌, ◌-◌, ◌≤◌, eqb, length};
 ghost use Rattle.spec.specs.Bytes.{digit};
 ghost use Rattle.lines.specs.Stamps.{formed, stamp_form, field, date_in};

@@ -1,4 +1,6 @@
 // What start does behind the check of model and names: sizes and lengths are refused, or both stores are made anew.
+#![tactic(auto)]
+
 ghost use Rattle.std.specs.Prelude.{◌≡◌, ◌≤◌, length};
 ghost use Rattle.spec.specs.Model.{Sizes, max_items, items, category};
 ghost use Rattle.history.specs.Observations.{store_words, start_store};

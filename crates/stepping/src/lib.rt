@@ -1,5 +1,7 @@
 // One more observation in a table of the store, for a condition item: whether its entries take it, and their step,
 // done in place.
+#![tactic(auto)]
+
 ghost use Rattle.std.specs.Prelude.{◌≡◌, true, [], ◌∷◌, ◌^◌, ◌<◌, length};
 ghost use Rattle.spec.specs.Blocks.{table_rows, put_rows, padded};
 ghost use Rattle.spec.specs.Entries.{used_rows, step, form_ok};

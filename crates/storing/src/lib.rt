@@ -1,5 +1,7 @@
 // What store-asset does behind the checks of model and heads: an asset is refused, or stored, with its event where the
 // model has an asset change item.
+#![tactic(auto)]
+
 ghost use Rattle.std.specs.Prelude.{◌≡◌, true, ◌<◌};
 ghost use Rattle.spec.specs.Model.{Sizes, items, category, change_item};
 ghost use Rattle.history.specs.Observations.{Head};

@@ -1,5 +1,7 @@
 // The call that writes a streams document: all that it is given is tested in the order of the refusals, over the
 // whole reply, and behind the last of them the document is written, whole.
+#![tactic(auto)]
+
 ghost use Rattle.spec.specs.Reply.{Gives};
 ghost use Rattle.streams.specs.Streams.{streams};
 

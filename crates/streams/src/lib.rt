@@ -1,4 +1,5 @@
 // The terms of streams documents. What they mean stands in specs/.
+#![tactic(auto)]
 
 // The groups of a component's rows, and how many there are.
 pub const SAMPLES: u64 = 0;

@@ -1,4 +1,6 @@
 // The value of an observation: which an item takes, its packed word, and back.
+#![tactic(auto)]
+
 ghost use Rattle.std.specs.Prelude.{◌≡◌, ◌+◌, ◌*◌, ◌<◌, ◌^◌};
 ghost use Rattle.spec.specs.Value.{low_word, level_number, value_word, pack, item_of, native_ok, takes};
 ghost use Rattle.spec.specs.Value.{sample_of, level_of, decode_kind, decode};

@@ -1,5 +1,7 @@
 // Text written into a lent buffer. Each function writes from a place on, as far as the buffer reaches, and gives the
 // place behind: over an empty buffer it gives the length alone.
+#![tactic(auto)]
+
 ghost use Rattle.std.specs.Prelude.{[], ◌∷◌, ◌≡◌, ◌+◌, ◌≤◌, length};
 ghost use Rattle.std.proofs.lemmas.List.Edits.{sets};
 ghost use Rattle.spec.specs.Bytes.{decimal};

@@ -1,0 +1,26 @@
+-- A refused byte or length leaves no head; behind the tests of A and u the length decides.
+use native.Mathlib.Omega.{arith}
+use Rattle.spec.proofs.Assets.{no-asset-head}
+use Rattle.assets.proofs.Laws.{head-last}
+use Rattle.assets.proofs.head_ok.Goals as goal
+
+pub returns-then-bs-lt-IDS_AT : goal.returns-then-bs-lt-IDS_AT
+returns-then-bs-lt-IDS_AT c =
+    no-asset-head _ (λ h. omega arith)
+
+pub returns-then-a-lt1 : goal.returns-then-a-lt1
+returns-then-a-lt1 c =
+    no-asset-head _ (λ h. omega arith)
+
+pub returns-then-a-gt-MAX_ASSETS : goal.returns-then-a-gt-MAX_ASSETS
+returns-then-a-gt-MAX_ASSETS c =
+    no-asset-head _ (λ h. omega arith)
+
+pub returns-then-a-wide : goal.returns-then-a-wide
+returns-then-a-wide c =
+    no-asset-head _ (λ h. omega arith)
+
+pub returns : goal.returns
+returns c =
+    head-last _ _ c.wide-a.ensures.value (omega arith) (omega arith)
+    (omega arith) _ c.bytes_for.ensures

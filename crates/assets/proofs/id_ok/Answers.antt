@@ -1,0 +1,19 @@
+-- Behind both bounds of the length the bytes decide.
+use borrow.Author.Tests.{le-leb, lt-leb}
+use Rattle.spec.specs.Assets.{id_bytes, id_ok}
+use Rattle.assets.proofs.id_ok.Goals as goal
+
+pub returns-then-id-lt1 : goal.returns-then-id-lt1
+unfolding id_ok
+returns-then-id-lt1 c =
+    rw (lt-leb 1 _ c.if-id-lt1.true)
+
+pub returns-then-id-gt-ID_BYTES : goal.returns-then-id-gt-ID_BYTES
+unfolding id_ok
+returns-then-id-gt-ID_BYTES c =
+    rw (le-leb 1 _ c.if-id-lt1.false, lt-leb _ id_bytes c.if-id-gt-ID_BYTES.true)
+
+pub returns : goal.returns
+unfolding id_ok
+returns c =
+    rw (le-leb 1 _ c.if-id-lt1.false, le-leb _ id_bytes c.if-id-gt-ID_BYTES.false, c.all_of.ensures)

@@ -1,0 +1,39 @@
+-- The cells behind the one given up and the last one are one run; where they begin wants products.
+use mathlib.Core.List.{◌++◌}
+use mathlib.Core.Path.{◌∙◌}
+use native.Mathlib.Omega.{arith}
+use lib.ListN.{length-append}
+use Rattle.spec.specs.Bytes.{pad}
+use Rattle.cells.proofs.Laws.{places, renew-is, padded-length}
+use Rattle.cells.proofs.renew_cells.Goals as goal
+
+pub overflow_mul-out : goal.overflow_mul-out
+overflow_mul-out c =
+    let z = c.args in
+    let p = places z.w z.out z.n (omega arith) in
+    omega arith
+
+pub overflow_add-b : goal.overflow_add-b
+overflow_add-b c =
+    let z = c.args in
+    let p = places z.w z.out z.n (omega arith) in
+    omega arith
+
+pub overflow_mul-n : goal.overflow_mul-n
+overflow_mul-n c =
+    let z = c.args in
+    let p = places z.w z.out z.n (omega arith) in
+    omega arith
+
+pub renew_at-requires : goal.renew_at-requires
+renew_at-requires c =
+    let z = c.args in
+    let p = places z.w z.out z.n (omega arith) in let whole = omega arith in record { moved_in_bounds = whole.0; s_len_bound = whole.1 }
+
+pub returns : goal.returns
+returns c =
+    let z = c.args in
+    let cell = z.head.now ++ z.s.now in
+    let e = length-append z.head.now z.s.now in
+    c.renew_at.ensures ∙ renew-is z.w z.b z.out z.n (pad z.w cell) z.bs.now
+    (omega arith) (omega arith) (padded-length z.w cell (omega arith))

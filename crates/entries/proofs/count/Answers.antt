@@ -1,0 +1,8 @@
+-- The first row is used: where the others are zeros it is alone, and otherwise fill tells.
+use mathlib.Core.Path.{sym, ◌∙◌}
+use Rattle.entries.proofs.Unused.{first_alone}
+use Rattle.entries.proofs.count.Goals as goal
+
+pub returns-then-rest_unused : goal.returns-then-rest_unused
+returns-then-rest_unused c =
+    first_alone _ _ _ _ _ c.if-st-t-ne0.true (sym c.rest_unused.ensures ∙ c.if-rest_unused.true)

@@ -1,0 +1,8 @@
+-- One behind the other.
+use Rattle.writer.proofs.Laws.{put-append}
+use Rattle.figures.proofs.put_unsigned.Goals as goal
+
+pub returns : goal.returns
+returns c =
+    put-append c.put_decimal-p.ensures
+    c.put_point.ensures

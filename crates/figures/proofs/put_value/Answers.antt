@@ -1,0 +1,28 @@
+-- Each kind has its text.
+use mathlib.Core.Path.{◌≡◌}
+use mir.Syntax.{w32}
+use mir.Val.{to_z, of_z}
+use Rattle.lines.specs.Lines.{value_text}
+use borrow.Author.Rules.{rules}
+use Rattle.figures.proofs.put_value.Goals as goal
+
+pub returns-in-Unavailable : goal.returns-in-Unavailable
+unfolding value_text
+returns-in-Unavailable c =
+    rw c.in-Unavailable.is c.put_bytes.ensures
+
+pub returns-in-Sample : goal.returns-in-Sample
+unfolding value_text
+returns-in-Sample c =
+    let v = c.v-1.given in
+    let e : to_z w32 (of_z w32 v.0.0) ≡ v.0.0 = search rules in
+    rw v.1 (rw e at c.put_sample.ensures)
+
+pub returns-in-Event : goal.returns-in-Event
+unfolding value_text
+returns-in-Event c =
+    rw c.in-Event.is c.put_decimal.ensures
+
+pub returns-in-Condition : goal.returns-in-Condition
+returns-in-Condition c =
+    rw c.in-Condition.is c.put_state.ensures

@@ -1,0 +1,42 @@
+use mathlib.Core.Logic.{⊎_elim}
+use mathlib.Core.Path.{refl}
+use native.Mathlib.Omega.{arith}
+use Rattle.spec.proofs.Words.{told}
+use Rattle.latest.proofs.Laws.{latest-table, firsts-start, firsts-out, firsts-room, firsts_more}
+use Rattle.latest.proofs.Laws.{firsts-end}
+use Rattle.latest.proofs.write_firsts.Goals as goal
+
+pub loop-i-init : goal.loop-i-init
+loop-i-init c =
+    firsts-start _ _ _ _ _ c.requires.k_value.0
+
+pub write_first-requires : goal.write_first-requires
+write_first-requires c =
+    let v = c.loop-i.invariant in record {
+      table = latest-table _ _ c.requires.head refl c.ring_size.ensures.is c.latest_at-t.ensures
+          c.loop-i-test.true;
+      done_lt_k = (
+        firsts-room v c.loop-i-test.true (told c.has.ensures c.if-has.true),
+        omega (arith, v.put.len, c.requires.k_value.1),
+      );
+    }
+
+pub loop-i-preserved : goal.loop-i-preserved
+loop-i-preserved c =
+    let v = c.loop-i.invariant in
+    let h = c.loop-i-test.true in
+    ⊎_elim
+    (λ w.
+    rw (w.5, w.6)
+    (firsts_more v h (told c.has.ensures w.0.taken) c.ring_size.ensures.is c.latest_at-t.ensures
+    w.2.ensures))
+    (λ w. rw (w.1, w.2) (firsts-out v h (told c.has.ensures w.0.left)))
+    c.if-has.branch
+
+pub shape_of-out : goal.shape_of-out
+shape_of-out c =
+    c.loop-i.invariant.put.len
+
+pub returns : goal.returns
+returns c =
+    firsts-end c.loop-i.invariant (omega arith)

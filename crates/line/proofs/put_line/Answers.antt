@@ -1,0 +1,11 @@
+-- One behind the other.
+use Rattle.lines.specs.Lines.{line_of}
+use Rattle.writer.proofs.Laws.{put-append}
+use Rattle.line.proofs.put_line.Goals as goal
+
+pub returns : goal.returns
+unfolding line_of
+returns c =
+    put-append c.put_time-a.ensures
+    (put-append c.put_byte-b.ensures
+    (put-append c.put_decimal-c.ensures (put-append c.put_byte-d.ensures c.put_value.ensures)))

@@ -1,0 +1,15 @@
+-- A condition item's entries are judged; of another the word is new.
+use Rattle.spec.specs.Model.{category}
+use Rattle.spec.proofs.Words.{told}
+use Rattle.long_way.proofs.Laws.{found-entries}
+use Rattle.long_way.proofs.judge_latest.Goals as goal
+
+pub returns-then-cat-ne-CONDITION : goal.returns-then-cat-ne-CONDITION
+returns-then-cat-ne-CONDITION c =
+    c.requires.fact c.if-cat-ne-CONDITION.true
+
+pub returns : goal.returns
+returns c =
+    found-entries (category c.args.model.now) _ _ _ _ _ _ _ c.items-m.ensures.0
+    (rw c.ring_size.ensures.is at c.latest_at-t.ensures) (told c.requires.item_bound.1 c.if-cat-ne-CONDITION.false)
+    c.judge.ensures

@@ -1,0 +1,36 @@
+-- A number is left and its place was made: the ring, the latest's one row and last are written.
+use mathlib.Core.Path.{refl, ◌∙◌}
+use native.Mathlib.Omega.{arith}
+use borrow.Author.Tests.{eqb-false}
+use Rattle.spec.specs.Model.{category}
+use Rattle.history.proofs.Added.{length-evict}
+use Rattle.plain.proofs.Laws.{next-ring, tried, untried, room-left, newest-row, numbered, added_next}
+use Rattle.plain.proofs.add_plain.Goals as goal
+
+pub returns-then-s-gt-MAX_NUMBER : goal.returns-then-s-gt-MAX_NUMBER
+returns-then-s-gt-MAX_NUMBER c =
+    untried refl
+
+pub evict_plain-requires : goal.evict_plain-requires
+evict_plain-requires c =
+    record { sizes = c.requires.sizes; in_ring = next-ring c.ring_size-n.ensures.is c.base-b.ensures c.last-s.ensures.is c.requires.head }
+
+pub returns-then-not-evict_plain : goal.returns-then-not-evict_plain
+returns-then-not-evict_plain c =
+    untried (c.evict_plain.ensures.left c.if-not-evict_plain.true)
+
+pub put_number-requires : goal.put_number-requires
+put_number-requires c =
+    let x = c.evict_plain.ensures.done c.if-not-evict_plain.false in record { p_lt_n = (c.place-p.ensures.low, omega arith); item_lt_m = (omega (arith, c.requires.item_bound.0), omega arith); st_len = rw (x.1, c.ring_size-n.ensures.is, c.items-m.ensures.0) (length-evict _ _ _ _ _ _ ∙ c.requires.head.len) }
+
+pub returns : goal.returns
+returns c =
+    let x = c.evict_plain.ensures.done c.if-not-evict_plain.false in
+    let row =
+    newest-row (category c.args.model.now) _ _ _ _ _ refl _ _ (eqb-false _ 2 c.requires.item_bound.1) refl in
+    tried
+    (room-left _ _ _ _ _ _ c.ring_size-n.ensures.is c.base-b.ensures c.last-s.ensures.is
+    (omega (arith, c.if-s-gt-MAX_NUMBER.false)) x.0)
+    (added_next _ _ _ _ _ _ _ _ _ _ c.ring_size-n.ensures.is c.base-b.ensures c.last-s.ensures.is
+    (numbered _ _ _ _ _ _ _ _ _ _ _ _ x.1 c.place-p.ensures.is row
+    (rw c.items-m.ensures.0 at c.put_number.ensures)))

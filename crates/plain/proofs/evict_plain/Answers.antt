@@ -1,0 +1,23 @@
+-- The place is free, or the entry's item decides, and then its category.
+use mathlib.Core.Path.{refl, ◌∙◌}
+use native.Mathlib.Omega.{arith}
+use Rattle.plain.proofs.Laws.{untried, free-place, plain-evicted}
+use Rattle.plain.proofs.evict_plain.Goals as goal
+
+pub returns-then-s-b : goal.returns-then-s-b
+returns-then-s-b c =
+    free-place _ _ _ _ _ _ c.if-s-b.true
+
+pub returns-then-m-item : goal.returns-then-m-item
+returns-then-m-item c =
+    untried refl
+
+pub returns-then-category-eq-CONDITION : goal.returns-then-category-eq-CONDITION
+returns-then-category-eq-CONDITION c =
+    untried refl
+
+pub returns : goal.returns
+returns c =
+    plain-evicted _ _ _ _ _ _ _ _ c.place-at.ensures.is c.ring_word-word.ensures _ c.item_of-item.ensures (omega arith)
+    _ _ _ _ (omega arith) (λ e. c.if-category-eq-CONDITION.false (c.category.ensures ∙ e)) c.items-m.ensures.0
+    c.checkpoint_at-t.ensures c.ring_time-time.ensures c.put_row.ensures

@@ -1,0 +1,11 @@
+-- The quotient holds k where the product fits.
+use Rattle.reply_rows.proofs.Laws.{words-short, words-tested}
+use Rattle.reply_rows.proofs.words_ok.Goals as goal
+
+pub returns-then-reply-lt-ROWS_AT : goal.returns-then-reply-lt-ROWS_AT
+returns-then-reply-lt-ROWS_AT c =
+    words-short c.args.reply.now c.if-reply-lt-ROWS_AT.true
+
+pub returns : goal.returns
+returns c =
+    words-tested c.args.reply.now c.if-reply-lt-ROWS_AT.false

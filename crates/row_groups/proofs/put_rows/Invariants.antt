@@ -1,0 +1,16 @@
+-- The invariant: the lines of the first i rows are put. The measure is the rows left.
+use Prim.Native.Nat.{◌-◌, ◌≤◌}
+use mathlib.Core.List.{map}
+use lib.ListN.{take}
+use Rattle.spec.specs.Reply.{rows_of}
+use Rattle.streams.specs.Streams.{row_in}
+use Rattle.writer.specs.Puts.{Put}
+use Rattle.row_groups.specs.Groups.{kept_text}
+use Rattle.row_groups.proofs.put_rows.Given as goal
+
+abbrev pub invariant-loop-i : goal.invariant-loop-i
+invariant-loop-i l =
+    (l.i ≤ l.k) × Put l.initial.out l.at (kept_text l.model l.names l.c l.g (map row_in (take l.i (rows_of l.reply)))) l.out l.p
+
+abbrev pub decreases-loop-i : goal.decreases-loop-i
+decreases-loop-i l = l.k - l.i

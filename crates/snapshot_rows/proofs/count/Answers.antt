@@ -1,0 +1,26 @@
+use Rattle.snapshot_rows.proofs.Laws.{counting-start, counting_more, counting-skip, counting-end}
+use mathlib.Core.Logic.{⊎_elim}
+use Rattle.spec.proofs.Words.{told}
+use native.Mathlib.Omega.{arith}
+use Rattle.snapshot_rows.proofs.count.Goals as goal
+
+pub loop-i-init : goal.loop-i-init
+loop-i-init c =
+    counting-start _ _ _
+
+pub overflow_add-k : goal.overflow_add-k
+overflow_add-k c =
+    let v = c.loop-i.invariant in omega (arith, v.few, v.high)
+
+pub loop-i-preserved : goal.loop-i-preserved
+loop-i-preserved c =
+    let v = c.loop-i.invariant in
+    let h = c.loop-i-test.true in
+    ⊎_elim
+    (λ w. rw w.2 (counting_more v h (told c.has.ensures w.0.taken) w.1.ensures))
+    (λ w. rw w.1 (counting-skip v h (told c.has.ensures w.0.left)))
+    c.if-has.branch
+
+pub returns : goal.returns
+returns c =
+    counting-end c.loop-i.invariant c.loop-i-test.false

@@ -1,0 +1,35 @@
+use Rattle.rows.proofs.Flat.{flat_start, flat-room, flat-more, flat-skip, flat-end}
+use Rattle.snapshot_rows.specs.Held.{held_by}
+use mathlib.Core.Logic.{⊎_elim}
+use Rattle.spec.proofs.Words.{told}
+use native.Mathlib.Omega.{arith}
+use Rattle.snapshot_rows.proofs.write_held.Goals as goal
+
+pub loop-i-init : goal.loop-i-init
+unfolding held_by
+loop-i-init c =
+    flat_start _ _ _ _ _ c.requires.k_value.0
+
+pub write_item-c-requires : goal.write_item-c-requires
+write_item-c-requires c =
+    let v = c.loop-i.invariant in
+    let h = c.loop-i-test.true in
+    let fits = flat-room v h (told c.has.ensures c.if-has.true) in record { head = c.requires.head; m_le_max_items = (c.requires.m_le_max_items.0, (h, c.requires.m_le_max_items.1)); st_bound = c.requires.st_bound; i_bound = (fits, omega (arith, v.len)) }
+
+pub loop-i-preserved : goal.loop-i-preserved
+loop-i-preserved c =
+    let v = c.loop-i.invariant in
+    let h = c.loop-i-test.true in
+    ⊎_elim
+    (λ w. rw (w.5, w.6, w.2.ensures.0) (flat-more v h (told c.has.ensures w.0.taken) w.2.ensures.1))
+    (λ w. rw (w.1, w.2) (flat-skip v h (told c.has.ensures w.0.left)))
+    c.if-has.branch
+
+pub shape_of-out : goal.shape_of-out
+shape_of-out c =
+    c.loop-i.invariant.len
+
+pub returns : goal.returns
+unfolding held_by
+returns c =
+    flat-end c.loop-i.invariant c.loop-i-test.false

@@ -1,0 +1,37 @@
+use Rattle.spec.specs.Words.{bit}
+use Rattle.history.specs.Observations.{is_condition}
+use Rattle.spec.proofs.Words.{told}
+use mathlib.Core.Bool.{◌&&◌}
+use mathlib.Core.Logic.{⊎_elim}
+use Rattle.spec.specs.Model.{items, category}
+use Rattle.spec.specs.Words.{set_of}
+use Rattle.spec.proofs.Bits.{set-lt, set_more}
+use Rattle.snapshots.specs.Snapshots.{steps_of}
+use native.Mathlib.Omega.{arith}
+use mathlib.Core.Path.{◌≡◌, refl, ap, ◌∙◌}
+use Rattle.snapshots.proofs.steps_of.Goals as goal
+
+pub loop-i-init : goal.loop-i-init
+unfolding set_of
+loop-i-init c =
+    (omega arith, refl)
+
+pub with_if-set-requires : goal.with_if-set-requires
+with_if-set-requires c =
+    (omega arith, rw c.loop-i.invariant.1 (set-lt _ _))
+
+pub loop-i-preserved : goal.loop-i-preserved
+loop-i-preserved c =
+    let i = c.loop-i.i in
+    let t : c.if-has.steps ≡ (bit c.args.selection i && is_condition (category c.args.model.now) i) =
+    ⊎_elim
+    (λ w. let b = told c.has.ensures w.0.taken in w.2 ∙ rw (b, w.1.ensures))
+    (λ w. let b = told c.has.ensures w.0.left in w.1 ∙ (w.0.left ∙ rw b))
+    c.if-has.branch in
+    (omega arith, set_more _ _ _ _ _ c.loop-i.invariant.1 t c.with_if-set.ensures)
+
+pub returns : goal.returns
+returns c =
+    let v = c.loop-i.invariant in
+    let e : c.loop-i.i ≡ items c.args.model.now = omega arith in
+    v.1 ∙ ap (steps_of (category c.args.model.now) c.args.selection) e

@@ -1,0 +1,32 @@
+-- The verdict decides; the cell is below the largest capacity, so that it is an event code.
+use native.Mathlib.Omega.{arith}
+use mathlib.Core.Path.{refl, ap}
+use Rattle.spec.specs.declared.StoreAnswer.TheVariants.{Stored}
+use Rattle.spec.proofs.Words.{told}
+use Rattle.storing.proofs.Laws.{cell_below, change-latest, event-added}
+use Rattle.storing.proofs.keep_changed.Goals as goal
+
+pub store-cell-requires : goal.store-cell-requires
+store-cell-requires c =
+    record { asset_head = c.requires.asset_head; body_value = c.requires.body_value }
+
+pub overflow_cast-cell : goal.overflow_cast-cell
+overflow_cast-cell c =
+    let h = cell_below c.args.id.now c.args.assets.now c.requires.asset_head in
+    record { fits = omega arith }
+
+pub add-requires : goal.add-requires
+add-requires c =
+    let room = told c.room_for-verdict.ensures c.in-Fine.is in record { sizes = c.requires.sizes; head = c.requires.head; st_value = room; item_bound = c.requires.change_value.1; item_value = change-latest _ _ _ _ c.requires.change_value.0 c.requires.change_value.1 }
+
+pub returns-in-Refused : goal.returns-in-Refused
+returns-in-Refused c =
+    rw (told c.room_for-verdict.ensures c.in-Refused.is) (refl, refl, refl)
+
+pub returns-in-Fine : goal.returns-in-Fine
+returns-in-Fine c =
+    let e =
+    event-added _ _ c.args.host c.args.observations.now _ c.requires.change_value.0 c.store-cell.ensures.value
+    c.pack-word.ensures c.add.ensures in
+    rw (told c.room_for-verdict.ensures c.in-Fine.is)
+    (ap Stored c.store-cell.ensures.value, e, c.store-cell.ensures.bs_after)

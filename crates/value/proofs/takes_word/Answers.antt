@@ -1,0 +1,40 @@
+-- Each category tells its own words apart.
+use mathlib.Core.Path.{◌∙◌}
+use native.Mathlib.Omega.{arith}
+use borrow.Author.Tests.{lt-leb, eq-eqb, ne_eqb}
+use Rattle.value.proofs.Taking.{own-taken, own-other, none-taken, level-low, level-tested}
+use Rattle.value.proofs.Taking.{discrete-event, discrete-other, other}
+use Rattle.value.proofs.takes_word.Goals as goal
+
+pub returns-then-kind-category : goal.returns-then-kind-category
+returns-then-kind-category c =
+    eq-eqb _ _ c.if-kind-category.true ∙ own-taken _ _ c.if-category-lt2.true c.if-kind-category.true
+
+pub returns-else-kind-category : goal.returns-else-kind-category
+returns-else-kind-category c =
+    own-other _ _ c.if-category-lt2.true c.if-kind-category.false
+
+pub returns-then-word-eq0 : goal.returns-then-word-eq0
+returns-then-word-eq0 c =
+    eq-eqb _ _ c.if-word-eq0.true ∙ none-taken _ _ (omega arith) c.if-word-eq0.true
+
+pub returns-then-front-ge768 : goal.returns-then-front-ge768
+returns-then-front-ge768 c =
+    level-tested _ _ c.if-category-eq-CONDITION.true c.if-front-ge768.true
+
+pub returns-else-front-ge768 : goal.returns-else-front-ge768
+returns-else-front-ge768 c =
+    lt-leb _ _ c.if-front-ge768.false
+    ∙ level-low _ _ c.if-category-eq-CONDITION.true c.if-word-eq0.false c.if-front-ge768.false
+
+pub returns-then-kind-eq2 : goal.returns-then-kind-eq2
+returns-then-kind-eq2 c =
+    eq-eqb _ _ c.if-kind-eq2.true ∙ discrete-event _ _ c.if-category-eq-DISCRETE.true c.if-kind-eq2.true
+
+pub returns-else-kind-eq2 : goal.returns-else-kind-eq2
+returns-else-kind-eq2 c =
+    discrete-other _ _ c.if-category-eq-DISCRETE.true c.if-kind-eq2.false
+
+pub returns-else-category-eq-DISCRETE : goal.returns-else-category-eq-DISCRETE
+returns-else-category-eq-DISCRETE c =
+    ne_eqb _ _ c.if-category-eq-DISCRETE.false ∙ other _ _ c.if-category-lt2.false c.if-category-eq-CONDITION.false c.if-category-eq-DISCRETE.false
