@@ -136,7 +136,7 @@ row_reads g element line r rest h k e v =
           rw (
             e,
             number-back r.item (omega arith),
-            number-back r.number k.number_ok,
+            number-back r.number k.number_ok_lem,
             stamp-back r.time k.time-ok,
             v,
           );

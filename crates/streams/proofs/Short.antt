@@ -139,7 +139,7 @@ text-line-length : (g : ℕ) (element : List ℕ) (r : Row) → g < 2 → length
 unfolding text_line
 text-line-length g element r l e h =
     simp length-append
-    (omega (arith, attributes-length r h.item_ok, value-length g r.value l h.taken h.fits))
+    (omega (arith, attributes-length r h.item_ok_lem, value-length g r.value l h.taken h.fits))
 
 -- the element and the code of a condition
 state-length : (v : Value) → takes 2 v ≡ true → length (state_name v) + length (native_code v) ≤ 32
@@ -158,7 +158,7 @@ condition-length : (type : List ℕ) (r : Row) → length type ≤ name_bytes �
 unfolding condition_line
 condition-length type r e h =
     simp length-append
-    (omega (arith, attributes-length r h.item_ok, state-length r.value h.taken))
+    (omega (arith, attributes-length r h.item_ok_lem, state-length r.value h.taken))
 
 row-length : (g : ℕ) (type : List ℕ) (r : Row) → g < groups → length type ≤ name_bytes → Good g r
     → length (row_line g type r) ≤ 153

@@ -6,7 +6,7 @@ use Rattle.calendar.proofs.time_of.Goals as goal
 
 pub day_number-days-requires : goal.day_number-days-requires
 day_number-days-requires c =
-    let whole = omega (arith, real-bounds c.args.d c.requires, month-max (leap c.args.d.year) c.args.d.month) in record { le_y = whole.0; y_bound = whole.1.0; le_m = whole.1.1.0; m_bound = whole.1.1.1.0; le_d = whole.1.1.1.1.0; d_bound = whole.1.1.1.1.1 }
+    record { le_y = omega (arith, real-bounds c.args.d c.requires, month-max (leap c.args.d.year) c.args.d.month); y_bound = omega (arith, real-bounds c.args.d c.requires, month-max (leap c.args.d.year) c.args.d.month); le_m = omega (arith, real-bounds c.args.d c.requires, month-max (leap c.args.d.year) c.args.d.month); m_bound = omega (arith, real-bounds c.args.d c.requires, month-max (leap c.args.d.year) c.args.d.month); le_d = omega (arith, real-bounds c.args.d c.requires, month-max (leap c.args.d.year) c.args.d.month); d_bound = omega (arith, real-bounds c.args.d c.requires, month-max (leap c.args.d.year) c.args.d.month) }
 
 pub overflow_add-result : goal.overflow_add-result
 overflow_add-result c =

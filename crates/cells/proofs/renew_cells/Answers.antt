@@ -28,7 +28,7 @@ overflow_mul-n c =
 pub renew_at-requires : goal.renew_at-requires
 renew_at-requires c =
     let z = c.args in
-    let p = places z.w z.out z.n (omega arith) in let whole = omega arith in record { moved_in_bounds = whole.0; s_len_bound = whole.1 }
+    let p = places z.w z.out z.n (omega arith) in record { moved_in_bounds = omega arith; s_len_bound = omega arith }
 
 pub returns : goal.returns
 returns c =

@@ -25,35 +25,35 @@ first_some c e =
     c.if1.false (c.before.key_in.ensures.0 ∙ ap key_in (sym (first-at z.marks.now z.k)) ∙ e)
 
 -- the word has none
-inactive : (c : tie.Else2) → let z = c.before.before.before.before.before.before.args in active z.own_val z.word ≡ false
+inactive : (c : tie.Else2) → let z = c.before.before.before.before.before.before.args in active z.own z.word ≡ false
 inactive c =
     let z = c.before.before.before.before.before.before.args in
-    key-zero z.own_val z.word c.before.key_of.ensures.0 c.if2.false
+    key-zero z.own z.word c.before.key_of.ensures.0 c.if2.false
 
 pub returns-then-key_in-eq0 : goal.returns-then-key_in-eq0
 returns-then-key_in-eq0 c =
     let z = c.args in
     let ms = eight_at z.marks.now z.k in
-    let x = first-at z.marks.now z.k in record { value = change-first z.own_val ms z.word (ap key_in x ∙ sym c.key_in.ensures.0 ∙ c.if-key_in-eq0.true); change_fits = tt }
+    let x = first-at z.marks.now z.k in record { value = change-first z.own ms z.word (ap key_in x ∙ sym c.key_in.ensures.0 ∙ c.if-key_in-eq0.true); change_fits = tt }
 
 pub returns-then-key-ne0 : goal.returns-then-key-ne0
 returns-then-key-ne0 c =
     let z = c.args in
     let ms = eight_at z.marks.now z.k in
-    let a = key-some z.own_val z.word c.key_of-key.ensures.0 c.if-key-ne0.true in let whole = fitting z.marks.now z.k z.own_val z.word c.requires.0
-    (c.raised.ensures ∙ ap (λ (n : ℕ). raised_for n ms) c.key_of-key.ensures.0 ∙ change-raised z.own_val ms z.word (first_some c) a) in record { value = whole.0; change_fits = whole.1 }
+    let a = key-some z.own z.word c.key_of-key.ensures.0 c.if-key-ne0.true in let whole = fitting z.marks.now z.k z.own z.word c.requires.0
+    (c.raised.ensures ∙ ap (λ (n : ℕ). raised_for n ms) c.key_of-key.ensures.0 ∙ change-raised z.own ms z.word (first_some c) a) in record { value = whole.0; change_fits = whole.1 }
 
 pub returns-then-code-eq0 : goal.returns-then-code-eq0
 returns-then-code-eq0 c =
     let z = c.args in
     let ms = eight_at z.marks.now z.k in
-    let e = sym c.code_of-code.ensures.0 ∙ c.if-code-eq0.true in record { value = change-codeless z.own_val ms z.word (first_some c) (inactive c) e; change_fits = tt }
+    let e = sym c.code_of-code.ensures.0 ∙ c.if-code-eq0.true in record { value = change-codeless z.own ms z.word (first_some c) (inactive c) e; change_fits = tt }
 
 pub returns-then-not-is_normal : goal.returns-then-not-is_normal
 returns-then-not-is_normal c =
     let z = c.args in
     let ms = eight_at z.marks.now z.k in
-    let o = sym c.is_normal.ensures ∙ c.if-not-is_normal.true in record { value = change-other z.own_val ms z.word (first_some c) (inactive c) o; change_fits = tt }
+    let o = sym c.is_normal.ensures ∙ c.if-not-is_normal.true in record { value = change-other z.own ms z.word (first_some c) (inactive c) o; change_fits = tt }
 
 pub returns : goal.returns
 returns c =
@@ -61,6 +61,6 @@ returns c =
     let ms = eight_at z.marks.now z.k in
     let o = sym c.is_normal.ensures ∙ c.if-not-is_normal.false in
     let code = c.code_of-code in
-    let d : code.result + 1 ≡ suc (code_field z.word) = omega (arith, code.ensures.0) in let whole = fitting z.marks.now z.k z.own_val z.word c.requires.0
+    let d : code.result + 1 ≡ suc (code_field z.word) = omega (arith, code.ensures.0) in let whole = fitting z.marks.now z.k z.own z.word c.requires.0
     (c.cleared.ensures ∙ ap (λ (m : ℕ). cleared_for m ms) d
-    ∙ change-cleared z.own_val ms z.word (first_some c) (inactive c) o (λ w. c.if-code-eq0.false (code.ensures.0 ∙ w))) in record { value = whole.0; change_fits = whole.1 }
+    ∙ change-cleared z.own ms z.word (first_some c) (inactive c) o (λ w. c.if-code-eq0.false (code.ensures.0 ∙ w))) in record { value = whole.0; change_fits = whole.1 }

@@ -10,7 +10,7 @@ use mathlib.Core.Path.{◌∙◌}
 use Rattle.entries.proofs.fill.Goals as goal
 
 -- what is known once row j is read
-reading : (c : tie.After-row-at invariant-loop decreases-loop) → let l = c.before.before in let s = l.before.before.before in let r = c.row_at.result in Reading s.args.own_val (table_rows s.args.st.now s.args.t s.args.w 8 s.args.k) s.args.marks.now s.args.s l.loop.marks l.loop.n l.loop.j r.number r.time r.packed
+reading : (c : tie.After-row-at invariant-loop decreases-loop) → let l = c.before.before in let s = l.before.before.before in let r = c.row_at.result in Reading s.args.own (table_rows s.args.st.now s.args.t s.args.w 8 s.args.k) s.args.marks.now s.args.s l.loop.marks l.loop.n l.loop.j r.number r.time r.packed
 reading c =
     let l = c.before.before in
     let s = l.before.before.before in

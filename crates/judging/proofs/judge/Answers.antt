@@ -11,7 +11,7 @@ use mathlib.Core.Path.{sym, ap, ◌∙◌}
 use Rattle.judging.proofs.judge.Goals as goal
 
 -- the rows that were filled, n of them used
-by : (c : tie.After-n) → let f = c.before.before.before in let s = f.before.before.before in FilledBy s.args.own_val (table_rows s.args.st.now s.args.t s.args.w 8 s.args.k) f.fill.new.1.1.1.1.1.0 c.n.given.0.0
+by : (c : tie.After-n) → let f = c.before.before.before in let s = f.before.before.before in FilledBy s.args.own (table_rows s.args.st.now s.args.t s.args.w 8 s.args.k) f.fill.new.1.1.1.1.1.0 c.n.given.0.0
 by c =
     let f = c.before.before.before in
     filled-by _ _ (rows-many _ _ _ 8 _) f.fill.ensures.0 f.fill.ensures.1 c.n.given.1

@@ -5,8 +5,8 @@ use Rattle.ranges.proofs.count_or.Goals as goal
 
 pub returns-then-count-eq0 : goal.returns-then-count-eq0
 returns-then-count-eq0 c =
-    (rw (eq-eqb _ _ c.if-count-eq0.taken), omega arith)
+    (rw (eq-eqb _ _ c.if-count-eq0.true), omega arith)
 
 pub returns-else-count-eq0 : goal.returns-else-count-eq0
 returns-else-count-eq0 c =
-    (rw (ne_eqb _ _ c.if-count-eq0.left), omega arith)
+    (rw (ne_eqb _ _ c.if-count-eq0.false), omega arith)

@@ -8,7 +8,7 @@ use mathlib.Core.Path.{sym, ap, ◌∙◌}
 use Rattle.stepping.proofs.takes_one.Goals as goal
 
 -- the rows that were filled
-by : (c : tie.After-enum-told) → let f = c.before.before.before in let s = f.before.before.before in FilledBy s.args.own_val (table_rows s.args.st.now s.args.t s.args.w 8 s.args.k) f.fill.new.1.1.1.1.1.0 c.enum_told.given.0.0
+by : (c : tie.After-enum-told) → let f = c.before.before.before in let s = f.before.before.before in FilledBy s.args.own (table_rows s.args.st.now s.args.t s.args.w 8 s.args.k) f.fill.new.1.1.1.1.1.0 c.enum_told.given.0.0
 by c =
     let f = c.before.before.before in
     filled-by _ _ (rows-many _ _ _ 8 _) f.fill.ensures.0 f.fill.ensures.1 c.enum_told.given.1
