@@ -14,12 +14,12 @@ loop-i-init c =
 pub returns-then-not-fits : goal.returns-then-not-fits
 returns-then-not-fits c =
     fitted-not c.loop-i.invariant (omega arith)
-    (sym c.fits2.ensures ∙ c.if-not-fits.true)
+    (sym c.fits.ensures ∙ c.if-not-fits.true)
 
 pub loop-i-preserved : goal.loop-i-preserved
 loop-i-preserved c =
     fitted-more c.loop-i.invariant (omega arith)
-    (sym c.fits2.ensures ∙ c.if-not-fits.false)
+    (sym c.fits.ensures ∙ c.if-not-fits.false)
 
 pub returns : goal.returns
 returns c =
