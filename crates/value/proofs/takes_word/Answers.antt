@@ -1,4 +1,5 @@
 -- Each category tells its own words apart.
+use Prim.Native.Nat.{◌<◌}
 use mathlib.Core.Path.{◌∙◌}
 use native.Mathlib.Omega.{arith}
 use borrow.Author.Tests.{lt-leb, eq-eqb, ne_eqb}
@@ -16,7 +17,8 @@ returns-else-kind-category c =
 
 pub returns-then-word-eq0 : goal.returns-then-word-eq0
 returns-then-word-eq0 c =
-    eq-eqb _ _ c.if-word-eq0.true ∙ none-taken _ _ (omega arith) c.if-word-eq0.true
+    let h : c.args.category < 3 = omega arith in
+    eq-eqb _ _ c.if-word-eq0.true ∙ none-taken _ _ h c.if-word-eq0.true
 
 pub returns-then-front-ge768 : goal.returns-then-front-ge768
 returns-then-front-ge768 c =
