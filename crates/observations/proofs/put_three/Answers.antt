@@ -5,7 +5,7 @@ use Rattle.observations.proofs.put_three.Goals as goal
 
 pub shape_of-st : goal.shape_of-st
 shape_of-st c =
-    simp length-set at c.put_two.auto.0
+    simp length-set at c.put_two.auto.st
 
 pub returns : goal.returns
 unfolding put
