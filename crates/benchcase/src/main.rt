@@ -2,7 +2,10 @@
 // on a line.
 #![tactic(auto)]
 
-ghost use Rattle.std.specs.Prelude.{◌≤◌, length};
+ghost use Rattle.std.specs.Prelude.{◌≤◌, length, IfOk};
+
+use std::io;
+use std::io::Read;
 
 // The next byte of the line, or its end.
 #[derive(Clone, Copy)]
@@ -11,81 +14,83 @@ enum Next {
     End,
 }
 
-// One byte of standard input; a line feed ends the line as the end of the input does.
-fn next_byte() -> Next {
+// One byte of the input; a line feed ends the line as the end of the input does.
+fn next_byte<R: Read>(input: &mut R) -> io::Result<Next> {
     let mut one = [0u8; 1];
-    let got = io::read_full(0, &mut one);
+    let got = input.read(&mut one)?;
     if got == 0 {
-        return Next::End;
+        return Ok(Next::End);
     }
     if one[0] == b'\n' {
-        return Next::End;
+        return Ok(Next::End);
     }
-    Next::Byte(one[0])
+    Ok(Next::Byte(one[0]))
 }
 
 // The line up to its end, or as much of it as there is room for.
-fn read_line(line: &mut [u8]) -> usize
-    ensures { result ≤ length line.new }
+fn read_line<R: Read>(input: &mut R, line: &mut [u8]) -> io::Result<usize>
+    ensures { IfOk result (λ r. r ≤ length line.new) }
 {
     let mut n = 0;
     while n < line.len() {
-        let next = next_byte();
+        let next = next_byte(input)?;
         let Next::Byte(b) = next else {
-            return n;
+            return Ok(n);
         };
         line[n] = b;
         n += 1;
     }
-    n
+    Ok(n)
 }
 
-fn space() {
-    io::write_all(1, b" ");
+fn space(rt: &impl Print) -> io::Result<()> {
+    print!(rt; " ")
 }
 
-fn line_feed() {
-    io::write_all(1, b"\n");
+fn line_feed(rt: &impl Print) -> io::Result<()> {
+    println!(rt; "")
 }
 
 // The first n words on a line.
-fn print_words(words: &[u64; 64], n: usize)
+fn print_words(rt: &impl Print, words: &[u64; 64], n: usize) -> io::Result<()>
     requires { n ≤ 64 }
 {
     let mut i = 0;
     while i < n {
         if 0 < i {
-            space();
+            space(rt)?;
         }
-        io::print_decimal(1, words[i]);
+        let word = words[i];
+        print!(rt; "{word}")?;
         i += 1;
     }
-    line_feed();
+    line_feed(rt)
 }
 
 // The answer's number and k on a line.
-fn print_answer(number: u64, k: u64) {
-    io::print_decimal(1, number);
-    space();
-    io::print_decimal(1, k);
-    line_feed();
+fn print_answer(rt: &impl Print, number: u64, k: u64) -> io::Result<()> {
+    print!(rt; "{number}")?;
+    space(rt)?;
+    print!(rt; "{k}")?;
+    line_feed(rt)
 }
 
 // Asks the bench case, and prints the answer and the reply.
-fn answer(text: &[u8]) {
+fn answer(rt: &impl Print, text: &[u8]) -> io::Result<()> {
     let mut reply = [0u64; 64];
     let answer = bench::ask(text, &mut reply);
     print_answer(
+        rt,
         answers::answer_number(answer),
         answers::answer_count(answer),
-    );
+    )?;
     let n = bench::word_count(answer, &reply);
-    print_words(&reply, n);
+    print_words(rt, &reply, n)
 }
 
-fn main() {
+fn main(rt: HostRuntime) -> io::Result<()> {
     // one byte more than a request may have, so that a longer line is noticed
     let mut line = [0u8; 257];
-    let n = read_line(&mut line);
-    answer(&line[..n]);
+    let n = read_line(&mut rt.reader(), &mut line)?;
+    answer(&rt, &line[..n])
 }
