@@ -13,13 +13,13 @@ use Rattle.spec.specs.Words.{every}
 use Rattle.spec.specs.Bytes.{name_byte}
 use Rattle.spec.specs.Model.{name_bytes, max_names, name_count, name_cell, cell_ok, names_ok}
 use Rattle.spec.proofs.Words.{and_right, and_both, not_so, every-at, every_of}
-use Rattle.spec.proofs.Bytes.{among, table, inside, name_runs, name-at}
+use Rattle.spec.proofs.Bytes.{among, inside, name_runs, name-at}
 use Rattle.spec.proofs.Model.{Names, names_of}
 use Rattle.scan.proofs.Classes.{Returns, returns-by}
 use Rattle.names.specs.Cells.{cell_byte, cell_bytes, follows, zeros_last}
 use Rattle.names.proofs.CellLaws.{name-in-cell, rest-name, names-bytes}
 use Rattle.names.proofs.CellLaws.{cell-is, cell-length, cell-byte-at, bytes-in-cell}
-use Rattle.names.proofs.cell_byte.Symbol.{routine as cell-code}
+use Rattle.names.proofs.cell_byte.Symbol.{code as cell-code, name as cell-name}
 use Rattle.names.proofs.cell_byte.Met as cell
 
 -- ---- the test of a byte
@@ -33,8 +33,8 @@ unfolding cell_byte name_byte
 cell-class zero = refl
 cell-class (suc x) = rw (eqb-suc-zero x, or-false) (name-at (suc x))
 
-pub classes : {M : Type 1} → Returns M cell-code (among cell_runs)
-classes = returns-by cell-code cell-class cell.met
+pub classes : {M : Type 1} → Returns M cell-code cell-name (among cell_runs)
+classes = returns-by cell-code cell-name cell-class cell.met
 
 -- ---- a byte of the names
 

@@ -1,6 +1,5 @@
 use Rattle.names.proofs.CellLaws.{bytes-start}
 use Rattle.spec.proofs.Words.{told, every-no, every-yes, every-end}
-use Rattle.names.specs.Cells.{cell_byte}
 use native.Mathlib.Omega.{arith}
 use Rattle.names.proofs.few_ok.Goals as goal
 

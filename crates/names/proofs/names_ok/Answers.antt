@@ -1,7 +1,6 @@
-use mathlib.Core.Bool.{true, false≢true}
+use mathlib.Core.Bool.{false≢true}
 use Rattle.names.proofs.CellLaws.{cells_fit, cell_at, names-bytes}
 use Rattle.names.proofs.Laws.{no_names, names-start}
-use Rattle.names.specs.Cells.{cell_bytes}
 use Rattle.spec.proofs.Words.{every-no, every-yes, every-end}
 use native.Mathlib.Omega.{arith}
 use lib.ListN.{length}

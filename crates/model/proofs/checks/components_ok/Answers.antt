@@ -1,5 +1,4 @@
 use Rattle.model.proofs.Laws.{components-start, component-at}
-use Rattle.spec.specs.Model.{component_word, component_ok}
 use Rattle.spec.proofs.Words.{every-no, every-yes, every-end}
 use native.Mathlib.Omega.{arith}
 use Rattle.model.proofs.checks.components_ok.Goals as goal

@@ -1,5 +1,4 @@
 use Rattle.model.proofs.Laws.{items-start, item-at, items-no, items-end, change-more}
-use Rattle.spec.specs.Model.{item_ok}
 use Rattle.spec.specs.Words.{count_below}
 use Rattle.spec.proofs.Words.{every-no, every-yes, every-end}
 use native.Mathlib.Omega.{arith}
