@@ -1,6 +1,6 @@
 -- Each way out is one way through the definition; a mark of the eight is one of the store.
 use native.Mathlib.Omega.{arith}
-use Prim.Native.Nat.{ℕ, ◌+◌}
+use Prim.Native.Nat.{ℕ, ◌+◌, ◌≤◌}
 use mathlib.Core.Path.{◌≡◌, sym, ◌∙◌}
 use mathlib.Core.List.{List}
 use lib.ListN.{get_or}
@@ -10,40 +10,38 @@ use Rattle.marks.proofs.Laws.{eight-at}
 use Rattle.changes.proofs.Laws.{cleared-none, cleared-unused, cleared-last, cleared-out}
 use Rattle.changes.proofs.cleared.Goals as goal
 
--- the eight marks
-abbrev eight : tie.After-find → List ℕ
-eight f = let z = f.before.before.args in eight_at z.marks.now z.k
-
--- the one at the place
-mark-at : (c : tie.Else1) → let f = c.before in let z = f.before.before.args in get_or (eight f) f.find.result 0 ≡ get_or z.marks.now (z.k + f.find.result) 0
-mark-at c =
-    let f = c.before in
-    let z = f.before.before.args in
-    eight-at z.marks.now z.k f.find.result 0 (lt_of_le-ne f.find.ensures.1 c.if1.false)
-
--- it is used
-used : (c : tie.Else2) → let f = c.before.before.before in get_or (eight f) f.find.result 0 ≡ 0 → ⊥
-used c e = c.if2.false (sym (mark-at c.before.before) ∙ e)
+-- the mark at the place, which is one of the eight
+mark-at : (l : List ℕ) (k : ℕ) {j : ℕ} → j ≤ 8 → (j ≡ 8 → ⊥) → get_or (eight_at l k) j 0 ≡ get_or l (k + j) 0
+mark-at l k {j} h n = eight-at l k j 0 (lt_of_le-ne h n)
 
 -- the second one
-second : (f : tie.After-find) → let z = f.before.before.args in get_or (eight f) 1 0 ≡ get_or z.marks.now (z.k + 1) 0
-second f = let z = f.before.before.args in eight-at z.marks.now z.k 1 0 (omega arith)
+second : (l : List ℕ) (k : ℕ) → get_or (eight_at l k) 1 0 ≡ get_or l (k + 1) 0
+second l k = eight-at l k 1 0 (omega arith)
 
 pub returns-then-j-eq-ENTRIES : goal.returns-then-j-eq-ENTRIES
 returns-then-j-eq-ENTRIES c =
-    cleared-none c.args.key (eight c) c.find-j.ensures.0 c.if-j-eq-ENTRIES.true
+    let z = c.args in
+    cleared-none z.key (eight_at z.marks.now z.k) c.find-j.ensures.0 c.if-j-eq-ENTRIES.true
 
 pub returns-then-marks-k-eq0 : goal.returns-then-marks-k-eq0
 returns-then-marks-k-eq0 c =
-    let key = c.args.key in
-    cleared-unused key (eight c) c.find-j.ensures.0 c.if-j-eq-ENTRIES.false (mark-at c ∙ c.if-marks-k-eq0.true)
+    let z = c.args in
+    let m = mark-at z.marks.now z.k c.find-j.ensures.1 c.if-j-eq-ENTRIES.false in
+    cleared-unused z.key (eight_at z.marks.now z.k) c.find-j.ensures.0 c.if-j-eq-ENTRIES.false
+    (m ∙ c.if-marks-k-eq0.true)
 
 pub returns-then-marks-k-eq0-2 : goal.returns-then-marks-k-eq0-2
 returns-then-marks-k-eq0-2 c =
-    let key = c.args.key in
-    cleared-last key (eight c) c.find-j.ensures.0 c.if-j-eq-ENTRIES.false (used c) (second c ∙ c.if-marks-k-eq0-2.true)
+    let z = c.args in
+    let m = mark-at z.marks.now z.k c.find-j.ensures.1 c.if-j-eq-ENTRIES.false in
+    cleared-last z.key (eight_at z.marks.now z.k) c.find-j.ensures.0 c.if-j-eq-ENTRIES.false
+    (λ e. c.if-marks-k-eq0.false (sym m ∙ e))
+    (second z.marks.now z.k ∙ c.if-marks-k-eq0-2.true)
 
 pub returns : goal.returns
 returns c =
-    let key = c.args.key in
-    cleared-out key (eight c) c.find-j.ensures.0 c.if-j-eq-ENTRIES.false (used c) (λ e. c.if-marks-k-eq0-2.false (sym (second c) ∙ e))
+    let z = c.args in
+    let m = mark-at z.marks.now z.k c.find-j.ensures.1 c.if-j-eq-ENTRIES.false in
+    cleared-out z.key (eight_at z.marks.now z.k) c.find-j.ensures.0 c.if-j-eq-ENTRIES.false
+    (λ e. c.if-marks-k-eq0.false (sym m ∙ e))
+    (λ e. c.if-marks-k-eq0-2.false (sym (second z.marks.now z.k) ∙ e))
