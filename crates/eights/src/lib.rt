@@ -62,11 +62,9 @@ pub fn apply(words: &mut [u64], k: usize, change: Change, x: u64)
 pub fn raise(marks: &mut [u64], k: usize, key: u64, x: u64) -> bool
     requires { k + 8 ≤ length marks.old }
     ensures value { result ≡ not (is_full (raised_for key (eight_at marks.old k))) }
-    ensures* fact { λ r. ⌜
-        (r ≡ true →
+    ensures fact { result ≡ true →
         let ms = eight_at marks.old k in
-        marks.new ≡ sets marks.old k (changed 0 (raised_for key ms) x ms))
-        ⌝ }
+        marks.new ≡ sets marks.old k (changed 0 (raised_for key ms) x ms) }
 {
     let j = marks::find(marks, k, key);
     if j == spec::ENTRIES {

@@ -1,24 +1,20 @@
 -- One word written, or a run of eight; where nothing changes, the eight that stand are written over themselves.
 use native.Mathlib.Omega.{arith}
-use Prim.Native.Nat.{◌<◌}
 use mathlib.Core.Path.{sym}
 use Rattle.marks.proofs.Laws.{put_is, sets_same}
 use Rattle.eights.proofs.apply.Goals as goal
 
-place-fits : (c : tie.After-known-told) → c.before.change.given.0.0 < 8
-place-fits c = rw c.before.change.given.1 at c.before.before.before.before.requires.1
-
 pub overflow_add-words : goal.overflow_add-words
 overflow_add-words c =
-    let f = place-fits c in omega arith
+    let f = rw c.in-Put.is at c.requires.1 in omega arith
 
 pub offset_bounds-words-k : goal.offset_bounds-words-k
 offset_bounds-words-k c =
-    let f = place-fits c in omega arith
+    let f = rw c.in-Put.is at c.requires.1 in omega arith
 
 pub bounds-words-k : goal.bounds-words-k
 bounds-words-k c =
-    let f = place-fits c in omega arith
+    let f = rw c.in-Put.is at c.requires.1 in omega arith
 
 pub take_out-requires : goal.take_out-requires
 take_out-requires c =
@@ -28,7 +24,7 @@ pub returns-in-Put : goal.returns-in-Put
 returns-in-Put c =
     let z = c.args in
     let j = c.in-Put.j in
-    rw c.in-Put.is (put_is z.words.now z.k j z.x c.requires.0 (place-fits c))
+    rw c.in-Put.is (put_is z.words.now z.k j z.x c.requires.0 (rw c.in-Put.is at c.requires.1))
 
 pub returns-in-Alone : goal.returns-in-Alone
 returns-in-Alone c =
