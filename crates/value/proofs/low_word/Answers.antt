@@ -26,9 +26,13 @@ overflow_cast-result-else-x-lt0 c =
 
 pub returns-then-x-lt0 : goal.returns-then-x-lt0
 returns-then-x-lt0 c =
-    let f = c.ranges.x in record { value = rw (coded f c.if-x-lt0.true, to_z-of_z (pos-fits f)) (refl); upper_bound = rw (coded f c.if-x-lt0.true, to_z-of_z (pos-fits f)) (low_fits _ f) }
+    let f = c.ranges.x in record {
+      value = rw (coded f c.if-x-lt0.true, to_z-of_z (pos-fits f)) refl;
+      upper_bound = rw (coded f c.if-x-lt0.true, to_z-of_z (pos-fits f)) (low_fits _ f);
+    }
 
 pub returns-else-x-lt0 : goal.returns-else-x-lt0
 returns-else-x-lt0 c =
     let f = c.ranges.x in
-    let e = low-pos _ f (rw (back f) at c.if-x-lt0.false) in record { value = rw (back f, e) (ap low_word e); upper_bound = rw (back f, e) (low_fits _ f) }
+    let e = low-pos _ f (rw (back f) at c.if-x-lt0.false) in
+    record { value = rw (back f, e) (ap low_word e); upper_bound = rw (back f, e) (low_fits _ f) }

@@ -11,7 +11,8 @@ overflow_sub-result c =
 
 pub overflow_cast-result-else-low-lt2147483648-2 : goal.overflow_cast-result-else-low-lt2147483648-2
 overflow_cast-result-else-low-lt2147483648-2 c =
-    rw (lessened _ c.if-low-lt2147483648.false c.requires, to_z-of_z (sample-wide _ c.if-low-lt2147483648.false c.requires))
+    let wide = sample-wide _ c.if-low-lt2147483648.false c.requires in
+    rw (lessened _ c.if-low-lt2147483648.false c.requires, to_z-of_z wide)
     (sample-fits _ c.if-low-lt2147483648.false c.requires)
 
 pub returns-then-low-lt2147483648 : goal.returns-then-low-lt2147483648
@@ -20,5 +21,6 @@ returns-then-low-lt2147483648 c =
 
 pub returns-else-low-lt2147483648 : goal.returns-else-low-lt2147483648
 returns-else-low-lt2147483648 c =
-    rw (lessened _ c.if-low-lt2147483648.false c.requires, to_z-of_z (sample-wide _ c.if-low-lt2147483648.false c.requires))
+    let wide = sample-wide _ c.if-low-lt2147483648.false c.requires in
+    rw (lessened _ c.if-low-lt2147483648.false c.requires, to_z-of_z wide)
     (to_z-of_z (sample-fits _ c.if-low-lt2147483648.false c.requires))

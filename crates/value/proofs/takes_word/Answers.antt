@@ -39,4 +39,5 @@ returns-else-kind-eq2 c =
 
 pub returns-else-category-eq-DISCRETE : goal.returns-else-category-eq-DISCRETE
 returns-else-category-eq-DISCRETE c =
-    ne_eqb _ _ c.if-category-eq-DISCRETE.false ∙ other _ _ c.if-category-lt2.false c.if-category-eq-CONDITION.false c.if-category-eq-DISCRETE.false
+    ne_eqb _ _ c.if-category-eq-DISCRETE.false
+    ∙ other _ _ c.if-category-lt2.false c.if-category-eq-CONDITION.false c.if-category-eq-DISCRETE.false
