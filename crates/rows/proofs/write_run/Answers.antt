@@ -1,9 +1,9 @@
-use mathlib.Core.Logic.{⊎_elim}
 use mathlib.Core.Path.{◌∙◌}
 use native.Mathlib.Omega.{arith}
 use Rattle.rows.proofs.Laws.{sampling-start, sampling-item, sampling-room}
 use Rattle.rows.proofs.Laws.{sampling-more, sampling-skip, sampling-end}
 use Rattle.rows.proofs.write_run.Goals as goal
+use Rattle.rows.proofs.write_run.Goals.{then-bit_of-eq1, else-bit_of-eq1}
 
 pub loop-s-init : goal.loop-s-init
 loop-s-init c =
@@ -63,10 +63,16 @@ pub loop-s-preserved : goal.loop-s-preserved
 loop-s-preserved c =
     let v = c.loop-s.invariant in
     let h = c.loop-s-test.true in
-    ⊎_elim
-    (λ w. rw (w.7, w.8) (sampling-more v h c.ring_size-n.ensures.is c.ring_word-w.ensures c.item_of.ensures c.bit_of.ensures w.0.taken w.1.ensures (w.6 ∙ w.3.ensures)))
-    (λ w. rw (w.1, w.2, w.3) (sampling-skip v h c.ring_size-n.ensures.is c.ring_word-w.ensures c.item_of.ensures c.bit_of.ensures w.0.left))
-    c.if-bit_of-eq1.branch
+    elim c.if-bit_of-eq1.branch [
+      | then-bit_of-eq1 w ↦
+          rw (w.c-is, w.a-is)
+          (sampling-more v h c.ring_size-n.ensures.is c.ring_word-w.ensures c.item_of.ensures c.bit_of.ensures
+          w.if-bit_of-eq1.true w.ring_time-time.ensures (w.out-is ∙ w.write_row.ensures))
+      | else-bit_of-eq1 w ↦
+          rw (w.out-is, w.c-is, w.a-is)
+          (sampling-skip v h c.ring_size-n.ensures.is c.ring_word-w.ensures c.item_of.ensures c.bit_of.ensures
+          w.if-bit_of-eq1.false)
+    ]
 
 pub shape_of-out : goal.shape_of-out
 shape_of-out c =
@@ -74,4 +80,5 @@ shape_of-out c =
 
 pub returns : goal.returns
 returns c =
-    let whole = sampling-end c.loop-s.invariant c.loop-s-test.false in record { value = whole.0; out_after = whole.1 }
+    let whole = sampling-end c.loop-s.invariant c.loop-s-test.false in
+    record { value = whole.0; out_after = whole.1 }
