@@ -240,5 +240,5 @@ module _ (own : ℕ) (rs : List (List ℕ)) where
       (λ f. let z : ◌≡◌ {A = ℕ} 0 1 = cc (rw f at e) in absurd (omega arith))
 
   -- then nothing is asked of the marks
-  pub broken : {A : Type 0} → Broken ≡ filled own rs → (Broken ≡ filled own rs) × (form_ok own 0 rs ≡ true → A)
-  broken e = (e, λ t. absurd (true≢false (sym t ∙ filled-broken e)))
+  pub broken : {A : Type 0} → Broken ≡ filled own rs → form_ok own 0 rs ≡ true → A
+  broken e t = absurd (true≢false (sym t ∙ filled-broken e))
