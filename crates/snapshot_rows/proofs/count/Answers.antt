@@ -1,8 +1,8 @@
 use Rattle.snapshot_rows.proofs.Laws.{counting-start, counting_more, counting-skip, counting-end}
-use mathlib.Core.Logic.{⊎_elim}
 use Rattle.spec.proofs.Words.{told}
 use native.Mathlib.Omega.{arith}
 use Rattle.snapshot_rows.proofs.count.Goals as goal
+use Rattle.snapshot_rows.proofs.count.Goals.{then-has, else-has}
 
 pub loop-i-init : goal.loop-i-init
 loop-i-init c =
@@ -16,10 +16,10 @@ pub loop-i-preserved : goal.loop-i-preserved
 loop-i-preserved c =
     let v = c.loop-i.invariant in
     let h = c.loop-i-test.true in
-    ⊎_elim
-    (λ w. rw w.2 (counting_more v h (told c.has.ensures w.0.taken) w.1.ensures))
-    (λ w. rw w.1 (counting-skip v h (told c.has.ensures w.0.left)))
-    c.if-has.branch
+    elim c.if-has.branch [
+      | then-has w ↦ rw w.k-is (counting_more v h (told c.has.ensures w.if-has.true) w.count_item-k.ensures)
+      | else-has w ↦ rw w.k-is (counting-skip v h (told c.has.ensures w.if-has.false))
+    ]
 
 pub returns : goal.returns
 returns c =

@@ -1,9 +1,9 @@
 use Rattle.rows.proofs.Flat.{flat_start, flat-room, flat-more, flat-skip, flat-end}
 use Rattle.snapshot_rows.specs.Held.{held_by}
-use mathlib.Core.Logic.{⊎_elim}
 use Rattle.spec.proofs.Words.{told}
 use native.Mathlib.Omega.{arith}
 use Rattle.snapshot_rows.proofs.write_held.Goals as goal
+use Rattle.snapshot_rows.proofs.write_held.Goals.{then-has, else-has}
 
 pub loop-i-init : goal.loop-i-init
 unfolding held_by
@@ -14,16 +14,24 @@ pub write_item-c-requires : goal.write_item-c-requires
 write_item-c-requires c =
     let v = c.loop-i.invariant in
     let h = c.loop-i-test.true in
-    let fits = flat-room v h (told c.has.ensures c.if-has.true) in record { head = c.requires.head; m_le_max_items = (c.requires.m_le_max_items.0, (h, c.requires.m_le_max_items.1)); st_bound = c.requires.st_bound; i_bound = (fits, omega (arith, v.len)) }
+    let fits = flat-room v h (told c.has.ensures c.if-has.true) in
+    record {
+      head = c.requires.head;
+      m_le_max_items = (c.requires.m_le_max_items.0, (h, c.requires.m_le_max_items.1));
+      st_bound = c.requires.st_bound;
+      i_bound = (fits, omega (arith, v.len));
+    }
 
 pub loop-i-preserved : goal.loop-i-preserved
 loop-i-preserved c =
     let v = c.loop-i.invariant in
     let h = c.loop-i-test.true in
-    ⊎_elim
-    (λ w. rw (w.5, w.6, w.2.ensures.0) (flat-more v h (told c.has.ensures w.0.taken) w.2.ensures.1))
-    (λ w. rw (w.1, w.2) (flat-skip v h (told c.has.ensures w.0.left)))
-    c.if-has.branch
+    elim c.if-has.branch [
+      | then-has w ↦
+          rw (w.out-is, w.c-is, w.write_item-c.ensures.value)
+          (flat-more v h (told c.has.ensures w.if-has.true) w.write_item-c.ensures.out_after)
+      | else-has w ↦ rw (w.out-is, w.c-is) (flat-skip v h (told c.has.ensures w.if-has.false))
+    ]
 
 pub shape_of-out : goal.shape_of-out
 shape_of-out c =
