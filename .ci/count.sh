@@ -2,6 +2,10 @@
 # What the gate counts and measures, and how it reads the checker's logs: functions for .ci/run, bench/run and the
 # scripts in tests, in POSIX sh. All but those that are given a file want the repository's top as the working folder.
 
+# where rt leaves the archive of the C interface, and the program of the bench case
+archive_made=crates/mtcore/out/libmtcore.a
+program_made=crates/benchcase/out/benchcase
+
 # the number of a bound in .ci/bounds; fails where there isn't exactly one
 bound() { # least|most NAME
     LC_ALL=C awk -v side="$1" -v name="$2" '
@@ -27,7 +31,7 @@ few() { # NAME FOUND
 
 # ---- what stands in the repository
 
-crates_listed() { sed -n 's/^\([a-z0-9_]*\):.*/\1/p' crates.txt; }
+crates_listed() { sed -n 's/^\([a-z0-9_]*\)\( staticlib\)\{0,1\}:.*/\1/p' crates.txt; }
 
 edits_of() { # CRATE
     for edit in "crates/$1/must-fail"/*.edit; do [ ! -f "$edit" ] || echo "$edit"; done
@@ -93,7 +97,7 @@ long_lines() {
 
 crates_shipped() {
     LC_ALL=C awk '
-        /^[a-z0-9_]+:/ { crate = $1; sub(/:$/, "", crate); needs[crate] = $0; sub(/^[^:]*:/, "", needs[crate]) }
+        /^[a-z0-9_]+( staticlib)?:/ { crate = $1; sub(/:$/, "", crate); needs[crate] = $0; sub(/^[^:]*:/, "", needs[crate]) }
         END {
             ships["mtcore"]
             do {
@@ -179,27 +183,24 @@ archive_bytes() { # ARCHIVE
 
 # ---- what the checker says
 
-# from the output of rt: crates proved, and programs that ran
-crates_proved() { grep -a -c '^rt: [a-z0-9_]* proved (' "$1"; }
-programs_ran() { grep -a -c "^rt: [a-z0-9_]* ran.*, and wrote what its file 'stdout' has" "$1"; }
+# from the output of rt ci: crates proved, now or by an earlier run of the same files, and programs that ran
+crates_proved() { grep -a -c -e '^rt: [a-z0-9_]* proved$' -e '^rt: [a-z0-9_]* is kept: ' "$1"; }
+programs_ran() { sed -n "s/^rt: \([a-z0-9_]*\) ran.*, and wrote what its file stdout has$/\1/p" "$1" | sort -u | grep -c .; }
 
-# The first refusal in a checker's log that isn't the mere consequence of another: an error, or a promise without a
-# proof. Only its own line; what explains it follows in the log.
-first_refusal() { # LOG
-    LC_ALL=C awk '
-        /: error/ && !/ was not admitted \(it has holes / { print; exit }
-        /^note: [^ ]*:[0-9]+:[0-9]+: it is not proved that / { print; exit }
-    ' "$1"
+# rt ci passes over edits that it can't apply or read, and says on its line 'rt: ok' how many there were
+all_well() { # LOG
+    grep -a '^rt: ok' "$1" | grep -a -v -q ', [0-9][0-9]* bad'
 }
 
-# Whether a log refuses its edit at a fact that no longer holds. Such a refusal is either a promise of the code that
-# no proof was found for, or an error in a proof file that says of what was to be proved that it isn't so: two sides
-# that differ, a search or an equation that finds nothing. All else is red, as an edit with an unknown name, one that
-# is no term or has another type, and one that changes the steps which the proof file is about.
-false_fact() { # LOG
-    [ -f "$1" ] && first_refusal "$1" | LC_ALL=C awk '
-        /^note: [^ ]*\/src\/[^ ]*\.rt:[0-9]+:[0-9]+: it is not proved that / { fact = 1 }
-        /\/must-fail\/[^ \/]+\/[^ \/]+\/proofs\/[^ ]*\.antt:[0-9]+:[0-9]+: error: `[^`]*`: / {
+# Whether rt's words of an edit refuse it at a fact that no longer holds. Such a refusal is either a promise of the code
+# that no proof was found for, or an error in a proof file that says of what was to be proved that it isn't so: two
+# sides that differ, a search or an equation that finds nothing. All else is red, as an edit with an unknown name, one
+# that is no term or has another type, and one that changes the steps which the proof file is about.
+false_fact() { # WORDS
+    printf '%s\n' "$1" | LC_ALL=C awk '
+        !sub(/^refused, as it must be: /, "") { exit }
+        /^note: [^ ]*src\/[^ ]*\.rt:[0-9]+:[0-9]+: it is not proved that / { fact = 1 }
+        /^\.\/proofs\/[^ ]*\.antt:[0-9]+:[0-9]+: error: `[^`]*`: / {
             said = $0
             sub(/^.*: error: `[^`]*`: /, "", said)
             if (said ~ /^(as printed|computed as far as they go), the two (types|sides) /) fact = 1
@@ -215,15 +216,15 @@ false_fact() { # LOG
     '
 }
 
-# the edits that rt refused when it last ran, a line each: 'fact CRATE/LABEL', or 'other CRATE/LABEL' and the first
-# refusal
-edits_refused() {
+# the edits that rt ci refused, a line each: 'fact CRATE/LABEL', or 'other CRATE/LABEL' and its words
+edits_refused() { # LOG
     edits_listed | sed 's|^crates/||; s|/must-fail/|/|; s|\.edit$||' | while read -r edit; do
-        [ "$(cat "target/must-fail/$edit.res" 2>/dev/null)" = refused ] || continue
-        if false_fact "target/must-fail/$edit/.log"; then
+        words=$(sed -n "s|^rt: must-fail $edit\.edit: ||p" "$1" | tail -n 1)
+        case $words in "refused, as it must be"*) ;; *) continue ;; esac
+        if false_fact "$words"; then
             echo "fact $edit"
         else
-            echo "other $edit $(first_refusal "target/must-fail/$edit/.log" | cut -c 1-300)"
+            echo "other $edit $words"
         fi
     done
 }

@@ -1,12 +1,12 @@
 //! Links the archive of the proved core, `libmtcore.a`.
 //!
 //! It is looked for in the folder that MTCORE_ARCHIVE names, and failing that in the repository's
-//! target/staticlib, where `rt staticlib mtcore` writes it.
+//! crates/mtcore/out, where `rt lib` in crates/mtcore writes it.
 
 use std::env;
 use std::path::PathBuf;
 
-const IN_REPOSITORY: &str = "../../target/staticlib";
+const IN_REPOSITORY: &str = "../../crates/mtcore/out";
 
 fn main() {
     println!("cargo:rerun-if-env-changed=MTCORE_ARCHIVE");
@@ -21,7 +21,7 @@ fn main() {
     println!("cargo:rerun-if-changed={}", archive.display());
     if !archive.exists() {
         // Checking and documenting need no archive; only linking does.
-        println!("cargo:warning=libmtcore.a not found: run `rt staticlib mtcore`, or set MTCORE_ARCHIVE");
+        println!("cargo:warning=libmtcore.a not found: run `rt lib` in crates/mtcore, or set MTCORE_ARCHIVE");
     }
     println!("cargo:rustc-link-search=native={}", folder.display());
     println!("cargo:rustc-link-lib=static=mtcore");

@@ -11,7 +11,7 @@
 //! Build the core's archive in the repository, once for each version; this proves the core first:
 //!
 //! ```text
-//! rt staticlib mtcore          writes target/staticlib/libmtcore.a
+//! rt staticlib mtcore          writes crates/mtcore/out/libmtcore.a
 //! ```
 //!
 //! Take the crate by its path:
@@ -21,7 +21,7 @@
 //! mtcore = { path = "../feluniavor/rust/mtcore" }
 //! ```
 //!
-//! Its build script links the archive from the repository's `target/staticlib`. Where it stands
+//! Its build script links the archive from the repository's `crates/mtcore/out`. Where it stands
 //! elsewhere, the environment variable `MTCORE_ARCHIVE` names its folder, by its whole path:
 //!
 //! ```text

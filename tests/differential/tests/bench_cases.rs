@@ -77,7 +77,7 @@ mod program {
     fn path() -> PathBuf {
         std::env::var_os("BENCHCASE")
             .map(PathBuf::from)
-            .unwrap_or_else(|| [env!("CARGO_MANIFEST_DIR"), "../../target/bin/benchcase"].iter().collect())
+            .unwrap_or_else(|| [env!("CARGO_MANIFEST_DIR"), "../../crates/benchcase/out/benchcase"].iter().collect())
     }
 
     fn run(input: &[u8]) -> String {
