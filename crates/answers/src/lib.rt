@@ -3,7 +3,8 @@
 
 ghost use Rattle.std.specs.Prelude.{◌≡◌, ◌<◌};
 ghost use Rattle.answers.specs.Places.{number_at};
-ghost use Rattle.spec.specs.Answers.{refusal_number, refusal_word, answer_number, answer_count, observe_word, store_word};
+ghost use Rattle.spec.specs.Answers.{refusal_number, refusal_word, answer_number, answer_count};
+ghost use Rattle.spec.specs.Answers.{observe_word, store_word};
 
 use spec::{Answer, ObserveAnswer, Refusal, StoreAnswer};
 

@@ -107,7 +107,8 @@ fn write_firsts(st: &[u64], m: u64, selection: u64, k: u64, out: &mut [u64])
 fn write_each(model: &[u32], st: &[u64], selection: u64, k: u64, out: &mut [u64])
     requires sizes { Sizes model.now }
     requires head { Head (items model.now) st.now }
-    requires k_value { k ≡ length (current_rows (category model.now) (ring_size st.now) (items model.now) st.now selection) }
+    requires k_value { k ≡ length
+        (current_rows (category model.now) (ring_size st.now) (items model.now) st.now selection) }
     requires k_in_bounds { 3 * k ≤ length out.old }
     ensures { let cat = category model.now in
         let m = items model.now in
@@ -140,7 +141,8 @@ pub fn write_latest(model: &[u32], st: &[u64], selection: u64, k: u64, out: &mut
     requires fact { let cat = category model.now in
         let m = items model.now in
         (selection < 2 ^ m) × (current_ok cat (ring_size st.now) m st.now selection ≡ true) }
-    requires k_value { k ≡ length (current_rows (category model.now) (ring_size st.now) (items model.now) st.now selection) }
+    requires k_value { k ≡ length
+        (current_rows (category model.now) (ring_size st.now) (items model.now) st.now selection) }
     requires k_in_bounds { 3 * k ≤ length out.old }
     ensures { let cat = category model.now in
         let m = items model.now in
