@@ -7,7 +7,10 @@ use Rattle.assets.proofs.body_place.Goals as goal
 
 pub returns-then-not-head_ok : goal.returns-then-not-head_ok
 returns-then-not-head_ok c =
-    record { value = no_place_lem _ _ (λ h l g. false≢true (sym c.if-not-head_ok.true ∙ c.head_ok.ensures ∙ h)); place_fits = tt }
+    record {
+      value = no_place_lem _ _ (λ h l g. false≢true (sym c.if-not-head_ok.true ∙ c.head_ok.ensures ∙ h));
+      place_fits = tt;
+    }
 
 pub place_in-requires : goal.place_in-requires
 place_in-requires c =

@@ -23,6 +23,6 @@ returns c =
     let g = sym c.length_ok.ensures ∙ c.if-not-length_ok.false in record {
       value = place_is _ c.args.id.now _ _ _ (asset-head-ok _ c.requires)
           c.find-i.ensures.value (omega arith) c.bodies_at.ensures
-          n.ensures.0 g;
+          n.ensures.value g;
       place_fits = (omega (arith, length-max n.result g), length-pos n.result g);
     }
