@@ -11,7 +11,7 @@
 //! Build the core's archive in the repository, once for each version; this proves the core first:
 //!
 //! ```text
-//! rt staticlib mtcore          writes crates/mtcore/out/libmtcore.a
+//! (cd crates/mtcore && rt lib)      writes crates/mtcore/out/libmtcore.a
 //! ```
 //!
 //! Take the crate by its path:
