@@ -6,7 +6,7 @@ use mathlib.Core.List.{List, [], ◌∷◌}
 use native.Mathlib.Omega.{arith}
 use lib.Dec.{leb, eqb}
 use lib.ListN.{length, get_or}
-use borrow.Author.Tests.{eqb-true, eqb-false, le-leb, eq-eqb, ne_eqb}
+use borrow.Author.Tests.{eqb-true, eqb-false, le-leb, ne_eqb}
 use Rattle.spec.specs.Value.{pack}
 use Rattle.spec.specs.declared.Value.TheVariants.{Unavailable}
 use Rattle.spec.specs.Entries.{active, normal, code_field, used_rows, form_ok, repeats_in, crowded}

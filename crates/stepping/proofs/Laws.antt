@@ -1,15 +1,12 @@
 -- The step of an item's rows by columns, and whether they take one more observation.
-use Prim.Native.Nat.{ℕ, ◌+◌, ◌*◌, ◌≤◌, ◌<◌}
+use Prim.Native.Nat.{ℕ, ◌+◌, ◌*◌, ◌≤◌}
 use mathlib.Core.Path.{◌≡◌, refl, sym, ap, ◌∙◌}
-use mathlib.Core.Logic.{inl, inr}
 use mathlib.Core.Bool.{Bool, true, false, not, not-not}
 use mathlib.Core.List.{List, [], ◌∷◌}
 use native.Mathlib.Omega.{arith}
 use lib.Dec.{leb}
 use lib.ListN.{length, get_or, take, drop}
 use lib.Seq.{sets}
-use denote.Enum.Declared.{tag_of}
-use types.Run.{OneOf}
 use Rattle.spec.specs.Blocks.{table_rows, put_rows, unused, padded}
 use Rattle.spec.specs.Entries.{packed, used_rows, step, form_ok}
 use Rattle.spec.proofs.Blocks.{Threes, padded-threes}
@@ -19,7 +16,6 @@ use Rattle.marks.specs.Marks.{eight_at}
 use Rattle.marks.specs.Marked.{Marked}
 use Rattle.changes.specs.declared.Change.{Change}
 use Rattle.changes.specs.declared.Change.TheVariants.{Put, Alone, Out, Stay, Full}
-use Rattle.changes.specs.contracts.Change
 use Rattle.changes.proofs.Steps.{change-full, change-steps, changed-map, length-changed}
 use Rattle.entries.specs.Forms.{marks_of}
 use Rattle.stepping.specs.Taking.{takes_one}
@@ -28,19 +24,13 @@ use Rattle.entries.proofs.Columns.{numbers-read, times-read, words-read}
 use Rattle.entries.proofs.Filling.{rows-many, FilledBy, by-marked, by-eight, by-formed}
 use Rattle.entries.proofs.Marks.{length-marks, marks-of, form-zeros, rows-padded}
 
-above : (x : ℕ) → 3 < x → OneOf (0 ∷ 1 ∷ 2 ∷ 3 ∷ []) x → ⊥
-above x h (inl e) = omega arith
-above x h (inr (inl e)) = omega arith
-above x h (inr (inr (inl e))) = omega arith
-above x h (inr (inr (inr e))) = omega arith
-
 -- any other change than Full
-pub not_full : (h : Change) → OneOf (0 ∷ 1 ∷ 2 ∷ 3 ∷ []) (tag_of Change.the_type h) → is_full h ≡ false
-not_full (Put j) k = refl
-not_full Alone k = refl
-not_full (Out j) k = refl
-not_full Stay k = refl
-not_full Full k = absurd (above 4 (omega arith) k)
+pub not_full : (h : Change) → (h ≡ Full → ⊥) → is_full h ≡ false
+not_full (Put j) n = refl
+not_full Alone n = refl
+not_full (Out j) n = refl
+not_full Stay n = refl
+not_full Full n = absurd (n refl)
 
 pub takes-broken : (own : ℕ) (rs : List (List ℕ)) (word : ℕ) → form_ok own 0 rs ≡ false → false ≡ takes_one own rs word
 unfolding takes_one
