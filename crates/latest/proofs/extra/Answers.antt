@@ -1,29 +1,22 @@
-use Prim.Native.Nat.{◌<◌}
-use mathlib.Core.Path.{◌∙◌}
-use mathlib.Core.Logic.{⊎_elim}
+use Prim.Native.Nat.{ℕ, ◌<◌}
+use mathlib.Core.Path.{◌≡◌, ◌∙◌}
+use mathlib.Core.Bool.{true}
+use mathlib.Core.List.{List}
 use native.Mathlib.Omega.{arith}
-use borrow.Author.Tests.{eqb-true, eqb-false}
-use Rattle.spec.specs.Model.{items, category}
+use Rattle.history.specs.Observations.{ring_size, latest_at}
+use Rattle.spec.specs.Model.{items}
+use Rattle.spec.specs.Words.{bit}
 use Rattle.spec.proofs.Words.{told}
-use Rattle.latest.proofs.Laws.{latest-table, beyond-start, beyond-few, beyond-out, beyond-plain}
+use Rattle.latest.proofs.Laws.{latest-table, Beyond, beyond-start, beyond-few, beyond-out, beyond-plain}
 use Rattle.latest.proofs.Laws.{beyond-end, Turn, beyond-unformed, beyond-empty, beyond-more}
 use Rattle.latest.proofs.extra.Goals as goal
+use Rattle.latest.proofs.extra.Goals.{then-has+then-category-eq-CONDITION+in-Used+else-n-eq0, else-has}
+use Rattle.latest.proofs.extra.Goals.{else-has-via-then-has+else-category-eq-CONDITION, else-has-via-else-has}
 
-turn : (c : tie.Then2 invariant-loop decreases-loop) → let l = c.before.before.before.before.before in let la = l.before in let it = la.before.before in let a = it.before.before.before.args in Turn (category a.model.now) (items a.model.now) a.st.now a.selection l.loop.extra l.loop.i it.items.result la.before.ring-size.result la.latest-at.result
-turn c =
-    let ca = c.before in
-    let il = ca.before.before.before in
-    let la = il.before.before in
-    let it = la.before.before in
-    record {
-      now = il.before.loop.invariant;
-      below = omega arith;
-      selected = told ca.before.before.has.ensures ca.before.if1.true;
-      condition = told ca.category.ensures (eqb-true _ 2 c.if2.true);
-      many = it.items.ensures.0;
-      ring = la.before.ring-size.ensures.0;
-      table = la.latest-at.ensures;
-    }
+turn : {cat : ℕ → ℕ} {m : ℕ} {st : List ℕ} {selection x i a n t : ℕ} → Beyond cat m st selection x i → i < m
+    → bit selection i ≡ true → cat i ≡ 2 → a ≡ m → n ≡ ring_size st → t ≡ latest_at n
+    → Turn cat m st selection x i a n t
+turn v h s k a n t = record { now = v; below = h; selected = s; condition = k; many = a; ring = n; table = t }
 
 pub loop-i-init : goal.loop-i-init
 loop-i-init c =
@@ -31,40 +24,63 @@ loop-i-init c =
 
 pub count-requires : goal.count-requires
 count-requires c =
-    let v = turn c in record { table = latest-table _ _ c.requires.head v.many v.ring v.table v.below; own_bound = omega (arith, v.below, c.requires.sizes.m_max) }
+    let h : c.loop-i.i < items c.args.model.now = omega arith in
+    let v =
+    turn c.loop-i.invariant h (told c.has.ensures c.if-has.true)
+    (told c.category.ensures c.if-category-eq-CONDITION.true) c.items-m.ensures.0 c.ring_size.ensures.is
+    c.latest_at-t.ensures in
+    record {
+      table = latest-table _ _ c.requires.head v.many v.ring v.table v.below;
+      own_bound = omega (arith, v.below, c.requires.sizes.m_max);
+    }
 
 pub returns-in_default : goal.returns-in_default
 returns-in_default c =
-    beyond-unformed (turn c) (told c.in_default.is c.count.ensures)
+    let h : c.loop-i.i < items c.args.model.now = omega arith in
+    let v =
+    turn c.loop-i.invariant h (told c.has.ensures c.if-has.true)
+    (told c.category.ensures c.if-category-eq-CONDITION.true) c.items-m.ensures.0 c.ring_size.ensures.is
+    c.latest_at-t.ensures in
+    beyond-unformed v (told c.in_default.is c.count.ensures)
 
 pub returns-then-n-eq0 : goal.returns-then-n-eq0
 returns-then-n-eq0 c =
-    beyond-empty (turn c) (told c.in-Used.is c.count.ensures) c.if-n-eq0.true
+    let h : c.loop-i.i < items c.args.model.now = omega arith in
+    let v =
+    turn c.loop-i.invariant h (told c.has.ensures c.if-has.true)
+    (told c.category.ensures c.if-category-eq-CONDITION.true) c.items-m.ensures.0 c.ring_size.ensures.is
+    c.latest_at-t.ensures in
+    beyond-empty v (told c.in-Used.is c.count.ensures) c.if-n-eq0.true
 
 pub overflow_add-extra : goal.overflow_add-extra
 overflow_add-extra c =
-    let v = beyond-more (turn c) (told c.in-Used.is c.count.ensures) c.if-n-eq0.false in
-    omega (arith, beyond-few v c.requires.sizes.m_max)
+    let h : c.loop-i.i < items c.args.model.now = omega arith in
+    let v =
+    turn c.loop-i.invariant h (told c.has.ensures c.if-has.true)
+    (told c.category.ensures c.if-category-eq-CONDITION.true) c.items-m.ensures.0 c.ring_size.ensures.is
+    c.latest_at-t.ensures in
+    let more = beyond-more v (told c.in-Used.is c.count.ensures) c.if-n-eq0.false in
+    omega (arith, beyond-few more c.requires.sizes.m_max)
 
 pub loop-i-preserved : goal.loop-i-preserved
 loop-i-preserved c =
-    let v = c.loop-i.invariant in
     let h : c.loop-i.i < items c.args.model.now = omega arith in
-    ⊎_elim
-    (λ w.
-    let t =
-    turn
-    record { before = record { before = record { before = c; if1 = w.0 }; category = w.1 }; if2 = w.2 } in
-    rw w.8 (beyond-more t (told w.5.given.1 w.3.ensures) w.7.left))
-    (λ w.
-    rw w.1
-    (⊎_elim
-    (λ u.
-    beyond-plain v h (told c.has.ensures u.0.taken)
-    (λ z. eqb-false _ 2 u.2.left (u.1.ensures ∙ z)))
-    (λ u. beyond-out v h (told c.has.ensures u.left))
-    w.0.came))
-    c.if-has.branch
+    elim c.if-has.branch [
+      | then-has+then-category-eq-CONDITION+in-Used+else-n-eq0 w ↦
+          let v =
+          turn c.loop-i.invariant h (told c.has.ensures w.if-has.true)
+          (told w.category.ensures w.if-category-eq-CONDITION.true) c.items-m.ensures.0 c.ring_size.ensures.is
+          c.latest_at-t.ensures in
+          rw w.extra-is (beyond-more v (told w.in-Used.is w.count.ensures) w.if-n-eq0.false)
+      | else-has w ↦
+          rw w.extra-is
+          (elim w.else-has.branch [
+            | else-has-via-then-has+else-category-eq-CONDITION u ↦
+                beyond-plain c.loop-i.invariant h (told c.has.ensures u.if-has.true)
+                (λ z. u.if-category-eq-CONDITION.false (u.category.ensures ∙ z))
+            | else-has-via-else-has u ↦ beyond-out c.loop-i.invariant h (told c.has.ensures u.if-has.false)
+          ])
+    ]
 
 pub returns : goal.returns
 returns c =

@@ -1,12 +1,13 @@
 use Prim.Native.Nat.{◌<◌}
-use mathlib.Core.Logic.{⊎_elim}
 use mathlib.Core.Path.{◌∙◌}
 use native.Mathlib.Omega.{arith}
-use Rattle.spec.specs.Model.{items, category}
+use Rattle.spec.specs.Model.{items}
 use Rattle.spec.proofs.Words.{told}
 use Rattle.latest.proofs.Laws.{latest-table, written_start, written_out, written-end}
 use Rattle.latest.proofs.Laws.{entries-room, entries-more, first-room, first_more}
 use Rattle.latest.proofs.write_each.Goals as goal
+use Rattle.latest.proofs.write_each.Goals.{then-has+then-category-eq-CONDITION, then-has+else-category-eq-CONDITION}
+use Rattle.latest.proofs.write_each.Goals.{else-has}
 
 pub loop-i-init : goal.loop-i-init
 loop-i-init c =
@@ -40,17 +41,19 @@ pub loop-i-preserved : goal.loop-i-preserved
 loop-i-preserved c =
     let v = c.loop-i.invariant in
     let h : c.loop-i.i < items c.args.model.now = omega arith in
-    ⊎_elim
-    (λ w.
-    rw (w.7, w.8)
-    (entries-more v h (told c.has.ensures w.0.taken) c.items-m.ensures.0 c.ring_size.ensures.is c.latest_at-t.ensures (told w.1.ensures w.2.taken) w.4.ensures.0
-    w.4.ensures.1))
-    (⊎_elim
-    (λ w.
-    rw (w.7, w.8)
-    (first_more v h (told c.has.ensures w.0.taken) c.items-m.ensures.0 c.ring_size.ensures.is c.latest_at-t.ensures (λ z. w.2.left (w.1.ensures ∙ z)) w.4.ensures))
-    (λ w. rw (w.1, w.2) (written_out v h (told c.has.ensures w.0.left))))
-    c.if-has.branch
+    elim c.if-has.branch [
+      | then-has+then-category-eq-CONDITION w ↦
+          rw (w.out-is, w.c-is)
+          (entries-more v h (told c.has.ensures w.if-has.true) c.items-m.ensures.0 c.ring_size.ensures.is
+          c.latest_at-t.ensures (told w.category.ensures w.if-category-eq-CONDITION.true)
+          w.write_entries-c.ensures.value w.write_entries-c.ensures.out_after)
+      | then-has+else-category-eq-CONDITION w ↦
+          rw (w.out-is, w.c-is)
+          (first_more v h (told c.has.ensures w.if-has.true) c.items-m.ensures.0 c.ring_size.ensures.is
+          c.latest_at-t.ensures (λ z. w.if-category-eq-CONDITION.false (w.category.ensures ∙ z))
+          w.write_first.ensures)
+      | else-has w ↦ rw (w.out-is, w.c-is) (written_out v h (told c.has.ensures w.if-has.false))
+    ]
 
 pub shape_of-out : goal.shape_of-out
 shape_of-out c =

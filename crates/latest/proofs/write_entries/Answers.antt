@@ -1,18 +1,8 @@
-use Prim.Native.Nat.{◌+◌, ◌*◌, ◌<◌}
 use mathlib.Core.Path.{refl}
 use native.Mathlib.Omega.{arith}
-use lib.ListN.{length}
 use Rattle.rows.proofs.Flat.{left-room, left-more, left_end}
 use Rattle.latest.proofs.Laws.{used_start, used-none, used-more, used_over}
 use Rattle.latest.proofs.write_entries.Goals as goal
-
--- a used entry has room
-room : (c : tie.Else1 invariant-loop decreases-loop) → let l = c.before.before.before.before.loop in let k = c.before.before.before.before.before.before.before.before.args.k in (l.c < length l.out) × (k + 2 * l.c + 1 < length l.out)
-room c =
-    let il = c.before.before.before in
-    left-room il.before.loop.invariant.3
-    (used-more _ _ _ _ _ (omega (arith, il.before.loop.invariant.0)) c.before.before.row_at.ensures c.if1.false)
-    il.before.before.before.before.before.requires.1.1
 
 pub loop-j-init : goal.loop-j-init
 loop-j-init c =
@@ -25,23 +15,38 @@ shape_of-out-then-row-eq0 c =
 pub returns-then-row-eq0 : goal.returns-then-row-eq0
 returns-then-row-eq0 c =
     let whole = left_end c.loop-j.invariant.3
-    (used-none _ _ _ _ _ (omega (arith, c.loop-j.invariant.0)) c.row_at-row.ensures c.if-row-eq0.true) in record { value = whole.0; out_after = whole.1 }
+    (used-none _ _ _ _ _ (omega (arith, c.loop-j.invariant.0)) c.row_at-row.ensures c.if-row-eq0.true) in
+    record { value = whole.0; out_after = whole.1 }
 
 pub overflow_mul-c : goal.overflow_mul-c
 overflow_mul-c c =
-    let g = room c in omega arith
+    let g =
+    left-room c.loop-j.invariant.3
+    (used-more _ _ _ _ _ (omega (arith, c.loop-j.invariant.0)) c.row_at-row.ensures c.if-row-eq0.false)
+    c.requires.x_bound.1 in
+    omega arith
 
 pub overflow_add-k : goal.overflow_add-k
 overflow_add-k c =
-    let g = room c in omega arith
+    let g =
+    left-room c.loop-j.invariant.3
+    (used-more _ _ _ _ _ (omega (arith, c.loop-j.invariant.0)) c.row_at-row.ensures c.if-row-eq0.false)
+    c.requires.x_bound.1 in
+    omega arith
 
 pub write_row-requires : goal.write_row-requires
 write_row-requires c =
-    room c
+    left-room c.loop-j.invariant.3
+    (used-more _ _ _ _ _ (omega (arith, c.loop-j.invariant.0)) c.row_at-row.ensures c.if-row-eq0.false)
+    c.requires.x_bound.1
 
 pub overflow_add-c : goal.overflow_add-c
 overflow_add-c c =
-    let g = room c in omega arith
+    let g =
+    left-room c.loop-j.invariant.3
+    (used-more _ _ _ _ _ (omega (arith, c.loop-j.invariant.0)) c.row_at-row.ensures c.if-row-eq0.false)
+    c.requires.x_bound.1 in
+    omega arith
 
 pub loop-j-preserved : goal.loop-j-preserved
 loop-j-preserved c =
@@ -60,6 +65,8 @@ shape_of-out c =
 
 pub returns : goal.returns
 returns c =
-    let v = c.loop-j.invariant in let whole = left_end v.3
+    let v = c.loop-j.invariant in
+    let whole = left_end v.3
     (used_over _ _ _ _ _ _ _ _ _ v.1 (omega (arith, c.loop-j-test.false)) v.2
-    (omega (arith, v.3.rows, v.3.fits))) in record { value = whole.0; out_after = whole.1 }
+    (omega (arith, v.3.rows, v.3.fits))) in
+    record { value = whole.0; out_after = whole.1 }

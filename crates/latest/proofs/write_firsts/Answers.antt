@@ -1,10 +1,10 @@
-use mathlib.Core.Logic.{⊎_elim}
 use mathlib.Core.Path.{refl}
 use native.Mathlib.Omega.{arith}
 use Rattle.spec.proofs.Words.{told}
 use Rattle.latest.proofs.Laws.{latest-table, firsts-start, firsts-out, firsts-room, firsts_more}
 use Rattle.latest.proofs.Laws.{firsts-end}
 use Rattle.latest.proofs.write_firsts.Goals as goal
+use Rattle.latest.proofs.write_firsts.Goals.{then-has, else-has}
 
 pub loop-i-init : goal.loop-i-init
 loop-i-init c =
@@ -25,13 +25,13 @@ pub loop-i-preserved : goal.loop-i-preserved
 loop-i-preserved c =
     let v = c.loop-i.invariant in
     let h = c.loop-i-test.true in
-    ⊎_elim
-    (λ w.
-    rw (w.5, w.6)
-    (firsts_more v h (told c.has.ensures w.0.taken) c.ring_size.ensures.is c.latest_at-t.ensures
-    w.2.ensures))
-    (λ w. rw (w.1, w.2) (firsts-out v h (told c.has.ensures w.0.left)))
-    c.if-has.branch
+    elim c.if-has.branch [
+      | then-has w ↦
+          rw (w.out-is, w.c-is)
+          (firsts_more v h (told c.has.ensures w.if-has.true) c.ring_size.ensures.is c.latest_at-t.ensures
+          w.write_first.ensures)
+      | else-has w ↦ rw (w.out-is, w.c-is) (firsts-out v h (told c.has.ensures w.if-has.false))
+    ]
 
 pub shape_of-out : goal.shape_of-out
 shape_of-out c =
