@@ -1,6 +1,6 @@
 use mathlib.Core.Path.{sym, ap, ◌∙◌}
 use native.Mathlib.Omega.{arith}
-use Rattle.spec.specs.Assets.{length_at, length_ok}
+use Rattle.spec.specs.Assets.{length_ok}
 use Rattle.asset_reply.proofs.Laws.{test-no, test-yes, test-end, next_down, no-down}
 use Rattle.asset_reply.proofs.all_lengths_ok.Goals as goal
 

@@ -1,7 +1,7 @@
 use mathlib.Core.Path.{sym, ap, ◌∙◌}
 use native.Mathlib.Omega.{arith}
 use lib.Seq.{get_or-take}
-use Rattle.spec.specs.Assets.{length_at, length_ok}
+use Rattle.spec.specs.Assets.{length_ok}
 use Rattle.asset_reply.proofs.Laws.{next-cell, no_cell, test-no, test-yes, test-end}
 use Rattle.named_reply.proofs.Laws.{length-first}
 use Rattle.named_reply.proofs.lengths_ok.Goals as goal
