@@ -32,7 +32,7 @@ run-add {N} {B} {e} {s} {q} zero r h =
 run-add {N} {B} {e} {s} {q} (suc k) r h =
     let a : s + suc k ≡ s + 1 + k = omega arith in
     let b : q + suc k ≡ q + 1 + k = omega arith in
-    rw (a, b) (run-add k (run-next r (omega arith)) (omega arith))
+    rw (a, b) (run-add {N = N} {B = B} {e = e} {s = s + 1} {q = q + 1} k (run-next r (omega arith)) (omega arith))
 
 pub run_at : {N B e s q : ℕ} → Run N B e s q → (j : ℕ) → j < e - s → (q + j ≡ place N B (s + j)) × (q + j < N)
 run_at {N} {B} {e} {s} {q} r j h =

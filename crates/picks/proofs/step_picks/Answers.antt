@@ -1,6 +1,5 @@
 use Rattle.picks.proofs.Gathers.{stepping-start, stepping-pick, stepping-room, stepping-item}
 use Rattle.picks.proofs.Gathers.{stepping-no, stepping-more, stepping-end}
-use borrow.Author.Tests.{not-true}
 use mathlib.Core.Bool.{false≢true}
 use borrow.Author.Rules.{rules}
 use native.Mathlib.Omega.{arith}
@@ -9,8 +8,7 @@ use Rattle.picks.proofs.step_picks.Goals as goal
 
 pub overflow_cast-j : goal.overflow_cast-j
 overflow_cast-j c =
-    let m = c.shared_slice_known-3-1.given 0 in
-    omega (arith, m)
+    omega (arith, c.type_inv.picks 0)
 
 pub loop-j-init : goal.loop-j-init
 loop-j-init c =
@@ -54,8 +52,7 @@ pub returns-then-not-step_item : goal.returns-then-not-step_item
 returns-then-not-step_item c =
     record {
       value = stepping-no c.loop-j.invariant c.loop-j-test.true c.ring_size-n.ensures.is
-          c.ring_word-word.ensures c.item_of.ensures c.step_item.ensures.value (not-true _
-          c.if-not-step_item.true);
+          c.ring_word-word.ensures c.item_of.ensures c.step_item.ensures.value c.if-not-step_item.true;
       marks_after = λ z. absurd (false≢true z);
     }
 
@@ -71,8 +68,7 @@ bounds-picks-t c =
 
 pub overflow_cast-j-in-loop-j : goal.overflow_cast-j-in-loop-j
 overflow_cast-j-in-loop-j c =
-    let m = c.shared_slice_known-in-loop-j-1.given (c.loop-j.t + 1) in
-    omega (arith, m)
+    omega (arith, c.type_inv.picks (c.loop-j.t + 1))
 
 pub loop-j-smaller : goal.loop-j-smaller
 loop-j-smaller c =

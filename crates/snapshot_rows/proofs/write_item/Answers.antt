@@ -21,7 +21,7 @@ returns-then-place-eq0 c =
 
 pub row_of-row-requires : goal.row_of-row-requires
 row_of-row-requires c =
-    let m = c.shared_slice_known-in-loop-j-1.given (8 * c.args.i + c.loop-j.j) in record {
+    let m = c.type_inv.marks (8 * c.args.i + c.loop-j.j) in record {
       head = c.requires.head;
       m_le_max_items = (
         c.requires.m_le_max_items.0,
