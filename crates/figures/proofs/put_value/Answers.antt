@@ -14,9 +14,9 @@ returns-in-Unavailable c =
 pub returns-in-Sample : goal.returns-in-Sample
 unfolding value_text
 returns-in-Sample c =
-    let v = c.v-1.given in
-    let e : to_z w32 (of_z w32 v.0.0) ≡ v.0.0 = search rules in
-    rw v.1 (rw e at c.put_sample.ensures)
+    let x = c.in-Sample.x in
+    let e : to_z w32 (of_z w32 x) ≡ x = search rules in
+    rw c.in-Sample.is (rw e at c.put_sample.ensures)
 
 pub returns-in-Event : goal.returns-in-Event
 unfolding value_text
