@@ -1,4 +1,2 @@
--- What the walk lends and passes on, and the laws that it cites.
-pub mod Read
-pub mod Onward
+-- The laws that the proofs cite.
 pub mod Laws

@@ -1,6 +1,6 @@
 -- What start and length of a body's place say of the body.
 use Prim.Native.Nat.{ℕ}
-use mathlib.Core.Path.{◌≡◌, refl, sym, ap, ◌∙◌}
+use mathlib.Core.Path.{◌≡◌, refl, ap, ◌∙◌}
 use mathlib.Core.List.{List}
 use lib.ListN.{take, drop}
 use Rattle.spec.specs.Assets.{body_place, part}
@@ -19,9 +19,6 @@ cut_out : (bs : List ℕ) (p : Place) → take (place_length p) (drop (place_sta
 cut_out bs (At start n) = refl
 cut_out bs Nothing = refl
 
-pub place-names : (bs id : List ℕ) (p q : Place) → p ≡ q → p ≡ body_place bs id
-    → Names bs id (place_start q) (place_length q)
+pub place-names : (bs id : List ℕ) (p : Place) → p ≡ body_place bs id → Names bs id (place_start p) (place_length p)
 unfolding calls.body
-place-names bs id p q h e =
-    let f : q ≡ body_place bs id = sym h ∙ e in
-    (ap place_start f, ap place_length f, cut_out bs q ∙ ap (part bs) f)
+place-names bs id p e = (ap place_start e, ap place_length e, cut_out bs p ∙ ap (part bs) e)
