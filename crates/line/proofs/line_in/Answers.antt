@@ -1,6 +1,5 @@
 -- Each part has its form.
 use mathlib.Core.Path.{sym, ◌∙◌}
-use borrow.Author.Tests.{not-false}
 use Rattle.forms.proofs.Laws.{numbered, unnumbered}
 use Rattle.line.proofs.Laws.{no-stamp, no_item, no-form, all_there}
 use Rattle.line.proofs.line_in.Goals as goal
@@ -18,15 +17,11 @@ returns-then-not-is_read c =
     no-form _ _ _ (sym c.is_read.ensures ∙ c.if-not-is_read.true)
 
 pub dated-requires : goal.dated-requires
-dated-requires c =
-    sym c.empty_or_formed.ensures ∙ not-false _
-    c.if-not-empty_or_formed.false
+dated-requires c = sym c.empty_or_formed.ensures ∙ c.if-not-empty_or_formed.false
 
 pub returns : goal.returns
 returns c =
-    let k = numbered 10 9999999999 _ _ _ c.number_of.ensures
-    c.in-Is.is in
-    c.dated.ensures ∙ all_there _ _ _ _ (sym
-    c.empty_or_formed.ensures ∙ not-false _
-    c.if-not-empty_or_formed.false) k.test k.value (sym
-    c.is_read.ensures ∙ c.if-not-is_read.false)
+    let k = numbered 10 9999999999 _ _ _ c.number_of.ensures c.in-Is.is in
+    c.dated.ensures
+    ∙ all_there _ _ _ _ (sym c.empty_or_formed.ensures ∙ c.if-not-empty_or_formed.false) k.test k.value
+    (sym c.is_read.ensures ∙ c.if-not-is_read.false)
