@@ -54,12 +54,12 @@ module _ (cat : ℕ → ℕ) (st : List ℕ) (m n b l : ℕ) (hn : n ≡ ring_si
     room-unused u = rw (number-left st hl h, lt-leb (ring_size st) (suc (last st) - base st) (omega arith))
 
     -- where the number overwrites an entry, that entry's packed word decides
-    pub room-entry : (p w : ℕ) → n ≤ l + 1 - b → p ≡ place n b (l + 1) → w ≡ ring_word st n p
-        → cond (overwritable cat n m st w) Fine (Refused Store) ≡ room_for cat m st
+    pub room-entry : (p w : ℕ) → n ≤ l + 1 - b → p ≡ place n b (l + 1) → w ≡ ring_word st n p → (r x : Bool)
+        → r ≡ overwritable cat n m st w → r ≡ x → cond x Fine (Refused Store) ≡ room_for cat m st
     unfolding room_for
-    room-entry p w u hp hw =
+    room-entry p w u hp hw r x g f =
         let e = by_word cat n m b (l + 1) p w st hp hw u in
-        rw (number-left st hl h, ← e, hn, hb, hl, add-one (last st))
+        rw (← f, g, number-left st hl h, ← e, hn, hb, hl, add-one (last st))
 
 -- ---- adding
 
