@@ -5,7 +5,16 @@ use Rattle.passes.proofs.pass.Goals as goal
 
 pub pass_run-requires : goal.pass_run-requires
 pass_run-requires c =
-    record { head = c.requires.head; m_le_max_items = (c.requires.m_le_max_items.0, record { seen = c.requires.m_le_max_items.1.0; picks = search rules; marks = c.requires.m_le_max_items.1.1 }); part = record { run = c.runs-r.ensures.front; from = omega arith; near = omega (arith, c.runs-r.ensures.low, c.runs-r.ensures.high, c.requires.st_bound.1.1) } }
+    let w = c.requires.m_le_max_items in
+    record {
+      head = c.requires.head;
+      m_le_max_items = (w.0, record { seen = w.1.0; picks = search rules; marks = w.1.1 });
+      part = record {
+        run = c.runs-r.ensures.front;
+        from = omega arith;
+        near = omega (arith, c.runs-r.ensures.low, c.runs-r.ensures.high, c.requires.st_bound.1.1);
+      };
+    }
 
 pub returns-then-not-pass_run : goal.returns-then-not-pass_run
 returns-then-not-pass_run c =
@@ -13,9 +22,13 @@ returns-then-not-pass_run c =
 
 pub pass_run-requires-2 : goal.pass_run-requires-2
 pass_run-requires-2 c =
+    let w = c.requires.m_le_max_items in
     record {
       head = c.requires.head;
-      m_le_max_items = (c.requires.m_le_max_items.0, record { seen = omega (arith, c.requires.m_le_max_items.1.0); picks = search rules; marks = omega (arith, c.requires.m_le_max_items.1.1) });
+      m_le_max_items = (
+        w.0,
+        record { seen = omega (arith, w.1.0); picks = search rules; marks = omega (arith, w.1.1) },
+      );
       part = record {
         run = run-to c.runs-r.ensures.back (omega (arith, c.runs-r.ensures.high)) (omega (arith, c.runs-r.ensures.high));
         from = c.runs-r.ensures.low;

@@ -16,10 +16,7 @@ plain_run-y-requires c =
       head = c.requires.head;
       m_le_max_items = (c.requires.m_le_max_items.0, v.0.wide);
       part = record { run = v.0.run; from = v.0.from; near = c.requires.part.near };
-      s_le_e = omega (
-        arith,
-        c.loop-x-test.true,
-      );
+      s_le_e = omega arith;
     }
 
 pub overflow_sub-q : goal.overflow_sub-q
@@ -52,7 +49,7 @@ step_block-requires c =
 
 pub shape_of-seen-then-not-step_block : goal.shape_of-seen-then-not-step_block
 shape_of-seen-then-not-step_block c =
-    omega (arith, c.loop-x.invariant.0.wide, c.requires.m_le_max_items.1.seen, c.seen-1.given, c.seen-in-loop-x-1.given)
+    omega (arith, c.loop-x.invariant.0.wide, c.requires.m_le_max_items.1.seen)
 
 pub shape_of-picks-then-not-step_block : goal.shape_of-picks-then-not-step_block
 shape_of-picks-then-not-step_block c =
@@ -90,7 +87,7 @@ loop-x-preserved c =
     let v = c.loop-x.invariant in
     let w = passing-skip v.0 c.plain_run-y.ensures.lower_bound (omega arith) c.plain_run-y.ensures.skipped in (
       passing-block w c.block_end-z.ensures.0.0 c.block_end-z.ensures.0.1 c.step_block.ensures c.if-not-step_block.false
-          (omega arith) (omega (arith, c.seen-in-loop-x-1.given)),
+          (omega arith) (omega arith),
       omega (arith, v.1),
     )
 

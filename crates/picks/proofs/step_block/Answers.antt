@@ -3,7 +3,13 @@ use Rattle.picks.proofs.step_block.Goals as goal
 
 pub gather-requires : goal.gather-requires
 gather-requires c =
-    record { head = c.requires.head; m_le_max_items = (c.requires.m_le_max_items.0, (c.requires.m_le_max_items.1.seen, c.requires.m_le_max_items.1.picks)); part = c.requires.part; s_le_e = c.requires.s_le_e }
+    let w = c.requires.m_le_max_items in
+    record {
+      head = c.requires.head;
+      m_le_max_items = (w.0, (w.1.seen, w.1.picks));
+      part = c.requires.part;
+      s_le_e = c.requires.s_le_e;
+    }
 
 pub returns-then-not-gather : goal.returns-then-not-gather
 returns-then-not-gather c =
