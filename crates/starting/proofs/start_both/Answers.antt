@@ -12,11 +12,14 @@ returns-then-not-start_ok c =
 
 pub start_store-requires : goal.start_store-requires
 start_store-requires c =
-    let b = begins _ _ _ _ _ _ c.start_ok.ensures c.if-not-start_ok.false in let whole = (c.requires, store-sizes c.items-m.ensures.0 b) in record { sizes = whole.0; starting = whole.1.0; st_len = whole.1.1 }
+    let b = begins _ _ _ _ _ _ c.start_ok.ensures c.if-not-start_ok.false in
+    let whole = store-sizes c.items-m.ensures.0 b in
+    record { sizes = c.requires; starting = whole.0; st_len = whole.1 }
 
 pub start-requires : goal.start-requires
 start-requires c =
-    let b = begins _ _ _ _ _ _ c.start_ok.ensures c.if-not-start_ok.false in record { le_a = (b.A-low, b.A-high); bs_len = b.size_is }
+    let b = begins _ _ _ _ _ _ c.start_ok.ensures c.if-not-start_ok.false in
+    record { le_a = (b.A-low, b.A-high); bs_len = b.size_is }
 
 pub returns : goal.returns
 unfolding start_both
