@@ -14,4 +14,4 @@ place_length Nothing = 0
 
 -- r points into the memory of s, `start` bytes behind its first
 abbrev pub LiesAt : ℕ → Bor (List ℕ) → Bor (List ℕ) → Type 0
-LiesAt start s r = (r.ptr.0 ≡ s.ptr.0) × (r.ptr.1 ≡ start + s.ptr.1)
+LiesAt start s r = (r.ref_ptr.0 ≡ s.ref_ptr.0) × (r.ref_ptr.1 ≡ start + s.ref_ptr.1)
