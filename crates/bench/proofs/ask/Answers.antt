@@ -5,5 +5,6 @@ use Rattle.bench.proofs.ask.Goals as goal
 
 pub returns : goal.returns
 returns c =
-    let whole = bench-asked _ _ c.model-model.ensures c.names-names.ensures c.prepare.ensures.observations_after c.prepare.ensures.assets_after
-    (search rules) c.request.ensures.0 c.request.ensures.1 in record { fact = whole.0; reply_bound = whole.1 }
+    let whole = bench-asked _ _ c.model-model.ensures c.names-names.ensures c.prepare.ensures.observations_after
+    c.prepare.ensures.assets_after (search rules) c.request.ensures.0 c.request.ensures.1 in
+    record { fact = whole.0; reply_bound = whole.1 }
