@@ -12,11 +12,13 @@ use Rattle.spec.specs.Text.{Request, Reading, read_text}
 use Rattle.spec.specs.Text.Request.{sample, current, current_at, assets, all_assets}
 use Rattle.spec.specs.Text.Reading.{unread, asked}
 use Rattle.spec.specs.Path.{select}
-use Rattle.history.specs.Observations.{ring_size, base, last, head_ok, ring_ok, sample_rows, current_ok, current_rows, at_ok, at_rows}
+use Rattle.history.specs.Observations.{ring_size, base, last, head_ok, ring_ok, sample_rows, current_ok}
+use Rattle.history.specs.Observations.{current_rows, at_ok, at_rows}
 use Rattle.spec.specs.Assets.{capacity, used, asset_head_ok, length_at, length_ok}
 use Rattle.spec.specs.Reply.{Replied, refuse, numbers, pairs, lengths, observation_words, asset_words, written}
 use Rattle.spec.specs.Reply.{observation_reply, asset_reply}
-use Rattle.history.specs.Calls.{unless, in_range, first, start_of, default_count, count_or, end_of, sample_between, sample_reply}
+use Rattle.history.specs.Calls.{unless, in_range, first, start_of, default_count, count_or, end_of, sample_between}
+use Rattle.history.specs.Calls.{sample_reply}
 use Rattle.history.specs.Calls.{current_reply, current_up_to, at_reply, cell_rows, all_cells, cells_reply, find_all}
 use Rattle.history.specs.Calls.{named_reply, answer_request, answer_reading, request}
 use Rattle.spec.specs.declared.Refusal.{Refusal}
