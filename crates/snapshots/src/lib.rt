@@ -118,13 +118,11 @@ pub fn hold(model: &[u32], st: &[u64], selection: u64, f: u64, e: u64, marks: &m
         result
         ≡ (ring_ok (ring_size st) m (base st) st (e - f) f
         && at_ok cat (ring_size st) m (base st) st selection (e - f) f) }
-    ensures* fact { λ r. ⌜
-        (r ≡ true →
+    ensures fact { result ≡ true →
         let st = st.entry.now in
         let m = items model.now in
         let cat = category model.now in
-        held_by m st f marks.new selection ≡ at_rows cat (ring_size st) m (base st) st selection (e - f) f)
-        ⌝ }
+        held_by m st f marks.new selection ≡ at_rows cat (ring_size st) m (base st) st selection (e - f) f }
 {
     let mut seen = [0u64; spec::ITEM_SLOTS];
     let m = model::items(model);

@@ -1,11 +1,10 @@
 use Rattle.spec.proofs.Words.{told}
 use Rattle.snapshots.proofs.Begun.{table_at, beginning-start, beginning-skip, beginning-broken}
 use Rattle.snapshots.proofs.Begun.{beginning-more, beginning-end}
-use mathlib.Core.Logic.{⊎_elim}
 use mathlib.Core.Bool.{false≢true}
-use borrow.Author.Tests.{not-false}
 use native.Mathlib.Omega.{arith}
 use Rattle.snapshots.proofs.begin.Goals as goal
+use Rattle.snapshots.proofs.begin.Goals.{then-has+else-not-begin_item, else-has}
 
 pub loop-i-init : goal.loop-i-init
 loop-i-init c =
@@ -49,11 +48,15 @@ pub loop-i-preserved : goal.loop-i-preserved
 loop-i-preserved c =
     let v = c.loop-i.invariant in
     let h = c.loop-i-test.true in
-    let t = table_at c.args.m c.args.st.now c.checkpoint_at-t.ensures
-    c.ring_size.ensures.is in
-    ⊎_elim (λ w. let y = not-false _ w.5.left in rw w.6 (beginning-more v h (told c.has.ensures w.0.taken) t
-    w.2.ensures.0 y (w.2.ensures.1 y))) (λ w. rw w.1 (beginning-skip v h (told c.has.ensures w.0.left)))
-    c.if-has.branch
+    let t = table_at c.args.m c.args.st.now c.checkpoint_at-t.ensures c.ring_size.ensures.is in
+    elim c.if-has.branch [
+      | then-has+else-not-begin_item w ↦
+          let y = w.if-not-begin_item.false in
+          rw w.marks-is
+          (beginning-more v h (told c.has.ensures w.if-has.true) t w.begin_item.ensures.value y
+          (w.begin_item.ensures.marks_after y))
+      | else-has w ↦ rw w.marks-is (beginning-skip v h (told c.has.ensures w.if-has.false))
+    ]
 
 pub shape_of-marks : goal.shape_of-marks
 shape_of-marks c =

@@ -7,11 +7,18 @@ use Rattle.snapshots.proofs.begin_item.Goals as goal
 
 pub fill-requires : goal.fill-requires
 fill-requires c =
-    record { table = record { inside = omega arith; room = omega (arith, c.requires.head.len) }; own_bound = (omega arith, omega arith); s_value = c.requires.marks_len.1 }
+    record {
+      table = record { inside = omega arith; room = omega (arith, c.requires.head.len) };
+      own_bound = (omega arith, omega arith);
+      s_value = c.requires.marks_len.1;
+    }
 
 pub returns-in_default : goal.returns-in_default
 returns-in_default c =
-    record { value = sym (filled-broken _ _ (sym c.in_default.is ∙ c.fill.ensures.value)); marks_after = λ z. absurd (false≢true z) }
+    record {
+      value = sym (filled-broken _ _ (sym c.in_default.is ∙ c.fill.ensures.value));
+      marks_after = λ z. absurd (false≢true z);
+    }
 
 pub returns : goal.returns
 returns c =

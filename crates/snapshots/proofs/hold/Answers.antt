@@ -18,7 +18,12 @@ returns-then-not-begin c =
 
 pub pass-requires : goal.pass-requires
 pass-requires c =
-    let n = ap length c.requires.marks_value ∙ length-replicate {A = ℕ} 512 0 in record { head = rw c.items-m.ensures.0 c.requires.head; m_le_max_items = (c.items-m.ensures.1, (refl, omega arith)); st_bound = c.requires.st_bound }
+    let n = ap length c.requires.marks_value ∙ length-replicate {A = ℕ} 512 0 in
+    record {
+      head = rw c.items-m.ensures.0 c.requires.head;
+      m_le_max_items = (c.items-m.ensures.1, (refl, omega arith));
+      st_bound = c.requires.st_bound;
+    }
 
 pub returns-then-not-pass : goal.returns-then-not-pass
 returns-then-not-pass c =

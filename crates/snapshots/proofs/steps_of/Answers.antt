@@ -2,7 +2,6 @@ use Rattle.spec.specs.Words.{bit}
 use Rattle.history.specs.Observations.{is_condition}
 use Rattle.spec.proofs.Words.{told}
 use mathlib.Core.Bool.{◌&&◌}
-use mathlib.Core.Logic.{⊎_elim}
 use Rattle.spec.specs.Model.{items, category}
 use Rattle.spec.specs.Words.{set_of}
 use Rattle.spec.proofs.Bits.{set-lt, set_more}
@@ -10,6 +9,7 @@ use Rattle.snapshots.specs.Snapshots.{steps_of}
 use native.Mathlib.Omega.{arith}
 use mathlib.Core.Path.{◌≡◌, refl, ap, ◌∙◌}
 use Rattle.snapshots.proofs.steps_of.Goals as goal
+use Rattle.snapshots.proofs.steps_of.Goals.{then-has, else-has}
 
 pub loop-i-init : goal.loop-i-init
 unfolding set_of
@@ -24,10 +24,10 @@ pub loop-i-preserved : goal.loop-i-preserved
 loop-i-preserved c =
     let i = c.loop-i.i in
     let t : c.if-has.steps ≡ (bit c.args.selection i && is_condition (category c.args.model.now) i) =
-    ⊎_elim
-    (λ w. let b = told c.has.ensures w.0.taken in w.2 ∙ rw (b, w.1.ensures))
-    (λ w. let b = told c.has.ensures w.0.left in w.1 ∙ (w.0.left ∙ rw b))
-    c.if-has.branch in
+    elim c.if-has.branch [
+      | then-has w ↦ let b = told c.has.ensures w.if-has.true in w.steps-is ∙ rw (b, w.category.ensures)
+      | else-has w ↦ let b = told c.has.ensures w.if-has.false in w.steps-is ∙ (w.if-has.false ∙ rw b)
+    ] in
     (omega arith, set_more _ _ _ _ _ c.loop-i.invariant.1 t c.with_if-set.ensures)
 
 pub returns : goal.returns
