@@ -117,7 +117,8 @@ module _ (bs : List ℕ) {reply x : List ℕ} {k u a : ℕ} {t : Bool} (w : Fitt
       let rows = cell_rows bs cells in
       in_words ∙ whole w (numbers rows) (lengths rows) row_words row_count fits y ey
 
-pub cells-wrong : (bs cells reply : List ℕ) (r : Bool) → r ≡ all_cells (λ i. length_ok (length_at bs i)) cells → r ≡ false
+pub cells-wrong : (bs cells reply : List ℕ) (r : Bool) → r ≡ all_cells (λ i. length_ok (length_at bs i)) cells
+    → r ≡ false
     → cells_reply bs cells reply ≡ refuse Store reply
 unfolding cells_reply
 cells-wrong bs cells reply r e f = rw (← e, f)

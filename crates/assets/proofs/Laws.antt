@@ -9,7 +9,8 @@ use lib.Dec.{leb, ltb, eqb}
 use lib.ListN.{length, get_or, set, take, drop, replicate, length-replicate, length-drop, drop_of_length-le}
 use lib.Seq.{sets, sets-eq, length-take-le}
 use Rattle.spec.specs.Bytes.{same}
-use Rattle.spec.specs.Assets.{max_assets, id_bytes, cell_bytes, asset_bytes, max_body, capacity, used, ids_at, bodies_at}
+use Rattle.spec.specs.Assets.{max_assets, id_bytes, cell_bytes, asset_bytes, max_body, capacity, used, ids_at}
+use Rattle.spec.specs.Assets.{bodies_at}
 use Rattle.spec.specs.Assets.{store_bytes}
 use Rattle.spec.specs.Assets.{AssetHead, asset_head_ok, start_assets, id_ok, length_ok, cell, id_cell, body_cell, find}
 use Rattle.spec.specs.Assets.{length_at, body_place}

@@ -12,7 +12,8 @@ use borrow.Author.Tests.{lt-ltb, le-ltb, le-leb, lt-leb}
 use Rattle.spec.specs.Words.{every, first_where, count_below}
 use Rattle.spec.specs.Bytes.{name_byte}
 use Rattle.spec.specs.Model.{letters, name_count, names_ok}
-use Rattle.spec.specs.Model.{parent_of, component_name, category_of, component_of, item_name, asset_change, max_category}
+use Rattle.spec.specs.Model.{parent_of, component_name, category_of, component_of, item_name, asset_change}
+use Rattle.spec.specs.Model.{max_category}
 use Rattle.spec.specs.Model.{max_components, max_items, model_words, components, items, Sizes}
 use Rattle.spec.specs.Model.{component_word, item_word, is_change, change_item}
 use Rattle.spec.specs.Model.{sizes_ok, component_ok, item_ok, components_ok, items_ok, changes_ok, model_ok}
@@ -84,7 +85,8 @@ sizes-end model c m ec em a b d e =
 -- ---- the loops over components and items
 
 module _ (model : List ℕ) (names c : ℕ) (ec : c ≡ components model) where
-  pub components-start : components_ok model names ≡ every (λ k. component_ok names k (component_word model k)) (c - 0) 0
+  pub components-start : components_ok model names
+      ≡ every (λ k. component_ok names k (component_word model k)) (c - 0) 0
   unfolding components_ok
   components-start = let q : c - 0 ≡ components model = omega arith in rw q
 

@@ -89,10 +89,11 @@ module _ (bs text : List ℕ) (at end : ℕ) (ends : end ≡ at + before 59 59 (
   missing-here : used bs ≤ find bs here → all_cells (stored bs) (find_all bs (split 59 (drop at text))) ≡ false
   unfolding all_cells find_all
   missing-here h =
-      by-more (λ ids. all_cells (stored bs) (find_all bs ids) ≡ false) (λ l. rw (le-ltb _ _ h)) (λ l. rw (le-ltb _ _ h))
+      by-more (λ ids. all_cells (stored bs) (find_all bs ids) ≡ false) (λ l. rw (le-ltb _ _ h))
+      (λ l. rw (le-ltb _ _ h))
 
-  module _ {start k cell : ℕ} {cells : List ℕ} (w : Finding bs text start at k cells) (few : length text ≤ longest_text)
-      (inside : end ≤ length text) (is : cell ≡ find bs here) where
+  module _ {start k cell : ℕ} {cells : List ℕ} (w : Finding bs text start at k cells)
+      (few : length text ≤ longest_text) (inside : end ≤ length text) (is : cell ≡ find bs here) where
     -- there is a place for its cell
     pub finding-room : k < max_assets
     finding-room = omega (arith, id-some inside w.ids, w.apart)

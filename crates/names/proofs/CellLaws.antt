@@ -234,7 +234,8 @@ cell-given s e =
     (tail_of s
     (λ i h. every-at (λ i. cell_byte (get_or s i 0)) (length s) 0 i b (omega arith) (omega arith))
     (λ i h.
-    let f = every-at (λ i. follows (get_or s i 0) (get_or s (i + 1) 0)) (length s - 1) 0 i p (omega arith) (omega arith) in
+    let f =
+    every-at (λ i. follows (get_or s i 0) (get_or s (i + 1) 0)) (length s - 1) 0 i p (omega arith) (omega arith) in
     rw (add-one i) at f))
 
 pub cell-is : (s : List ℕ) → cell_ok s ≡ cell_bytes s && zeros_last s
@@ -252,7 +253,8 @@ module _ (names : List ℕ) (k : ℕ) (within : k < name_count names) where
       length-take-le name_bytes (drop (name_bytes * k) names) (omega (arith, cells_fit (length names) k within, l))
 
   pub cell-byte-at : (i : ℕ) → i < name_bytes → get_or (name_cell names k) i 0 ≡ get_or names (name_bytes * k + i) 0
-  cell-byte-at i h = get_or-take name_bytes (drop (name_bytes * k) names) i 0 h ∙ get_or-drop (name_bytes * k) names i 0
+  cell-byte-at i h =
+      get_or-take name_bytes (drop (name_bytes * k) names) i 0 h ∙ get_or-drop (name_bytes * k) names i 0
 
   pub bytes-in-cell : cell_bytes names ≡ true → cell_bytes (name_cell names k) ≡ true
   unfolding cell_bytes
@@ -287,5 +289,6 @@ names-bytes names ns =
     let i : name_bytes * (j / name_bytes) + j % name_bytes ≡ j = omega arith in
     sym (ap (λ (x : ℕ). cell_byte (get_or names x 0)) i)
     ∙ sym (ap cell_byte (cell-byte-at names (j / name_bytes) w (j % name_bytes) r))
-    ∙ every-at (λ x. cell_byte (get_or (name_cell names (j / name_bytes)) x 0)) (length (name_cell names (j / name_bytes))) 0
-    (j % name_bytes) b (omega arith) (omega (arith, cell-length names (j / name_bytes) w)))
+    ∙ every-at (λ x. cell_byte (get_or (name_cell names (j / name_bytes)) x 0))
+    (length (name_cell names (j / name_bytes))) 0 (j % name_bytes) b (omega arith)
+    (omega (arith, cell-length names (j / name_bytes) w)))

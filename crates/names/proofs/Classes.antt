@@ -95,7 +95,8 @@ module _ (names : List ℕ) (i x : ℕ) (ok : names_ok names ≡ true) (there : 
 
       cell-kept : cell_bytes changed ≡ true → cell_ok (name_cell changed k) ≡ true
       cell-kept e =
-          let was = and_right (cell_bytes (name_cell names k)) _ (sym (cell-is (name_cell names k)) ∙ ns.cell k within) in
+          let was =
+          and_right (cell_bytes (name_cell names k)) _ (sym (cell-is (name_cell names k)) ∙ ns.cell k within) in
           cell-is (name_cell changed k)
           ∙ and_both (cell_bytes (name_cell changed k)) _ (bytes-in-cell changed k within' e) (last-kept ∙ was)
 
@@ -132,7 +133,8 @@ module _ (names : List ℕ) (i x : ℕ) (ok : names_ok names ≡ true) (there : 
         let c =
         every-at (λ j. cell_byte (get_or changed j 0)) (length changed) 0 i b (omega arith)
         (omega (arith, length-set names i x)) in
-        let d = rest-name x (sym (ap cell_byte (get_or-set_same names i x 0 there)) ∙ c) (ne_eqb x 0 (λ q. omega arith)) in
+        let d =
+        rest-name x (sym (ap cell_byte (get_or-set_same names i x 0 there)) ∙ c) (ne_eqb x 0 (λ q. omega arith)) in
         true≢false (sym d ∙ n)
 
     exactly : names_ok changed ≡ name_byte x

@@ -78,7 +78,8 @@ module _ (path : List ℕ) where
       typed-form t = rw (behind, longer, t, length-drop (root_bytes + n) path, drop-drop)
 
 -- the test of what follows T, as the code asks it of a part of the path
-pub typed-is : (path : List ℕ) (at : ℕ) (b c : Bool) → b ≡ is_typed (rest path at) → b ≡ c → is_typed (drop at path) ≡ c
+pub typed-is : (path : List ℕ) (at : ℕ) (b c : Bool) → b ≡ is_typed (rest path at) → b ≡ c
+    → is_typed (drop at path) ≡ c
 typed-is path at b c eb t = rw from-here at (sym eb) ∙ t
 
 pub typed_long : (path : List ℕ) (at : ℕ) → is_typed (drop at path) ≡ true → around_bytes ≤ length path - at

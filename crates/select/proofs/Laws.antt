@@ -158,7 +158,8 @@ module _ (p : ℕ → Bool) (m n r : ℕ) (rest : set_of p m ≡ 2 ^ n * r + set
 
 -- ---- the selections
 module _ (model names t y : List ℕ) (set : ℕ) (e : set ≡ under model names t (components model)) where
-  chosen-subtree : set_of (chosen model names set false y) (items model) ≡ set_of (in_subtree model names t) (items model)
+  chosen-subtree : set_of (chosen model names set false y) (items model)
+      ≡ set_of (in_subtree model names t) (items model)
   unfolding chosen taken in_subtree
   chosen-subtree =
       set-ext _ _ (items model)

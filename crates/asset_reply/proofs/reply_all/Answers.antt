@@ -37,7 +37,11 @@ slice_bounds-write_all-count c =
 
 pub write_all-requires : goal.write_all-requires
 write_all-requires c =
-    record { asset_head = c.requires; u_bound = omega (arith, c.used-u.ensures.value); u_in_bounds = lends c.fit_sizes.ensures c.if-not-fit_sizes.false _ (omega arith) }
+    record {
+      asset_head = c.requires;
+      u_bound = omega (arith, c.used-u.ensures.value);
+      u_in_bounds = lends c.fit_sizes.ensures c.if-not-fit_sizes.false _ (omega arith);
+    }
 
 pub returns : goal.returns
 returns c =

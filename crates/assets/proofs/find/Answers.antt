@@ -36,7 +36,10 @@ same_bytes-requires c =
 
 pub returns-then-same_bytes : goal.returns-then-same_bytes
 returns-then-same_bytes c =
-    let l = c.loop-i in record { value = searching-here l.invariant (omega arith) _ c.same_bytes.ensures c.if-same_bytes.true; upper_bound = omega arith }
+    let l = c.loop-i in record {
+      value = searching-here l.invariant (omega arith) _ c.same_bytes.ensures c.if-same_bytes.true;
+      upper_bound = omega arith;
+    }
 
 pub loop-i-preserved : goal.loop-i-preserved
 loop-i-preserved c =

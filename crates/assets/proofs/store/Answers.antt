@@ -10,7 +10,11 @@ put_asset-requires c =
     let r =
     renewal c.args.bs.now c.args.id.now _ _ _ c.requires.asset_head c.used.ensures.value
     c.out_for-out.ensures c.used_after-n.ensures in
-    let i = asset-id z.id.now z.body.now c.requires.body_value in record { asset_head = c.requires.asset_head; out_lt_n = (r.more, r.most); id_len_bound = (id-max z.id.now i, body-max z.id.now z.body.now c.requires.body_value) }
+    let i = asset-id z.id.now z.body.now c.requires.body_value in record {
+      asset_head = c.requires.asset_head;
+      out_lt_n = (r.more, r.most);
+      id_len_bound = (id-max z.id.now i, body-max z.id.now z.body.now c.requires.body_value);
+    }
 
 pub overflow_sub-result : goal.overflow_sub-result
 overflow_sub-result c =
@@ -27,4 +31,7 @@ returns c =
     renewal c.args.bs.now c.args.id.now _ _ _ c.requires.asset_head
     c.used.ensures.value
     c.out_for-out.ensures
-    c.used_after-n.ensures in record { bs_after = store_is _ _ _ _ _ _ r c.put_asset.ensures; value = cell-for-is _ _ _ _ r }
+    c.used_after-n.ensures in record {
+      bs_after = store_is _ _ _ _ _ _ r c.put_asset.ensures;
+      value = cell-for-is _ _ _ _ r;
+    }

@@ -6,7 +6,9 @@ use mathlib.Core.Path.{◌≡◌}
 use Rattle.model.proofs.change_item.Given as goal
 
 abbrev pub invariant-loop-j : goal.invariant-loop-j
-invariant-loop-j l = (l.m ≡ items l.model) × ((l.j ≤ l.m) × (change_item l.model ≡ first_where (is_change l.model) (l.m - l.j) l.j))
+invariant-loop-j l =
+    (l.m ≡ items l.model)
+    × ((l.j ≤ l.m) × (change_item l.model ≡ first_where (is_change l.model) (l.m - l.j) l.j))
 
 abbrev pub decreases-loop-j : goal.decreases-loop-j
 decreases-loop-j l = l.m - l.j

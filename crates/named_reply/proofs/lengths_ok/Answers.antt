@@ -8,7 +8,10 @@ use Rattle.named_reply.proofs.lengths_ok.Goals as goal
 
 pub length_at-requires : goal.length_at-requires
 length_at-requires c =
-    let b = c.requires.cells.below c.loop-i.i c.loop-i-test.true in record { asset_head = c.requires.asset_head; i_bound = omega (arith, c.requires.asset_head.u_max) }
+    let b = c.requires.cells.below c.loop-i.i c.loop-i-test.true in record {
+      asset_head = c.requires.asset_head;
+      i_bound = omega (arith, c.requires.asset_head.u_max);
+    }
 
 pub returns-then-not-length_ok : goal.returns-then-not-length_ok
 returns-then-not-length_ok c =

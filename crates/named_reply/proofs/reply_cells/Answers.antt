@@ -24,7 +24,11 @@ slice_bounds-write_cells-count c =
 
 pub write_cells-requires : goal.write_cells-requires
 write_cells-requires c =
-    record { asset_head = c.requires.asset_head; cells = c.requires.cells; k_in_bounds = lends c.fit_sizes.ensures c.if-not-fit_sizes.false _ (omega arith) }
+    record {
+      asset_head = c.requires.asset_head;
+      cells = c.requires.cells;
+      k_in_bounds = lends c.fit_sizes.ensures c.if-not-fit_sizes.false _ (omega arith);
+    }
 
 pub returns : goal.returns
 returns c =

@@ -15,7 +15,10 @@ bounds-out-i c =
 
 pub length_at-requires : goal.length_at-requires
 length_at-requires c =
-    let b = c.requires.cells.below c.loop-i.i c.loop-i-test.true in record { asset_head = c.requires.asset_head; i_bound = omega (arith, c.requires.asset_head.u_max) }
+    let b = c.requires.cells.below c.loop-i.i c.loop-i-test.true in record {
+      asset_head = c.requires.asset_head;
+      i_bound = omega (arith, c.requires.asset_head.u_max);
+    }
 
 pub bounds-out-k : goal.bounds-out-k
 bounds-out-k c =
@@ -24,7 +27,8 @@ bounds-out-k c =
 pub loop-i-preserved : goal.loop-i-preserved
 loop-i-preserved c =
     let t = c.loop-i-test.true in
-    writing_more c.loop-i.invariant (length-first c.requires.cells) t _ _ (get_or-take _ _ _ _ t) c.length_at.ensures.value
+    writing_more c.loop-i.invariant (length-first c.requires.cells) t _ _ (get_or-take _ _ _ _ t)
+    c.length_at.ensures.value
 
 pub shape_of-out : goal.shape_of-out
 shape_of-out c =

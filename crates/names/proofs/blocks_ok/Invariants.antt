@@ -9,7 +9,9 @@ use Rattle.names.proofs.blocks_ok.Given as goal
 
 abbrev pub invariant-loop-i : goal.invariant-loop-i
 invariant-loop-i l =
-    (l.i ≤ l.end) × (bytes_at l.s l.at l.end ≡ (l.fine && every (λ k. cell_byte (get_or l.s k 0)) (l.at + l.end - (l.at + l.i)) (l.at + l.i)))
+    (l.i ≤ l.end)
+    × (bytes_at l.s l.at l.end
+    ≡ (l.fine && every (λ k. cell_byte (get_or l.s k 0)) (l.at + l.end - (l.at + l.i)) (l.at + l.i)))
 
 abbrev pub decreases-loop-i : goal.decreases-loop-i
 decreases-loop-i l = l.end - l.i

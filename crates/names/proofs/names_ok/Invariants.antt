@@ -10,7 +10,9 @@ use Rattle.names.proofs.names_ok.Given as goal
 
 abbrev pub invariant-loop-k : goal.invariant-loop-k
 invariant-loop-k l =
-    (l.k ≤ l.n) × ((cell_bytes l.names ≡ true) × (names_ok l.names ≡ every (λ x. cell_ok (name_cell l.names x)) (l.n - l.k) l.k))
+    (l.k ≤ l.n)
+    × ((cell_bytes l.names ≡ true)
+    × (names_ok l.names ≡ every (λ x. cell_ok (name_cell l.names x)) (l.n - l.k) l.k))
 
 abbrev pub decreases-loop-k : goal.decreases-loop-k
 decreases-loop-k l = l.n - l.k

@@ -11,7 +11,8 @@ abbrev pub invariant-loop-i : goal.invariant-loop-i
 invariant-loop-i l =
     (l.i ≤ l.last)
     × ((l.last ≡ length l.cell - 1)
-    × (zeros_last l.cell ≡ (l.fine && every (λ k. follows (get_or l.cell k 0) (get_or l.cell (k + 1) 0)) (l.last - l.i) l.i)))
+    × (zeros_last l.cell
+    ≡ (l.fine && every (λ k. follows (get_or l.cell k 0) (get_or l.cell (k + 1) 0)) (l.last - l.i) l.i)))
 
 abbrev pub decreases-loop-i : goal.decreases-loop-i
 decreases-loop-i l = l.last - l.i

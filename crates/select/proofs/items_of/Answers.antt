@@ -15,7 +15,11 @@ item_word-word-requires c =
 
 pub takes-requires : goal.takes-requires
 takes-requires c =
-    let l : c.loop-j.j - 1 < items c.args.model.now = omega arith in let whole = item-fits c.args.model.now c.args.names.now c.requires _ _ l c.item_word-word.ensures in record { name_bytes_in_bounds = whole.0; word_bound = whole.1 }
+    let l : c.loop-j.j - 1 < items c.args.model.now = omega arith in
+    let whole = item-fits c.args.model.now c.args.names.now c.requires _ _ l c.item_word-word.ensures in record {
+      name_bytes_in_bounds = whole.0;
+      word_bound = whole.1;
+    }
 
 pub moved_up-selection-requires : goal.moved_up-selection-requires
 moved_up-selection-requires c =

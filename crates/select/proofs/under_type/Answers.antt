@@ -19,7 +19,12 @@ component_word-word-requires c =
 pub joins-requires : goal.joins-requires
 joins-requires c =
     let n = c.components-c in
-    let l : c.loop-i.i < components c.args.model.now = omega (arith, n.ensures.0) in let whole = component-fits c.args.model.now c.args.names.now c.requires _ _ l c.component_word-word.ensures in record { name_bytes_in_bounds = whole.0; word_bound = whole.1 }
+    let l : c.loop-i.i < components c.args.model.now = omega (arith, n.ensures.0) in
+    let whole =
+    component-fits c.args.model.now c.args.names.now c.requires _ _ l c.component_word-word.ensures in record {
+      name_bytes_in_bounds = whole.0;
+      word_bound = whole.1;
+    }
 
 pub with_if-set-requires : goal.with_if-set-requires
 with_if-set-requires c =

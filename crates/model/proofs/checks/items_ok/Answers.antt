@@ -29,7 +29,8 @@ loop-j-preserved c =
           every-yes _ _ _ _ l.invariant.1.1.0 c.loop-j-test.true
               (item-at c.args.model.now _ _ l.invariant.0.0 l.j _ _ _ c.item_ok.ensures c.item_word-word.ensures
               c.if-not-item_ok.false),
-          change-more c.args.model.now l.j _ _ _ c.item_word-word.ensures l.invariant.1.1.1 c.one_if_change-changes.ensures.0,
+          change-more c.args.model.now l.j _ _ _ c.item_word-word.ensures l.invariant.1.1.1
+              c.one_if_change-changes.ensures.0,
         ),
       ),
     )

@@ -10,7 +10,8 @@ abbrev pub invariant-loop-j : goal.invariant-loop-j
 invariant-loop-j l =
     ((l.c ≡ components l.model) × (l.m ≡ items l.model))
     × (((l.j ≤ l.m) × (l.changes ≤ l.j))
-    × ((items_ok l.model l.names ≡ every (λ k. item_ok (components l.model) l.names (item_word l.model k)) (l.m - l.j) l.j)
+    × ((items_ok l.model l.names
+    ≡ every (λ k. item_ok (components l.model) l.names (item_word l.model k)) (l.m - l.j) l.j)
     × (l.changes ≡ count_below (is_change l.model) l.j)))
 
 abbrev pub decreases-loop-j : goal.decreases-loop-j
