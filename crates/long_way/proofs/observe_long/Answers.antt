@@ -7,11 +7,21 @@ use Rattle.long_way.proofs.observe_long.Goals as goal
 
 pub judge_latest-requires : goal.judge_latest-requires
 judge_latest-requires c =
-    record { sizes = c.requires.sizes; head = c.requires.head; item_bound = c.requires.item_bound; fact = c.requires.fact }
+    record {
+      sizes = c.requires.sizes;
+      head = c.requires.head;
+      item_bound = c.requires.item_bound;
+      fact = c.requires.fact;
+    }
 
 pub record-requires : goal.record-requires
 record-requires c =
-    let n = told c.judge_latest.ensures c.in-New.is in record { sizes = c.requires.sizes; head = c.requires.head; item_bound = c.requires.item_bound.0; item_value = new-latest _ _ _ _ _ _ n }
+    let n = told c.judge_latest.ensures c.in-New.is in record {
+      sizes = c.requires.sizes;
+      head = c.requires.head;
+      item_bound = c.requires.item_bound.0;
+      item_value = new-latest _ _ _ _ _ _ n;
+    }
 
 pub returns-in-Broken : goal.returns-in-Broken
 returns-in-Broken c =

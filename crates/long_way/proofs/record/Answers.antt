@@ -11,7 +11,13 @@ last-number-requires c =
 
 pub add-requires : goal.add-requires
 add-requires c =
-    record { sizes = c.requires.sizes; head = c.requires.head; st_value = told c.room_for-verdict.ensures c.in-Fine.is; item_bound = c.requires.item_bound; item_value = c.requires.item_value }
+    record {
+      sizes = c.requires.sizes;
+      head = c.requires.head;
+      st_value = told c.room_for-verdict.ensures c.in-Fine.is;
+      item_bound = c.requires.item_bound;
+      item_value = c.requires.item_value;
+    }
 
 pub returns-in-Refused : goal.returns-in-Refused
 returns-in-Refused c =
