@@ -1,6 +1,5 @@
 use native.Mathlib.Omega.{arith}
 use Rattle.spec.proofs.Words.{told, every-no, every-yes, every-end}
-use Rattle.streams.specs.Streams.{packed_ok}
 use Rattle.reply_rows.proofs.Laws.{rows_start}
 use Rattle.reply_rows.proofs.rows_ok.Goals as goal
 
