@@ -11,8 +11,13 @@ use Rattle.observation_reply.proofs.reply_at.Goals as goal
 pub hold-requires : goal.hold-requires
 hold-requires c =
     let f = c.first-first in
-    let r = in-ring c.args.st.now f.result (c.args.number + 1) (omega (arith, f.ensures.0)) (omega arith)
-    in record { sizes = c.requires.sizes; head = c.requires.head; st_bound = (r.0, (omega (arith, f.ensures.0), r.1)); marks_value = search rules }
+    let r = in-ring c.args.st.now f.result (c.args.number + 1) (omega (arith, f.ensures.is)) (omega arith) in
+    record {
+      sizes = c.requires.sizes;
+      head = c.requires.head;
+      st_bound = (r.0, (omega (arith, f.ensures.is), r.1));
+      marks_value = search rules;
+    }
 
 pub returns-then-not-hold : goal.returns-then-not-hold
 returns-then-not-hold c =
@@ -36,7 +41,13 @@ pub write_held-requires : goal.write_held-requires
 write_held-requires c =
     let h = head_of c.items-m.ensures.0 _ c.requires.head in
     let k = held-many refl c.args.st.now _ _ _ _ c.count-k.ensures.0 in
-    let y = c.if-not-fit_sizes.false in record { head = h; m_le_max_items = (search rules, search rules); st_bound = (c.first-first.ensures.low, omega (arith, c.first-first.ensures.high)); k_value = (k, lends c.fit_sizes.ensures y _ (omega arith)) }
+    let y = c.if-not-fit_sizes.false in
+    record {
+      head = h;
+      m_le_max_items = (search rules, search rules);
+      st_bound = (c.first-first.ensures.low, omega (arith, c.first-first.ensures.high));
+      k_value = (k, lends c.fit_sizes.ensures y _ (omega arith));
+    }
 
 pub returns : goal.returns
 returns c =

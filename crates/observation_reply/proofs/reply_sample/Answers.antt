@@ -8,7 +8,12 @@ use Rattle.observation_reply.proofs.reply_sample.Goals as goal
 
 pub count_rows-requires : goal.count_rows-requires
 count_rows-requires c =
-    let r = in-ring c.args.st.now c.args.f c.args.e c.requires.st_bound.0 c.requires.st_bound.1.1 in record { head = c.requires.head; m_le_max_items = (c.requires.m_le_max_items, r.0); f_le_e = (c.requires.st_bound.1.0, r.1) }
+    let r = in-ring c.args.st.now c.args.f c.args.e c.requires.st_bound.0 c.requires.st_bound.1.1 in
+    record {
+      head = c.requires.head;
+      m_le_max_items = (c.requires.m_le_max_items, r.0);
+      f_le_e = (c.requires.st_bound.1.0, r.1);
+    }
 
 pub returns-in_default : goal.returns-in_default
 returns-in_default c =
@@ -43,7 +48,14 @@ write_rows-requires c =
     let r = in-ring c.args.st.now c.args.f c.args.e c.requires.st_bound.0 c.requires.st_bound.1.1 in
     let g = counted-count c.args.m c.args.st.now c.args.selection c.args.f c.args.e
     (sym c.in-Count.is ∙ c.count_rows.ensures) in
-    let y = c.if-not-fit_sizes.false in record { head = c.requires.head; m_le_max_items = (c.requires.m_le_max_items, r.0); f_le_e = (c.requires.st_bound.1.0, r.1); e_value = g.0; k_value = (g.1, lends c.fit_sizes.ensures y _ (omega arith)) }
+    let y = c.if-not-fit_sizes.false in
+    record {
+      head = c.requires.head;
+      m_le_max_items = (c.requires.m_le_max_items, r.0);
+      f_le_e = (c.requires.st_bound.1.0, r.1);
+      e_value = g.0;
+      k_value = (g.1, lends c.fit_sizes.ensures y _ (omega arith));
+    }
 
 pub returns : goal.returns
 returns c =
