@@ -1,71 +1,61 @@
 -- Nothing of another component or group, or the row's line.
-use Prim.Native.Nat.{◌<◌}
-use mathlib.Core.Path.{◌≡◌, sym, ap, ◌∙◌}
-use lib.ListN.{get_or}
+use mathlib.Core.Path.{sym, ap, ◌∙◌}
 use native.Mathlib.Omega.{arith}
-use Rattle.spec.specs.Value.{item_of}
-use Rattle.spec.specs.Model.{items, item_word}
 use Rattle.streams.specs.Streams.{group_of}
 use Rattle.streams.proofs.Rows.{row_at}
 use Rattle.row_groups.proofs.Laws.{words-ok, own-item, own-word, item_room, line-not-component, line-not-group}
 use Rattle.row_groups.proofs.Laws.{line-put}
 use Rattle.row_groups.proofs.put_if.Goals as goal
 
--- the row's item is one of the model's
-there : (c : tie.After-item-of) → c.item_of.result < items c.before.before.before.before.before.before.args.model.now
-there c =
-    let s = c.before.before.before.before.before.before in
-    own-item s.args.model.now s.args.reply.now s.args.i c.before.row_word.ensures
-    c.item_of.ensures s.requires.0.accepted s.requires.1
-
--- and its word is that item's
-word-is : (c : tie.After-item-word) → let a = c.before.before.before.before.before.before.before.args in c.item-word.result ≡ item_word a.model.now (item_of (get_or (row_at a.reply.now a.i) 2 0))
-word-is c =
-    let a = c.before.before.before.before.before.before.before.args in
-    own-word a.model.now a.reply.now a.i c.before.before.row_word.ensures
-    c.before.item_of.ensures c.item-word.ensures
-
 pub row_word-word-requires : goal.row_word-word-requires
-row_word-word-requires c =
-    (words-ok _ _ c.requires.documented.accepted, c.requires.i_bound)
+row_word-word-requires c = (words-ok _ _ c.requires.documented.accepted, c.requires.i_bound)
 
+-- the row's item is one of the model's
 pub item_word-item-requires : goal.item_word-item-requires
 item_word-item-requires c =
-    record { sizes = c.requires.documented.checked.sizes; j_bound = there c }
+    let a = c.args in
+    record {
+      sizes = c.requires.documented.checked.sizes;
+      j_bound = own-item a.model.now a.reply.now a.i c.row_word-word.ensures c.item_of.ensures
+          c.requires.documented.accepted c.requires.i_bound;
+    }
 
 pub returns-then-component_of-c : goal.returns-then-component_of-c
 returns-then-component_of-c c =
     let a = c.args in
     line-not-component a.model.now a.names.now a.c a.g (row_at a.reply.now a.i)
-    (word-is c) (λ q. c.if-component_of-c.true (c.component_of.ensures ∙ q)) (omega arith)
+    (own-word a.model.now a.reply.now a.i c.row_word-word.ensures c.item_of.ensures c.item_word-item.ensures)
+    (λ q. c.if-component_of-c.true (c.component_of.ensures ∙ q)) (omega arith)
 
 pub returns-then-group_of-g : goal.returns-then-group_of-g
 returns-then-group_of-g c =
     let a = c.args in
     let group = c.group_of.ensures.0 ∙ ap group_of c.category_of.ensures in
     line-not-group a.model.now a.names.now a.c a.g (row_at a.reply.now a.i)
-    (word-is c) (sym c.component_of.ensures ∙ c.if-component_of-c.false)
-    (λ q. c.if-group_of-g.true (group ∙ q)) (omega (arith, c.well_formed.1.1.1.1.1.1.0.1))
+    (own-word a.model.now a.reply.now a.i c.row_word-word.ensures c.item_of.ensures c.item_word-item.ensures)
+    (sym c.component_of.ensures ∙ c.if-component_of-c.false) (λ q. c.if-group_of-g.true (group ∙ q)) (omega arith)
 
 pub name_text-t-requires : goal.name_text-t-requires
 name_text-t-requires c =
+    let a = c.args in
+    let there = own-item a.model.now a.reply.now a.i c.row_word-word.ensures c.item_of.ensures
+    c.requires.documented.accepted c.requires.i_bound in
     rw c.item_name.ensures
-    (item_room c.args.model.now c.args.names.now c.requires.documented.checked c.item_of.result _
-    (there c) c.item_word-item.ensures)
+    (item_room a.model.now a.names.now c.requires.documented.checked c.item_of.result _ there
+    c.item_word-item.ensures)
 
 pub row_number-requires : goal.row_number-requires
-row_number-requires c =
-    (words-ok _ _ c.requires.documented.accepted, omega (arith, c.requires.i_bound))
+row_number-requires c = (words-ok _ _ c.requires.documented.accepted, c.requires.i_bound)
 
 pub row_time-requires : goal.row_time-requires
-row_time-requires c =
-    (words-ok _ _ c.requires.documented.accepted, c.requires.i_bound)
+row_time-requires c = (words-ok _ _ c.requires.documented.accepted, c.requires.i_bound)
 
 pub returns : goal.returns
 returns c =
     let a = c.args in
     let group = c.group_of.ensures.0 ∙ ap group_of c.category_of.ensures in
-    line-put a.model.now a.names.now a.c a.g (row_at a.reply.now a.i) (word-is c)
+    line-put a.model.now a.names.now a.c a.g (row_at a.reply.now a.i)
+    (own-word a.model.now a.reply.now a.i c.row_word-word.ensures c.item_of.ensures c.item_word-item.ensures)
     (sym c.component_of.ensures ∙ c.if-component_of-c.false) (sym group ∙ c.if-group_of-g.false) _ _ _ _ _
     c.name_text-t.ensures c.item_name.ensures c.row_number.ensures
     c.row_time.ensures c.row_word-word.ensures c.put_row.ensures
