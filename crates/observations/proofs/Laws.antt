@@ -7,7 +7,8 @@ use native.Mathlib.Omega.{arith}
 use lib.Dec.{eqb}
 use lib.ListN.{length, set, replicate}
 use borrow.Author.Tests.{le-leb, eq-eqb}
-use Rattle.history.specs.Observations.{max_ring, max_number, ring_size, item_count, base, last, store_words, head_ok, Head, blank}
+use Rattle.history.specs.Observations.{max_ring, max_number, ring_size, item_count, base, last, store_words}
+use Rattle.history.specs.Observations.{head_ok, Head, blank}
 use Rattle.spec.proofs.Words.{not_so}
 use Rattle.history.proofs.Observations.{head}
 
@@ -16,8 +17,8 @@ pub no-head : (st : List ℕ) (m : ℕ) → (Head m st → ⊥) → false ≡ he
 no-head st m h = not_so (head_ok m st) (λ e. h (head m st e))
 
 -- after all other tests the length decides
-pub head-by-length : (st : List ℕ) (m w : ℕ) → 1 ≤ ring_size st → ring_size st ≤ max_ring → item_count st ≡ m → 1 ≤ base st
-    → base st + m ≤ suc (last st) → last st ≤ max_number → w ≡ store_words (ring_size st) m
+pub head-by-length : (st : List ℕ) (m w : ℕ) → 1 ≤ ring_size st → ring_size st ≤ max_ring → item_count st ≡ m
+    → 1 ≤ base st → base st + m ≤ suc (last st) → last st ≤ max_number → w ≡ store_words (ring_size st) m
     → eqb (length st) w ≡ head_ok m st
 unfolding head_ok
 head-by-length st m w a b c d e f g =

@@ -15,8 +15,8 @@ use Rattle.spec.specs.Words.{row, put}
 use Rattle.spec.specs.Value.{item_of}
 use Rattle.spec.specs.Blocks.{table_rows, put_rows, padded}
 use Rattle.spec.specs.Entries.{any_entry, step, used_rows}
-use Rattle.history.specs.Observations.{max_number, ring_size, base, last, last_at, ring_at, latest_at, checkpoint_at, place}
-use Rattle.history.specs.Observations.{Head, item_at, item_rows, is_condition, stepped, set_newest, overwritten, evict}
+use Rattle.history.specs.Observations.{max_number, ring_size, base, last, last_at, ring_at, latest_at, checkpoint_at}
+use Rattle.history.specs.Observations.{place, Head, item_at, item_rows, is_condition, stepped, set_newest, overwritten, evict}
 use Rattle.history.specs.Observations.{evict_ok, add}
 use Rattle.history.specs.Calls.{room_for, added}
 use Rattle.spec.specs.declared.Verdict.TheVariants.{Fine}

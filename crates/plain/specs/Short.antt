@@ -3,8 +3,8 @@ use Rattle.std.specs.Prelude.{ℕ, ◌*◌, ◌≤◌, ◌≡◌, Bool, true, fa
 use Rattle.spec.specs.Words.{put}
 use Rattle.spec.specs.Value.{item_of}
 use Rattle.spec.specs.Entries.{form_ok}
-use Rattle.history.specs.Observations.{max_ring, last_at, ring_at, latest_at, checkpoint_at, store_words, item_rows, is_condition}
-use Rattle.history.specs.Observations.{stepped}
+use Rattle.history.specs.Observations.{max_ring, last_at, ring_at, latest_at, checkpoint_at, store_words}
+use Rattle.history.specs.Observations.{item_rows, is_condition, stepped}
 
 -- number s has a place in the ring of a store of these sizes
 pub record InRing (n m b s : ℕ) (st : List ℕ) : Type 0 where

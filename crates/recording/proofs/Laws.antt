@@ -12,8 +12,8 @@ use Rattle.spec.specs.Words.{put}
 use Rattle.spec.specs.Value.{item_of}
 use Rattle.spec.specs.Blocks.{table_rows}
 use Rattle.spec.specs.Entries.{form_ok}
-use Rattle.history.specs.Observations.{max_number, ring_size, base, last, ring_at, latest_at, checkpoint_at, place, Head}
-use Rattle.history.specs.Observations.{item_rows, is_condition, evict, evict_ok}
+use Rattle.history.specs.Observations.{max_number, ring_size, base, last, ring_at, latest_at, checkpoint_at, place}
+use Rattle.history.specs.Observations.{Head, item_rows, is_condition, evict, evict_ok}
 use Rattle.history.specs.Observations.{latest_ok}
 use Rattle.history.specs.Calls.{room_for}
 use Rattle.spec.specs.declared.Refusal.TheVariants.{Spent, Store}
@@ -96,5 +96,6 @@ module _ (cat : ℕ → ℕ) (n m b s : ℕ) (st : List ℕ) (o : Overwriting ca
         room = omega (arith, len, i.room);
         form =
             λ c.
-            rw (ey, put-latest n m x p time word item hp i.low, ex, evict-latest cat n m b s st o item i.low) (i.form c);
+            rw (ey, put-latest n m x p time word item hp i.low, ex, evict-latest cat n m b s st o item i.low)
+            (i.form c);
       })

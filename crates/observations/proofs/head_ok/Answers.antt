@@ -37,4 +37,5 @@ returns-then-last-b c =
 
 pub returns : goal.returns
 returns c =
-    head-by-length _ _ _ (omega arith) (omega arith) (omega arith) (omega arith) (omega arith) (omega arith) c.words_for.ensures
+    head-by-length _ _ _ (omega arith) (omega arith) (omega arith) (omega arith) (omega arith) (omega arith)
+    c.words_for.ensures

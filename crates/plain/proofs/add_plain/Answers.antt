@@ -13,7 +13,10 @@ returns-then-s-gt-MAX_NUMBER c =
 
 pub evict_plain-requires : goal.evict_plain-requires
 evict_plain-requires c =
-    record { sizes = c.requires.sizes; in_ring = next-ring c.ring_size-n.ensures.is c.base-b.ensures c.last-s.ensures.is c.requires.head }
+    record {
+      sizes = c.requires.sizes;
+      in_ring = next-ring c.ring_size-n.ensures.is c.base-b.ensures c.last-s.ensures.is c.requires.head;
+    }
 
 pub returns-then-not-evict_plain : goal.returns-then-not-evict_plain
 returns-then-not-evict_plain c =
@@ -21,7 +24,13 @@ returns-then-not-evict_plain c =
 
 pub put_number-requires : goal.put_number-requires
 put_number-requires c =
-    let x = c.evict_plain.ensures.done c.if-not-evict_plain.false in record { p_lt_n = (c.place-p.ensures.low, omega arith); item_lt_m = (omega (arith, c.requires.item_bound.0), omega arith); st_len = rw (x.1, c.ring_size-n.ensures.is, c.items-m.ensures.0) (length-evict _ _ _ _ _ _ ∙ c.requires.head.len) }
+    let x = c.evict_plain.ensures.done c.if-not-evict_plain.false in
+    record {
+      p_lt_n = (c.place-p.ensures.low, omega arith);
+      item_lt_m = (omega (arith, c.requires.item_bound.0), omega arith);
+      st_len = rw (x.1, c.ring_size-n.ensures.is, c.items-m.ensures.0)
+          (length-evict _ _ _ _ _ _ ∙ c.requires.head.len);
+    }
 
 pub returns : goal.returns
 returns c =

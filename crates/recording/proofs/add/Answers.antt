@@ -5,8 +5,14 @@ use Rattle.recording.proofs.add.Goals as goal
 
 pub write-requires : goal.write-requires
 write-requires c =
-    let o = next_fits c.ring_size-n.ensures.is c.base-b.ensures c.last-last.ensures.is c.requires.head c.requires.st_value in
-    let f = latest-form _ _ _ _ _ c.requires.item_value in record { sizes = c.requires.sizes; overwriting = o; in_table = latest-in o c.requires.item_bound (rw c.ring_size-n.ensures.is f) }
+    let o = next_fits c.ring_size-n.ensures.is c.base-b.ensures c.last-last.ensures.is c.requires.head
+    c.requires.st_value in
+    let f = latest-form _ _ _ _ _ c.requires.item_value in
+    record {
+      sizes = c.requires.sizes;
+      overwriting = o;
+      in_table = latest-in o c.requires.item_bound (rw c.ring_size-n.ensures.is f);
+    }
 
 pub returns : goal.returns
 returns c =

@@ -12,7 +12,8 @@ returns-then-m-item c =
 
 pub returns-then-category-ne-CONDITION : goal.returns-then-category-ne-CONDITION
 returns-then-category-ne-CONDITION c =
-    over_plain _ _ _ _ _ _ c.item_of-item.ensures (omega arith) (λ e. c.if-category-ne-CONDITION.true (c.category.ensures ∙ e))
+    over_plain _ _ _ _ _ _ c.item_of-item.ensures (omega arith)
+    (λ e. c.if-category-ne-CONDITION.true (c.category.ensures ∙ e))
 
 pub returns : goal.returns
 returns c =

@@ -10,11 +10,21 @@ loop-item-init c =
 
 pub evict-requires : goal.evict-requires
 evict-requires c =
-    let f = c.loop-item.invariant in record { sizes = c.requires.sizes; overwriting = filling-fits f c.requires.starting; p_value = filling-place f c.requires.starting }
+    let f = c.loop-item.invariant in
+    record {
+      sizes = c.requires.sizes;
+      overwriting = filling-fits f c.requires.starting;
+      p_value = filling-place f c.requires.starting;
+    }
 
 pub put_number-requires : goal.put_number-requires
 put_number-requires c =
-    let f = c.loop-item.invariant in record { p_lt_n = ((filling-place f c.requires.starting).1, c.requires.starting.n_max); item_lt_m = (omega arith, omega arith); st_len = rw c.items-m.ensures.0 (filling-words f c.evict.ensures) }
+    let f = c.loop-item.invariant in
+    record {
+      p_lt_n = ((filling-place f c.requires.starting).1, c.requires.starting.n_max);
+      item_lt_m = (omega arith, omega arith);
+      st_len = rw c.items-m.ensures.0 (filling-words f c.evict.ensures);
+    }
 
 pub overflow_add-p : goal.overflow_add-p
 overflow_add-p c =

@@ -27,7 +27,14 @@ returns-then-items-change c =
 
 pub keep_changed-requires : goal.keep_changed-requires
 keep_changed-requires c =
-    let ok = told c.asset_ok.ensures c.if-not-asset_ok.false in record { sizes = c.requires.sizes; head = c.requires.head; asset_head = c.requires.asset_head; body_value = ok; change_value = (c.change_item-change.ensures.0, omega (arith, c.items.ensures.0)) }
+    let ok = told c.asset_ok.ensures c.if-not-asset_ok.false in
+    record {
+      sizes = c.requires.sizes;
+      head = c.requires.head;
+      asset_head = c.requires.asset_head;
+      body_value = ok;
+      change_value = (c.change_item-change.ensures.0, omega (arith, c.items.ensures.0));
+    }
 
 pub returns : goal.returns
 unfolding keep_asset

@@ -17,7 +17,14 @@ overflow_cast-cell c =
 
 pub add-requires : goal.add-requires
 add-requires c =
-    let room = told c.room_for-verdict.ensures c.in-Fine.is in record { sizes = c.requires.sizes; head = c.requires.head; st_value = room; item_bound = c.requires.change_value.1; item_value = change-latest _ _ _ _ c.requires.change_value.0 c.requires.change_value.1 }
+    let room = told c.room_for-verdict.ensures c.in-Fine.is in
+    record {
+      sizes = c.requires.sizes;
+      head = c.requires.head;
+      st_value = room;
+      item_bound = c.requires.change_value.1;
+      item_value = change-latest _ _ _ _ c.requires.change_value.0 c.requires.change_value.1;
+    }
 
 pub returns-in-Refused : goal.returns-in-Refused
 returns-in-Refused c =
