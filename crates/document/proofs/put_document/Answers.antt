@@ -4,10 +4,6 @@ use Rattle.row_groups.proofs.Laws.{words-ok}
 use Rattle.document.proofs.Laws.{put_is, document-text}
 use Rattle.document.proofs.put_document.Goals as goal
 
-pub put_start-p-requires : goal.put_start-p-requires
-put_start-p-requires c =
-    tt
-
 pub put_header-q-requires : goal.put_header-q-requires
 put_header-q-requires c =
     words-ok _ _ c.requires.documented.accepted
@@ -15,10 +11,6 @@ put_header-q-requires c =
 pub put_streams-r-requires : goal.put_streams-r-requires
 put_streams-r-requires c =
     record { documented = c.requires.documented; marked = c.requires.marked }
-
-pub put_bytes-requires : goal.put_bytes-requires
-put_bytes-requires c =
-    tt
 
 pub returns : goal.returns
 returns c =

@@ -5,10 +5,6 @@ use Rattle.reply_rows.proofs.Laws.{words-length}
 use Rattle.document.proofs.Laws.{put_is, header-text}
 use Rattle.document.proofs.put_header.Goals as goal
 
-pub put_given-p-requires : goal.put_given-p-requires
-put_given-p-requires c =
-    tt
-
 pub bounds-reply-3 : goal.bounds-reply-3
 bounds-reply-3 c =
     omega (arith, words-length c.args.reply.now c.requires)
@@ -20,14 +16,6 @@ bounds-reply-1 c =
 pub bounds-reply-2 : goal.bounds-reply-2
 bounds-reply-2 c =
     omega (arith, words-length c.args.reply.now c.requires)
-
-pub put_numbers-q-requires : goal.put_numbers-q-requires
-put_numbers-q-requires c =
-    tt
-
-pub put_bytes-requires : goal.put_bytes-requires
-put_bytes-requires c =
-    tt
 
 pub returns : goal.returns
 returns c =

@@ -8,17 +8,9 @@ pub rows-requires : goal.rows-requires
 rows-requires c =
     words-ok _ _ c.requires.documented.accepted
 
-pub put_bytes-requires : goal.put_bytes-requires
-put_bytes-requires c =
-    tt
-
 pub returns-then-rows-eq0 : goal.returns-then-rows-eq0
 returns-then-rows-eq0 c =
     put_is (none-text _ _ c.args.reply.now _ c.rows.ensures.0 c.if-rows-eq0.true) c.put_bytes.ensures
-
-pub put_bytes-p-requires : goal.put_bytes-p-requires
-put_bytes-p-requires c =
-    tt
 
 pub put_device-q-requires : goal.put_device-q-requires
 put_device-q-requires c =
@@ -27,10 +19,6 @@ put_device-q-requires c =
 pub put_components-r-requires : goal.put_components-r-requires
 put_components-r-requires c =
     record { documented = c.requires.documented; marked = c.requires.marked }
-
-pub put_bytes-requires-2 : goal.put_bytes-requires-2
-put_bytes-requires-2 c =
-    tt
 
 pub returns : goal.returns
 returns c =

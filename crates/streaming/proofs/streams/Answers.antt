@@ -5,10 +5,6 @@ use Rattle.row_groups.proofs.Laws.{words-ok}
 use Rattle.streaming.proofs.Laws.{model-refused, reply-refused, times-refused, passed}
 use Rattle.streaming.proofs.streams.Goals as goal
 
-pub model_ok-requires : goal.model_ok-requires
-model_ok-requires c =
-    tt
-
 pub returns-then-not-model_ok : goal.returns-then-not-model_ok
 returns-then-not-model_ok c =
     model-refused _ _ _ _ _ _ _ (told c.model_ok.ensures c.if-not-model_ok.true)
