@@ -26,7 +26,10 @@ returns-then-not-head_ok c =
 
 pub observe_reading-requires : goal.observe_reading-requires
 observe_reading-requires c =
-    record { sizes = (checked _ _ (told c.model_ok.ensures c.if-not-model_ok.false)).sizes; head = head _ _ (head-told c.items-m.ensures.0 _ c.head_ok.ensures c.if-not-head_ok.false) }
+    record {
+      sizes = (checked _ _ (told c.model_ok.ensures c.if-not-model_ok.false)).sizes;
+      head = head _ _ (head-told c.items-m.ensures.0 _ c.head_ok.ensures c.if-not-head_ok.false);
+    }
 
 pub returns : goal.returns
 unfolding observe_line

@@ -24,7 +24,10 @@ returns-then-items-item c =
 
 pub category-requires : goal.category-requires
 category-requires c =
-    record { sizes = (checked _ _ (told c.model_ok.ensures c.if-not-model_ok.false)).sizes; j_bound = rw c.items.ensures.0 at c.if-items-item.false }
+    record {
+      sizes = (checked _ _ (told c.model_ok.ensures c.if-not-model_ok.false)).sizes;
+      j_bound = rw c.items.ensures.0 at c.if-items-item.false;
+    }
 
 pub returns-then-not-takes : goal.returns-then-not-takes
 returns-then-not-takes c =
