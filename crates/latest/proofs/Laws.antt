@@ -170,7 +170,8 @@ formed cat m st selection i =
 pub record Beyond (cat : ℕ → ℕ) (m : ℕ) (st : List ℕ) (selection c i : ℕ) : Type 0 where
   pub high : i ≤ m
   pub ok : current_ok cat (ring_size st) m st selection ≡ every (formed cat m st selection) (m - i) i
-  pub rows : c + extra_rows (bit selection) (latest_rows cat (ring_size st) m st) (m - i) i ≡ all_extra cat m st selection
+  pub rows : c + extra_rows (bit selection) (latest_rows cat (ring_size st) m st) (m - i) i
+      ≡ all_extra cat m st selection
 
 pub beyond-start : (cat : ℕ → ℕ) (m : ℕ) (st : List ℕ) (selection : ℕ) → Beyond cat m st selection 0 0
 unfolding current_ok

@@ -131,7 +131,8 @@ module _ (steps m : ℕ) (st : List ℕ) (f s e q : ℕ) (l : List ℕ) (h : s <
       let z : e - s ≡ suc (e - (s + 1)) = omega arith in
       rw (z, add-one s) (ap (pass_marks steps st f (e - suc s) (suc s)) same)
 
-  plain_ok : item_of (word_at st q) < m → pass_ok steps m st f (e - s) s l ≡ pass_ok steps m st f (e - (s + 1)) (s + 1) l
+  plain_ok : item_of (word_at st q) < m
+      → pass_ok steps m st f (e - s) s l ≡ pass_ok steps m st f (e - (s + 1)) (s + 1) l
   unfolding pass_ok stepped_ok
   plain_ok g =
       let z : e - s ≡ suc (e - (s + 1)) = omega arith in

@@ -54,7 +54,8 @@ pick-marks steps st f s (suc k) j l =
     (λ b. rw (b, q) (pick-marks steps st f s k (suc j) l))
 
 -- where all items are the model's, they pass where the picks are no ninth entries
-pick-ok : (steps m : ℕ) (st : List ℕ) (f s k j : ℕ) (l : List ℕ) → ring_ok (ring_size st) m (base st) st k (s + j) ≡ true
+pick-ok : (steps m : ℕ) (st : List ℕ) (f s k j : ℕ) (l : List ℕ)
+    → ring_ok (ring_size st) m (base st) st k (s + j) ≡ true
     → pass_ok steps m st f k (s + j) l ≡ pick_ok st f s (picked steps st s k j) l
 unfolding picked pick_ok pass_ok stepped_ok ring_ok every
 pick-ok steps m st f s zero j l o = refl

@@ -1,5 +1,6 @@
 -- The marks and the newest places behind numbers of the ring, one number at a time.
-use Rattle.std.specs.Prelude.{ℕ, zero, suc, ◌+◌, ◌-◌, ◌*◌, ◌≤◌, ◌≡◌, Bool, true, cond, ◌&&◌, ◌||◌, not, List, ltb, get_or, set}
+use Rattle.std.specs.Prelude.{ℕ, zero, suc, ◌+◌, ◌-◌, ◌*◌, ◌≤◌, ◌≡◌, Bool, true, cond, ◌&&◌, ◌||◌, not, List}
+use Rattle.std.specs.Prelude.{ltb, get_or, set}
 use Rattle.std.proofs.lemmas.List.Edits.{sets}
 use Rattle.spec.specs.Words.{bit}
 use Rattle.spec.specs.Value.{item_of}

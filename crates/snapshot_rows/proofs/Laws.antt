@@ -26,7 +26,8 @@ places_from l i j = used_places (drop j (eight_at l (8 * i)))
 
 module _ (l : List ℕ) (i j : ℕ) (h : 8 * i + 8 ≤ length l) where
   next : j < 8 → used_places (drop j (eight_at l (8 * i)))
-      ≡ cond (eqb (place_in (get_or l (8 * i + j) 0)) 0) [] (place_in (get_or l (8 * i + j) 0) ∷ places_from l i (j + 1))
+      ≡ cond (eqb (place_in (get_or l (8 * i + j) 0)) 0) []
+      (place_in (get_or l (8 * i + j) 0) ∷ places_from l i (j + 1))
   unfolding used_places
   next g =
       let n : j < length (eight_at l (8 * i)) = omega (arith, eight-length l (8 * i) h) in

@@ -40,7 +40,8 @@ zero-used (r ∷ rs) h = rw (and_left (eqb (get_or r 0 0) 0) _ (and_left (zero_r
 abbrev Zeros : List (List ℕ) → Type 0
 Zeros rs = each_row zero_row (drop (length (used_rows rs)) rs) ≡ true
 
-zeros-none : (r : List ℕ) (rs : List (List ℕ)) → Zeros (r ∷ rs) → eqb (get_or r 0 0) 0 ≡ true → each_row zero_row rs ≡ true
+zeros-none : (r : List ℕ) (rs : List (List ℕ)) → Zeros (r ∷ rs) → eqb (get_or r 0 0) 0 ≡ true
+    → each_row zero_row rs ≡ true
 unfolding each_row used_rows
 zeros-none r rs h t = and_right (zero_row r) _ (rw t at h)
 
@@ -73,7 +74,8 @@ module _ (m : ℕ) (st : List ℕ) (f i : ℕ) where
       rw (lt-ltb (suc j) 9 (omega arith), q)
 
   first_rows_lem : (n j : ℕ) → j + n ≤ 8 → Zeros (table_rows st (checkpoint_at (ring_size st) m) (8 * m) n (8 * i + j))
-      → map (row_in m st f i) (marks_of i (suc j) (table_rows st (checkpoint_at (ring_size st) m) (8 * m) n (8 * i + j)))
+      → map (row_in m st f i)
+      (marks_of i (suc j) (table_rows st (checkpoint_at (ring_size st) m) (8 * m) n (8 * i + j)))
       ≡ padded n (used_rows (table_rows st (checkpoint_at (ring_size st) m) (8 * m) n (8 * i + j)))
   unfolding marks_of used_rows padded table_rows
   first_rows_lem zero j l h = refl
@@ -90,7 +92,8 @@ module _ (m : ℕ) (st : List ℕ) (f i : ℕ) where
       (λ c.
       let q = mark-place (suc j) (key_of i (packed r)) (key-small i (packed r)) in
       rw (c, q, ne_eqb (suc j) 0 (λ e. omega arith), first-row j (omega arith))
-      (ap (λ (y : List (List ℕ)). r ∷ y) (rw e at (first_rows_lem n (suc j) (omega arith) (rw e (zeros-some r rs h c))))))
+      (ap (λ (y : List (List ℕ)). r ∷ y)
+      (rw e at (first_rows_lem n (suc j) (omega arith) (rw e (zeros-some r rs h c))))))
 
   -- the marks of a checkpoint in its written form hold its used entries
   pub first-holding : form_ok i 0 (item_rows st (checkpoint_at (ring_size st) m) m i) ≡ true

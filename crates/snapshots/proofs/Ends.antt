@@ -10,8 +10,8 @@ use Rattle.spec.specs.Words.{bit, every}
 use Rattle.spec.specs.Model.{max_items}
 use Rattle.spec.specs.Blocks.{flat_rows}
 use Rattle.spec.specs.Entries.{used_rows, form_ok}
-use Rattle.history.specs.Observations.{Head, max_ring, ring_size, base, checkpoint_at, item_rows, item_row, is_condition}
-use Rattle.history.specs.Observations.{ring_ok, held_entries, newest_in, if_used, at_rows, at_ok}
+use Rattle.history.specs.Observations.{Head, max_ring, ring_size, base, checkpoint_at, item_rows, item_row}
+use Rattle.history.specs.Observations.{is_condition, ring_ok, held_entries, newest_in, if_used, at_rows, at_ok}
 use Rattle.spec.proofs.Words.{by-test, and_left, and_right, not_so, every-at, every_of}
 use Rattle.spec.proofs.Bits.{set-bit}
 use Rattle.marks.specs.Marks.{eight_at}
@@ -162,8 +162,8 @@ module _ (cat : ℕ → ℕ) (selection m : ℕ) (st : List ℕ) (f k : ℕ) (fe
 -- ---- what the calls answer, n being how many items the model has
 
 -- the newest places make marks
-pub seen-marks : (m : ℕ) (st : List ℕ) (f k : ℕ) {w x : List ℕ} → Head m st → k ≤ ring_size st → w ≡ replicate max_items 0
-    → x ≡ seen_from st f k f w → (i : ℕ) → get_or x i 0 + 1 < 2 ^ 31
+pub seen-marks : (m : ℕ) (st : List ℕ) (f k : ℕ) {w x : List ℕ} → Head m st → k ≤ ring_size st
+    → w ≡ replicate max_items 0 → x ≡ seen_from st f k f w → (i : ℕ) → get_or x i 0 + 1 < 2 ^ 31
 seen-marks m st f k h g ew ex i =
     let top = max_ring + 9 in
     let low = seen_low st f top k f (replicate max_items 0) (omega (arith, h.n_max)) (zeros-low top max_items) in

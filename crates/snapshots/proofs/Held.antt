@@ -124,7 +124,8 @@ module _ (steps m : ℕ) (st : List ℕ) (f : ℕ) (few : m ≤ max_items) where
   -- they are behind number s
   abbrev pub entries_next : ℕ → (ℕ → List (List ℕ)) → ℕ → List (List ℕ)
   entries_next s es i =
-      cond (eqb (item_at (ring_size st) (base st) st s) i) (step i (es i) (numbered (ring_size st) (base st) st s)) (es i)
+      cond (eqb (item_at (ring_size st) (base st) st s) i) (step i (es i) (numbered (ring_size st) (base st) st s))
+      (es i)
 
   module _ (s : ℕ) (l : List ℕ) (len : length l ≡ 8 * max_items) (h : f ≤ s)
       (own : item_at (ring_size st) (base st) st s < m) where

@@ -19,7 +19,8 @@ write_entries-c-requires c =
     let h : c.loop-i.i < items c.args.model.now = omega arith in record {
       table = latest-table _ _ c.requires.head c.items-m.ensures.0 c.ring_size.ensures.is c.latest_at-t.ensures h;
       x_bound = (
-        entries-room v h (told c.has.ensures c.if-has.true) c.items-m.ensures.0 c.ring_size.ensures.is c.latest_at-t.ensures
+        entries-room v h (told c.has.ensures c.if-has.true) c.items-m.ensures.0 c.ring_size.ensures.is
+            c.latest_at-t.ensures
             (told c.category.ensures c.if-category-eq-CONDITION.true),
         omega (arith, v.put.len, c.requires.k_in_bounds),
       );
@@ -31,7 +32,8 @@ write_first-requires c =
     let h : c.loop-i.i < items c.args.model.now = omega arith in record {
       table = latest-table _ _ c.requires.head c.items-m.ensures.0 c.ring_size.ensures.is c.latest_at-t.ensures h;
       done_lt_k = (
-        first-room v h (told c.has.ensures c.if-has.true) c.items-m.ensures.0 c.ring_size.ensures.is c.latest_at-t.ensures
+        first-room v h (told c.has.ensures c.if-has.true) c.items-m.ensures.0 c.ring_size.ensures.is
+            c.latest_at-t.ensures
             (λ z. c.if-category-eq-CONDITION.false (c.category.ensures ∙ z)),
         omega (arith, v.put.len, c.requires.k_in_bounds),
       );

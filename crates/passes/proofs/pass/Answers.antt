@@ -30,7 +30,8 @@ pass_run-requires-2 c =
         record { seen = omega (arith, w.1.0); picks = search rules; marks = omega (arith, w.1.1) },
       );
       part = record {
-        run = run-to c.runs-r.ensures.back (omega (arith, c.runs-r.ensures.high)) (omega (arith, c.runs-r.ensures.high));
+        run = run-to c.runs-r.ensures.back (omega (arith, c.runs-r.ensures.high))
+            (omega (arith, c.runs-r.ensures.high));
         from = c.runs-r.ensures.low;
         near = omega (arith, c.runs-r.ensures.high, c.requires.st_bound.1.1);
       };

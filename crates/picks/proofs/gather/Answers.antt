@@ -31,4 +31,5 @@ shape_of-picks c =
 
 pub returns : goal.returns
 returns c =
-    let w = gathering-end c.loop-x.invariant c.loop-x-test.false c.requires.s_le_e.1 in record { value = w.0; gathered = λ z. w.1 }
+    let w = gathering-end c.loop-x.invariant c.loop-x-test.false c.requires.s_le_e.1 in
+    record { value = w.0; gathered = λ z. w.1 }

@@ -40,8 +40,10 @@ step_item-requires c =
     let w = stepping-pick c.loop-j.invariant c.loop-j-test.true in
     let i = stepping-item c.loop-j.invariant c.loop-j-test.true c.ring_size-n.ensures.is
     c.ring_word-word.ensures c.item_of.ensures in
-    let v = c.loop-j.invariant in
-    (omega (arith, i, c.requires.m_le_max_items.0), (omega (arith, w.near, c.requires.head.n_max, c.requires.f_le_s.0), v.len))
+    let v = c.loop-j.invariant in (
+      omega (arith, i, c.requires.m_le_max_items.0),
+      (omega (arith, w.near, c.requires.head.n_max, c.requires.f_le_s.0), v.len),
+    )
 
 pub shape_of-marks-then-not-step_item : goal.shape_of-marks-then-not-step_item
 shape_of-marks-then-not-step_item c =

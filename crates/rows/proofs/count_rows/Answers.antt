@@ -6,12 +6,14 @@ use Rattle.rows.proofs.count_rows.Goals as goal
 
 pub returns-in_default : goal.returns-in_default
 returns-in_default c =
-    front-broken _ _ _ _ _ _ c.runs-r.ensures.low c.runs-r.ensures.high (sym c.in_default.is ∙ c.count_run-front.ensures)
+    front-broken _ _ _ _ _ _ c.runs-r.ensures.low c.runs-r.ensures.high
+    (sym c.in_default.is ∙ c.count_run-front.ensures)
 
 pub returns-in_default-back : goal.returns-in_default-back
 returns-in_default-back c =
     let x = sym c.in-Count.is ∙ c.count_run-front.ensures in
-    back-broken _ _ _ _ _ _ c.runs-r.ensures.low c.runs-r.ensures.high x (sym c.in_default-back.is ∙ c.count_run-back.ensures)
+    back-broken _ _ _ _ _ _ c.runs-r.ensures.low c.runs-r.ensures.high x
+    (sym c.in_default-back.is ∙ c.count_run-back.ensures)
 
 pub overflow_add-result : goal.overflow_add-result
 overflow_add-result c =
@@ -22,4 +24,5 @@ overflow_add-result c =
 pub returns : goal.returns
 returns c =
     let x = sym c.in-Count.is ∙ c.count_run-front.ensures in
-    both-counted _ _ _ _ _ _ c.runs-r.ensures.low c.runs-r.ensures.high x (sym c.in-Count-back.is ∙ c.count_run-back.ensures)
+    both-counted _ _ _ _ _ _ c.runs-r.ensures.low c.runs-r.ensures.high x
+    (sym c.in-Count-back.is ∙ c.count_run-back.ensures)
