@@ -115,7 +115,8 @@ module _ (i place word : ℕ) (l : List ℕ) where
       ∙ (sym ex ∙ z)))
 
   pub change-step : {c : Change} {y k : ℕ} {r : List ℕ} → c ≡ change_for i (eight_at l (8 * i)) word
-      → y ≡ mark_of place k → k ≡ key_of i word → r ≡ sets l (8 * i) (changed 0 c y (eight_at l (8 * i))) → r ≡ stepped_at i place word l
+      → y ≡ mark_of place k → k ≡ key_of i word
+      → r ≡ sets l (8 * i) (changed 0 c y (eight_at l (8 * i))) → r ≡ stepped_at i place word l
   change-step ec ey ek er = er ∙ rw (ey, ek, ec)
 
 -- of a Warning or Fault, k being its key, where x, the first mark's, isn't 0

@@ -86,7 +86,8 @@ module _ {p : ℕ → Bool} {v : ℕ → List ℕ} {f e k d z : ℕ} {o l : List
             r.all
             ∙ (ap (rows_at l c a) g
             ∙ rw eb
-            (rows_more l c a (x ∷ y ∷ w ∷ []) (pick_rows p v (e - (s + 1)) (s + 1)) (omega (arith, r.fits, n, r.pair))));
+            (rows_more l c a (x ∷ y ∷ w ∷ []) (pick_rows p v (e - (s + 1)) (s + 1))
+            (omega (arith, r.fits, n, r.pair))));
       }
 
   pub writing-skip : s < e → p s ≡ false → Writing p v f e k d z o l c a (s + 1)
