@@ -24,12 +24,13 @@ use Rattle.lines.specs.declared.Line.TheVariants.{Malformed, BadStamp, Reads}
 -- ---- what they compute with
 
 unfoldable pub opened_stamps : Unit {0}
-unfolding month_length month_start real_date day_number time_of cycle_month cycle_day cycle_age date_of formed date_in date_text
+unfolding month_length month_start real_date day_number time_of cycle_month cycle_day cycle_age date_of formed date_in
+    date_text
 opened_stamps = tt
 
 unfoldable pub opened_lines : Unit {0}
-unfolding by_point decimal_form state_form by_colon form_of line_in by_bar read_line value_for part_text point_text value_text
-    stamp_part line_of
+unfolding by_point decimal_form state_form by_colon form_of line_in by_bar read_line value_for part_text point_text
+    value_text stamp_part line_of
 opened_lines = tt
 
 unfoldable pub opened : Unit {0}

@@ -214,7 +214,8 @@ mixed_lines =
     ∷ bytes "</MTConnectStreams>"
     ∷ []
 
-pub mixed-document : document mixed_model mixed_names mixed_reply 131072 18446744073709551615 max_time ≡ ended mixed_lines
+pub mixed-document : document mixed_model mixed_names mixed_reply 131072 18446744073709551615 max_time
+    ≡ ended mixed_lines
 unfolding opened_streams
 mixed-document = refl
 

@@ -187,8 +187,8 @@ module _ (model names : List ℕ) where
   group_lines_lem : (g : ℕ) (rows : List Row) → AllOf line_byte (group_lines model names g rows)
   unfolding group_lines all line_byte inner_byte fill_byte name_byte
   group_lines_lem g rows =
-      all_of-between _ (tag (group_name g)) (end_tag (group_name g)) (row_lines model names g rows) (both g).0 (both g).1
-      (rows-lines g rows)
+      all_of-between _ (tag (group_name g)) (end_tag (group_name g)) (row_lines model names g rows)
+      (both g).0 (both g).1 (rows-lines g rows)
     where
       both : (g : ℕ) → Line (tag (group_name g)) × Line (end_tag (group_name g))
       both zero = (refl, refl)

@@ -261,7 +261,8 @@ module _ (reply : List ℕ) (N instance creation : ℕ) where
       (next-cut (bytes "version") (bytes "1.2") next refl refl
       (next-cut (bytes "nextSequence") (decimal (get_or reply 3 0)) first refl (decimal-fill (get_or reply 3 0))
       (next-cut (bytes "firstSequence") (decimal (get_or reply 1 0)) last refl (decimal-fill (get_or reply 1 0))
-      (next-cut (bytes "lastSequence") (decimal (get_or reply 2 0)) end refl (decimal-fill (get_or reply 2 0)) refl)))))))
+      (next-cut (bytes "lastSequence") (decimal (get_or reply 2 0)) end refl (decimal-fill (get_or reply 2 0))
+      refl)))))))
 
   -- what a header's line is to give
   abbrev pub header_of : Header

@@ -6,7 +6,15 @@ use Rattle.calendar.proofs.time_of.Goals as goal
 
 pub day_number-days-requires : goal.day_number-days-requires
 day_number-days-requires c =
-    record { le_y = omega (arith, real-bounds c.args.d c.requires, month-max (leap c.args.d.year) c.args.d.month); y_bound = omega (arith, real-bounds c.args.d c.requires, month-max (leap c.args.d.year) c.args.d.month); le_m = omega (arith, real-bounds c.args.d c.requires, month-max (leap c.args.d.year) c.args.d.month); m_bound = omega (arith, real-bounds c.args.d c.requires, month-max (leap c.args.d.year) c.args.d.month); le_d = omega (arith, real-bounds c.args.d c.requires, month-max (leap c.args.d.year) c.args.d.month); d_bound = omega (arith, real-bounds c.args.d c.requires, month-max (leap c.args.d.year) c.args.d.month) }
+    let d = c.args.d in
+    record {
+      le_y = omega (arith, real-bounds d c.requires, month-max (leap d.year) d.month);
+      y_bound = omega (arith, real-bounds d c.requires, month-max (leap d.year) d.month);
+      le_m = omega (arith, real-bounds d c.requires, month-max (leap d.year) d.month);
+      m_bound = omega (arith, real-bounds d c.requires, month-max (leap d.year) d.month);
+      le_d = omega (arith, real-bounds d c.requires, month-max (leap d.year) d.month);
+      d_bound = omega (arith, real-bounds d c.requires, month-max (leap d.year) d.month);
+    }
 
 pub overflow_add-result : goal.overflow_add-result
 overflow_add-result c =

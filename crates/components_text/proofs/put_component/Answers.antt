@@ -13,7 +13,11 @@ returns-then-not-has_rows c =
 
 pub put_groups-q-requires : goal.put_groups-q-requires
 put_groups-q-requires c =
-    record { documented = c.requires.documented; marked = c.requires.marked; c_lt_max_components = omega (arith, c.requires.c_bound, c.requires.documented.checked.sizes.c_max) }
+    record {
+      documented = c.requires.documented;
+      marked = c.requires.marked;
+      c_lt_max_components = omega (arith, c.requires.documented.checked.sizes.c_max);
+    }
 
 pub returns : goal.returns
 returns c =

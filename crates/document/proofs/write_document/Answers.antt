@@ -14,7 +14,8 @@ put_document-k-requires c =
 
 pub returns-then-text-k : goal.returns-then-text-k
 returns-then-text-k c =
-    let whole = too_short _ _ _ _ c.put_document-k.ensures (omega arith) in record { text_after = whole.0; value = whole.1 }
+    let whole = too_short _ _ _ _ c.put_document-k.ensures (omega arith) in
+    record { text_after = whole.0; value = whole.1 }
 
 pub put_document-requires : goal.put_document-requires
 put_document-requires c =
@@ -22,5 +23,6 @@ put_document-requires c =
 
 pub returns : goal.returns
 returns c =
-    let whole = fitting _ _ _ _ c.put_document-k.ensures (omega (arith, c.well_formed.1.1.1.1.1.1)) c.if-text-k.false _ _
-    c.put_document.ensures in record { text_after = whole.0; value = whole.1 }
+    let whole = fitting _ _ _ _ c.put_document-k.ensures (omega arith) c.if-text-k.false _ _
+    c.put_document.ensures in
+    record { text_after = whole.0; value = whole.1 }

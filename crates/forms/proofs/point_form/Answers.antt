@@ -13,13 +13,11 @@ returns-in_default-number_of c =
 
 pub scaled-requires : goal.scaled-requires
 scaled-requires c =
-    let k = numbered 3 999 _ _ _ c.number_of-2.ensures c.in-Is-number_of.is in record { n_bound = k.small; le_digits = k.some-digit }
+    let k = numbered 3 999 _ _ _ c.number_of-2.ensures c.in-Is-number_of.is in
+    record { n_bound = k.small; le_digits = k.some-digit }
 
 pub returns : goal.returns
 returns c =
-    let j = numbered 10 9999999999 _ _ _
-    c.number_of.ensures
-    c.in-Is.is in
-    let k = numbered 3 999 _ _ _ c.number_of-2.ensures
-    c.in-Is-number_of.is in
+    let j = numbered 10 9999999999 _ _ _ c.number_of.ensures c.in-Is.is in
+    let k = numbered 3 999 _ _ _ c.number_of-2.ensures c.in-Is-number_of.is in
     rw (j.test, k.test, j.value, c.scaled.ensures, k.value)

@@ -9,7 +9,11 @@ use Rattle.row_groups.proofs.put_groups.Goals as goal
 
 pub put_group-requires : goal.put_group-requires
 put_group-requires c =
-    record { documented = c.requires.documented; marked = c.requires.marked; c_lt_max_components = (c.requires.c_lt_max_components, omega arith) }
+    record {
+      documented = c.requires.documented;
+      marked = c.requires.marked;
+      c_lt_max_components = (c.requires.c_lt_max_components, omega arith);
+    }
 
 pub returns : goal.returns
 returns c =

@@ -10,7 +10,8 @@ use Rattle.row_groups.proofs.put_rows.Given as goal
 
 abbrev pub invariant-loop-i : goal.invariant-loop-i
 invariant-loop-i l =
-    (l.i ≤ l.k) × Put l.initial.out l.at (kept_text l.model l.names l.c l.g (map row_in (take l.i (rows_of l.reply)))) l.out l.p
+    let text = kept_text l.model l.names l.c l.g (map row_in (take l.i (rows_of l.reply))) in
+    (l.i ≤ l.k) × Put l.initial.out l.at text l.out l.p
 
 abbrev pub decreases-loop-i : goal.decreases-loop-i
 decreases-loop-i l = l.k - l.i
