@@ -133,28 +133,42 @@ words_unlisted() {
     done
 }
 
-# Bytes of an archive's 16-byte constants that are parts of the byte strings in .ci/words: fixed texts that the code
-# writes. Shorter parts of them are numbers in the code.
+# Of the sections that hold an archive's 16-byte constants or one of its fixed texts, a line each: the name and the bytes
+# that are parts of the byte strings in .ci/words: texts that the code writes. Shorter parts of them among the 16-byte
+# constants are numbers in the code.
 archive_texts() { # ARCHIVE
-    [ -f .ci/words ] || { echo 0; return; }
+    [ -f .ci/words ] || return 0
     {
         sed -n 's/^b"\(.*\)"$/\1/p' .ci/words | while IFS= read -r word; do
             printf '%b' "$(printf '%s' "$word" | sed 's/\\"/"/g')" | od -An -v -tx1 | tr -d ' \n'
             echo
         done
-        echo
-        LC_ALL=C objdump -s -j .rodata.cst16 "$1" 2>/dev/null |
-            LC_ALL=C sed -n 's/^ [0-9a-f]* \([0-9a-f]\{8\}\) \([0-9a-f]\{8\}\) \([0-9a-f]\{8\}\) \([0-9a-f]\{8\}\) .*/\1\2\3\4/p'
+        LC_ALL=C size -A -d "$1" 2>/dev/null | LC_ALL=C awk '$1 ~ /^\.rodata(\.cst16$|\.\.Lstatic\.)/ { print $1 }' |
+            while read -r section; do
+                echo "section $section"
+                LC_ALL=C objdump -s -j "$section" "$1" 2>/dev/null |
+                    LC_ALL=C sed -n 's/^ [0-9a-f]* \([0-9a-f ]*\)  .*/\1/p' | tr -d ' '
+            done
     } | LC_ALL=C awk '
-        constants == 0 && $0 == "" { constants = 1; next }
-        constants == 0 { word[++words] = $0; next }
-        {
+        function is_text(bytes,    w, at) {
             for (w = 1; w <= words; w++) {
-                at = index(word[w], $0)
-                if (at % 2 == 1) { bytes += 16; break }
+                at = index(word[w], bytes)
+                if (at % 2 == 1) return 1
             }
+            return 0
         }
-        END { print bytes + 0 }
+        function closed() {
+            if (section != "" && held != "" && is_text(held)) texts[section] += length(held) / 2
+            held = ""
+        }
+        $1 == "section" { closed(); section = $2; order[++sections] = section; next }
+        section == "" { word[++words] = $0; next }
+        section ~ /cst16$/ { if (length($0) == 32 && is_text($0)) texts[section] += 16; next }
+        { held = held $0 }
+        END {
+            closed()
+            for (s = 1; s <= sections; s++) print order[s], texts[order[s]] + 0
+        }
     '
 }
 
@@ -163,15 +177,19 @@ archive_texts() { # ARCHIVE
 # count as code, wherever the compiler puts them.
 archive_bytes() { # ARCHIVE
     [ -f "$1" ] && LC_ALL=C size -A -d "$1" 2>/dev/null | LC_ALL=C awk -v texts="$(archive_texts "$1")" '
+        BEGIN {
+            lines = split(texts, line, "\n")
+            for (l = 1; l <= lines; l++) { split(line[l], part, " "); text[part[1]] = part[2] }
+        }
         $1 !~ /^\./ || $2 !~ /^[0-9]+$/ { next }
         $1 ~ /^\.(comment|note|llvm_addrsig|debug|symtab|strtab|shstrtab)/ { next }
         { kind = "constants"; known = 1 }
         $1 ~ /^\.text/ { kind = "code" }
         $1 ~ /^\.(data|bss|tdata|tbss)/ && $1 !~ /^\.data\.rel\.ro/ { kind = "data" }
-        $1 == ".rodata.cst16" && texts > 0 {
-            $2 -= texts
-            bytes["code"] += texts
-            print "section code texts", texts
+        text[$1] > 0 {
+            $2 -= text[$1]
+            bytes["code"] += text[$1]
+            print "section code texts", text[$1]
         }
         { bytes[kind] += $2; if ($2 > 0) print "section", kind, $1, $2 }
         END {
