@@ -4,7 +4,8 @@
 usage: python3 tools/snake_names.py        at the top of the repository, once, behind the kit's port.py
 
 A name of specs/ or proofs/ with a capital inside, as `refusalNumber`, is `refusal_number` behind it; the fields of
-records of specs/ that had a dash have `_`. A lemma whose name falls together with a definition's then ends in `_lem`.
+records of specs/ that had a dash have `_`, those of FIELDS here and the others by port.py. A lemma of LEMMAS, whose name
+falls together with a definition's, then ends in `_lem`; so does `item_name_lem` of spec, which was mended by hand.
 Turned are .antt files, what is not a string of .rt files, and the texts of must-fail edits. Functions, exported names,
 strings, inputs and outputs keep their names; so do the names of XML attributes in comments.
 """
