@@ -222,6 +222,8 @@ false_fact() { # WORDS
             said = $0
             sub(/^.*: error: `[^`]*`: /, "", said)
             if (said ~ /^(as printed|computed as far as they go), the two (types|sides) /) fact = 1
+            if (said ~ /^computed as a goal is, one side reads /) fact = 1
+            if (said ~ /^`.*` ≟ `.*`: does not hold /) fact = 1
             if (said ~ /^expected type `/) fact = 1
             if (said ~ /^`search`: no proof of /) fact = 1
             if (said ~ /^`rw`: no occurrence of /) fact = 1
