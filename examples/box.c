@@ -1,5 +1,5 @@
-/* A box around the core: a lathe with one axis, a few observations, a servo with two alarms at once, a tool, what
- * clients ask, and the document that they get. */
+/* A box around the core: a lathe with one axis, a few observations, a servo with two alarms at once, a tool, and what
+ * clients ask. */
 #include <inttypes.h>
 #include <stdio.h>
 #include <string.h>
@@ -25,7 +25,6 @@ static const uint32_t model[2 + COMPONENTS + ITEMS] = {
 static uint64_t observations[MTCORE_OBSERVATION_WORDS(N, ITEMS)];
 static uint8_t assets[MTCORE_ASSET_BYTES(A)];
 static uint64_t reply[MTCORE_REPLY_WORDS(MTCORE_CURRENT_ROWS(ITEMS, CONDITIONS))];
-static uint8_t document[MTCORE_STREAMS_BYTES(COMPONENTS, MTCORE_CURRENT_ROWS(ITEMS, CONDITIONS))];
 
 #define COUNT(x) (sizeof(x) / sizeof((x)[0]))
 #define MODEL model, COUNT(model), names[0], sizeof names
@@ -86,17 +85,6 @@ static void ask(const char *text) {
     }
 }
 
-/* the reply once more, as a client reads it; a box has its instanceId from the start of its numbers */
-static void print_document(uint64_t ms) {
-    const uint64_t instance = 1;
-    mtcore_answer r =
-        mtcore_streams(MODEL, reply, COUNT(reply), N, instance, seven + ms, document, sizeof document);
-    if (r.number != 0)
-        printf("\nrefused: %" PRIu64 "\n", r.number);
-    else
-        printf("\n%.*s", (int)r.count, (const char *)document);
-}
-
 int main(void) {
     mtcore_answer r = mtcore_start(MODEL, observations, COUNT(observations), assets, sizeof assets, N, A, 1, seven);
     printf("start   refusal %" PRIu64 "\n", r.number);
@@ -111,7 +99,6 @@ int main(void) {
 
     ask("/sample?from=7&count=2");
     ask("/current?path=//Axes");
-    print_document(650);
     ask("/sample?from=1");
 
     /* each alarm is cleared by its own code, and whatever stands by 0 */

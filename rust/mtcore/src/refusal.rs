@@ -104,7 +104,7 @@ type Entry = (u64, Refusal, &'static str, Option<&'static str>);
 /// The refusals that there are, each with its number, since 12 is none's.
 const TABLE: [Entry; 20] = [
     (1, Refusal::Model, "model or names break their rules", None),
-    (2, Refusal::Store, "a store or a reply is damaged or not the model's", Some("INTERNAL_ERROR")),
+    (2, Refusal::Store, "a store is damaged or not the model's", Some("INTERNAL_ERROR")),
     (3, Refusal::Size, "the stores' sizes do not go together", None),
     (4, Refusal::Item, "no such item", None),
     (5, Refusal::Kind, "the item does not take this value", None),
@@ -116,13 +116,13 @@ const TABLE: [Entry; 20] = [
     (11, Refusal::InvalidXpath, "INVALID_XPATH", Some("INVALID_XPATH")),
     (13, Refusal::AssetNotFound, "ASSET_NOT_FOUND", Some("ASSET_NOT_FOUND")),
     (14, Refusal::Asset, "the asset's id or body cannot be stored", None),
-    (15, Refusal::Space, "the buffer for reply, answers, line or document is too short", Some("TOO_MANY")),
+    (15, Refusal::Space, "the buffer for reply, answers or line is too short", Some("TOO_MANY")),
     (16, Refusal::Batch, "a delivery has too many records", None),
     (17, Refusal::Late, "late: the number is below first", Some("OUT_OF_RANGE")),
     (18, Refusal::Early, "early: the number is above last", Some("OUT_OF_RANGE")),
     (19, Refusal::Crowded, "eight other codes are active on the item", None),
     (20, Refusal::Line, "the line is not of the form stamp|item|value", None),
-    (21, Refusal::Stamp, "a date or time that there is not, or not of 1970 to 2099", Some("INTERNAL_ERROR")),
+    (21, Refusal::Stamp, "a date or time that there is not, or not of 1970 to 2099", None),
 ];
 
 impl Refusal {
@@ -276,7 +276,7 @@ mod tests {
         assert_eq!(Refusal::InvalidXpath.to_string(), "INVALID_XPATH");
         assert_eq!(Refusal::Crowded.to_string(), "eight other codes are active on the item");
         assert_eq!(Refusal::Line.to_string(), "the line is not of the form stamp|item|value");
-        assert_eq!((Refusal::Line.error_code(), Refusal::Stamp.error_code()), (None, Some("INTERNAL_ERROR")));
+        assert_eq!((Refusal::Line.error_code(), Refusal::Stamp.error_code()), (None, None));
         assert_eq!(Refusal::from_number(22).unwrap().to_string(), "refusal 22");
         assert_eq!(Refusal::from_number(22).unwrap().error_code(), None);
     }
