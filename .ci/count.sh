@@ -2,9 +2,8 @@
 # What the gate counts and measures, and how it reads the checker's logs: functions for .ci/run, bench/run and the
 # scripts in tests, in POSIX sh. All but those that are given a file want the repository's top as the working folder.
 
-# where rt leaves the archive of the C interface, and the program of the bench case
+# where rt leaves the archive of the C interface
 archive_made=crates/mtcore/out/libmtcore.a
-program_made=crates/benchcase/out/benchcase
 
 # the number of a bound in .ci/bounds; fails where there isn't exactly one
 bound() { # least|most NAME
