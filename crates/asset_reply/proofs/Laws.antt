@@ -7,11 +7,12 @@ use native.Mathlib.Numerals.{add-one}
 use native.Mathlib.Omega.{arith}
 use lib.ListN.{length, get_or, set, take, drop, length-set, length-drop, drop_of_length-le}
 use lib.Seq.{sets, drop-cons}
-use Rattle.spec.specs.Assets.{capacity, used, length_at, length_ok}
-use Rattle.spec.specs.Reply.{Replied, refuse, numbers, lengths, written, asset_words, asset_reply}
+use Rattle.spec.specs.Assets.{max_assets, capacity, used, length_at, length_ok}
+use Rattle.asset_reply.specs.Cells.{Cells}
+use Rattle.spec.specs.Reply.{refuse, numbers, lengths, written, asset_words, asset_reply}
 use Rattle.history.specs.Calls.{cell_rows, all_cells, cells_reply, down_from}
 use Rattle.spec.specs.declared.Refusal.TheVariants.{Store, Space}
-use Rattle.spec.specs.declared.Answer.TheVariants.{Done, Refused}
+use Rattle.std.specs.Prelude.{Ok, Err}
 use Rattle.spec.proofs.Reply.{length-numbers, length-lengths}
 use Rattle.reply.specs.Fitted.{Fitted}
 use Rattle.reply.proofs.Laws.{sets-set, short, whole}
@@ -104,7 +105,7 @@ module _ (bs : List ℕ) {reply x : List ℕ} {k u a : ℕ} {t : Bool} (w : Fitt
   row_words : 2 * k ≡ length (numbers (cell_rows bs cells)) + length (lengths (cell_rows bs cells))
   row_words = omega (arith, row_count, length-lengths (cell_rows bs cells), length-rows bs cells)
 
-  pub cells-short : t ≡ false → cells_reply bs cells reply ≡ record { answer = Refused Space; reply = x }
+  pub cells-short : t ≡ false → cells_reply bs cells reply ≡ record { answer = Err Space; reply = x }
   cells-short f = let rows = cell_rows bs cells in in_words ∙ short w (numbers rows) (lengths rows) row_words f
 
   -- y is the part behind the sizes as it comes back
@@ -112,7 +113,7 @@ module _ (bs : List ℕ) {reply x : List ℕ} {k u a : ℕ} {t : Bool} (w : Fitt
       → (let rows = cell_rows bs cells in
       y ≡ sets (sets (take (length x - 4) (drop 4 x)) 0 (numbers rows)) k (lengths rows))
       → cells_reply bs cells reply
-      ≡ record { answer = Done k; reply = take 4 x ++ (y ++ drop (length x - 4) (drop 4 x)) }
+      ≡ record { answer = Ok k; reply = take 4 x ++ (y ++ drop (length x - 4) (drop 4 x)) }
   cells_whole y fits ey =
       let rows = cell_rows bs cells in
       in_words ∙ whole w (numbers rows) (lengths rows) row_words row_count fits y ey
@@ -136,17 +137,9 @@ down-at zero i h = absurd (omega arith)
 down-at (suc n) zero h = omega arith
 down-at (suc n) (suc i) h = omega (arith, down-at n i (omega arith))
 
-pub next_down : (n : ℕ) → 0 < n → down_from n ≡ (n - 1) ∷ down_from (n - 1)
-unfolding down_from
-next_down zero h = absurd (omega arith)
-next_down (suc n) h = let z : suc n - 1 ≡ n = omega arith in rw z
-
-pub no-down : (n : ℕ) → n ≤ 0 → down_from n ≡ []
-unfolding down_from
-no-down zero h = refl
-no-down (suc n) h = absurd (omega arith)
-
--- all cells, where u is how many are used
-pub of-used : (bs reply : List ℕ) {u : ℕ} {o : Replied} → u ≡ used bs → cells_reply bs (down_from u) reply ≡ o
-    → cells_reply bs (down_from (used bs)) reply ≡ o
-of-used bs reply e h = sym (ap (λ (n : ℕ). cells_reply bs (down_from n) reply) e) ∙ h
+pub newest-cells : (bs : List ℕ) (u : ℕ) → u ≤ capacity bs → capacity bs ≤ max_assets → Cells bs (down_from u)
+newest-cells bs u h m =
+    record {
+      few = omega (arith, length-down u);
+      below = λ i l. let k : i < u = omega (arith, length-down u) in omega (arith, down-at u i k);
+    }

@@ -18,7 +18,7 @@ use Rattle.spec.specs.Assets.{renew, used_after, out_for, cell_for, store_cells}
 use Rattle.cells.proofs.Laws.{padded-length}
 use Rattle.spec.proofs.Assets.{id-max, given-up-room, given-up-max, used-after-more, used-after-max}
 use Rattle.assets.specs.Cells.{with_asset}
-use Rattle.spec.specs.declared.Place.TheVariants.{At, Nothing}
+use Rattle.std.specs.Prelude.{Some, None}
 use Rattle.spec.specs.Words.{first_where}
 use Rattle.spec.proofs.Words.{and_left, and_right, not_so, first-here, first_on, first-end}
 
@@ -137,7 +137,7 @@ length-max n e = leb-true n max_body (and_right (leb 1 n) _ e)
 -- any fault gives nothing
 pub no_place_lem : (bs id : List ℕ)
     → (asset_head_ok bs ≡ true → find bs id < used bs → length_ok (length_at bs (find bs id)) ≡ true → ⊥)
-    → Nothing ≡ body_place bs id
+    → None ≡ body_place bs id
 unfolding body_place
 no_place_lem bs id h =
     let i = find bs id in
@@ -149,14 +149,14 @@ no_place_lem bs id h =
 
 pub place_is : (bs id : List ℕ) (i b n : ℕ) → asset_head_ok bs ≡ true → i ≡ find bs id → i < used bs
     → b ≡ bodies_at (capacity bs) → n ≡ length_at bs i → length_ok n ≡ true
-    → At (b + i * cell_bytes + 2) n ≡ body_place bs id
+    → Some (record { start = b + i * cell_bytes + 2; len = n }) ≡ body_place bs id
 unfolding body_place
 place_is bs id i b n h ei l eb en g =
     let k : length_ok (length_at bs i) ≡ true = rw (sym en) g in
     rw (← ei, h, lt-ltb _ _ l, k, eb, en)
 
 pub wrong-length : (bs id : List ℕ) (i n : ℕ) (t : Bool) → i ≡ find bs id → n ≡ length_at bs i → t ≡ length_ok n
-    → t ≡ false → Nothing ≡ body_place bs id
+    → t ≡ false → None ≡ body_place bs id
 wrong-length bs id i n t ei en et f =
     no_place_lem bs id (λ h l g. false≢true (sym f ∙ et ∙ ap length_ok (en ∙ ap (length_at bs) ei) ∙ g))
 

@@ -1,13 +1,12 @@
 -- A place inside the store, and what one asset's writing leaves.
-use Rattle.std.specs.Prelude.{ℕ, ◌+◌, ◌≤◌, List, length, set}
+use Rattle.std.specs.Prelude.{ℕ, ◌+◌, ◌≤◌, List, length, set, Option, Some, None}
 use Rattle.spec.specs.Assets.{capacity, id_bytes, cell_bytes, ids_at, bodies_at, id_cell, body_cell, renew}
-use Rattle.spec.specs.declared.Place.{Place}
-use Rattle.spec.specs.declared.Place.TheVariants.{At, Nothing}
+use Rattle.spec.specs.declared.Span.{Span}
 
 -- a part that is there lies inside the bytes and isn't empty
-abbrev pub PlaceFits : List ℕ → Place → Type 0
-PlaceFits bs (At start n) = (start + n ≤ length bs) × (1 ≤ n)
-PlaceFits bs Nothing = Unit {0}
+abbrev pub PlaceFits : List ℕ → Option Span → Type 0
+PlaceFits bs (Some p) = (p.start + p.len ≤ length bs) × (1 ≤ p.len)
+PlaceFits bs None = Unit {0}
 
 -- storeCells, of the cell given up and the cells used then
 unfoldable pub with_asset : ℕ → ℕ → List ℕ → List ℕ → List ℕ → List ℕ

@@ -1,13 +1,18 @@
 // The asset store: its head, its ids, its bodies, and what store-asset and start write.
 #![tactic(auto)]
 
-ghost use Rattle.std.specs.Prelude.{◌≡◌, true, ◌<◌, ◌≤◌, length};
+ghost use Rattle.std.specs.Prelude.{◌≡◌, true, false, ◌<◌, ◌≤◌, length, MatchResult};
+ghost use Rattle.spec.specs.declared.Refusal.TheVariants.{Store as Refused};
 ghost use Rattle.spec.specs.Assets as spec;
-ghost use Rattle.spec.specs.Assets.{AssetHead, max_assets, id_bytes, max_body, capacity, used};
+ghost use Rattle.spec.specs.Assets.{AssetHead, max_assets, id_bytes, max_body, capacity};
 ghost use Rattle.assets.specs.Cells.{PlaceFits, with_asset};
 
-use scan::Class;
-use spec::{CELL_BYTES, ID_BYTES, MAX_ASSETS, MAX_BODY, Place};
+use scan::id_byte;
+use spec::{CELL_BYTES, ID_BYTES, MAX_ASSETS, MAX_BODY, Refusal, Span};
+
+mod stored;
+
+pub use stored::Assets;
 
 // The places of the head's bytes, and where the id cells begin behind them.
 const CAPACITY_AT: usize = 0;
@@ -21,38 +26,12 @@ const ASSET_BYTES: usize = ID_BYTES + CELL_BYTES;
 
 const LENGTH_BYTES: u64 = 2;
 
-// The byte as a number of 64 bits.
-fn wide(x: u8) -> u64
-    ensures value { result ≡ x }
-    ensures upper_bound { result < 256 }
-{
-    x as u64
-}
-
 // How many bytes a store of a cells has.
 pub fn bytes_for(a: u64) -> u64
     requires { a ≤ max_assets }
     ensures { result ≡ spec.store_bytes a }
 {
     IDS_AT as u64 + a * ASSET_BYTES as u64
-}
-
-// How many assets the store holds at most.
-pub fn capacity(bs: &[u8]) -> u64
-    requires { AssetHead bs.now }
-    ensures value { result ≡ capacity bs.now }
-    ensures upper_bound { result ≤ max_assets }
-{
-    wide(bs[CAPACITY_AT])
-}
-
-// How many assets the store holds.
-pub fn used(bs: &[u8]) -> u64
-    requires { AssetHead bs.now }
-    ensures value { result ≡ used bs.now }
-    ensures upper_bound { result ≤ capacity bs.now }
-{
-    wide(bs[USED_AT])
 }
 
 // Whether the head and the length of an asset store are right.
@@ -62,14 +41,14 @@ pub fn head_ok(bs: &[u8]) -> bool
     if bs.len() < IDS_AT {
         return false;
     }
-    let a = wide(bs[CAPACITY_AT]);
+    let a = u64::from(bs[CAPACITY_AT]);
     if a < 1 {
         return false;
     }
     if MAX_ASSETS < a {
         return false;
     }
-    if a < wide(bs[USED_AT]) {
+    if a < u64::from(bs[USED_AT]) {
         return false;
     }
     bs.len() as u64 == bytes_for(a)
@@ -92,7 +71,7 @@ pub fn id_ok(id: &[u8]) -> bool
     if ID_BYTES < id.len() {
         return false;
     }
-    scan::all_of(id, Class::Id)
+    id.iter().all(|x| id_byte(*x))
 }
 
 // Whether id and body are an asset's.
@@ -105,77 +84,27 @@ pub fn asset_ok(id: &[u8], body: &[u8]) -> bool
     length_ok(body.len() as u64)
 }
 
-// The lowest used cell that holds the id; u where there is none, or the id is no id. The id's own cell is made once.
-pub fn find(bs: &[u8], id: &[u8]) -> u64
-    requires { AssetHead bs.now }
-    ensures value { result ≡ spec.find bs.now id.now }
-    ensures upper_bound { result ≤ used bs.now }
+// The assets of a store with a right head, or refusal 2.
+pub fn checked<'a>(bs: &'a [u8]) -> Result<Assets<'a>, Refusal>
+    ensures { MatchResult result
+        (λ s. (s ≡ bs.entry.now) × (spec.asset_head_ok bs.entry.now ≡ true))
+        (λ r. (r ≡ Refused) × (spec.asset_head_ok bs.entry.now ≡ false)) }
 {
-    // not by `used`: read in place, the byte costs the callers less
-    let u = wide(bs[USED_AT]);
-    if !id_ok(id) {
-        return u;
+    if !head_ok(bs) {
+        return Err(Refusal::Store);
     }
-    let mut key = [0u8; ID_BYTES];
-    cells::write(&mut key, 0, id);
-    let mut i: u64 = 0;
-    while i < u {
-        let start = IDS_AT + i as usize * ID_BYTES;
-        let end = start + ID_BYTES;
-        if cells::same_bytes(&bs[start..end], &key) {
-            return i;
-        }
-        i += 1;
-    }
-    i
-}
-
-// Where the body cells begin.
-fn bodies_at(bs: &[u8]) -> u64
-    requires { AssetHead bs.now }
-    ensures { result ≡ spec.bodies_at (capacity bs.now) }
-{
-    IDS_AT as u64 + capacity(bs) * ID_BYTES as u64
-}
-
-// The length that stands in body cell i.
-pub fn length_at(bs: &[u8], i: u64) -> u64
-    requires asset_head { AssetHead bs.now }
-    requires i_bound { i < capacity bs.now }
-    ensures value { result ≡ spec.length_at bs.now i }
-    ensures upper_bound { result < 65536 }
-{
-    let at = bodies_at(bs) + i * CELL_BYTES as u64;
-    wide(bs[at as usize]) * 256 + wide(bs[(at + 1) as usize])
-}
-
-// The part of a store with a right head that is the asset's body; nothing for a missing id or a wrong length.
-fn place_in(bs: &[u8], id: &[u8]) -> Place
-    requires { AssetHead bs.now }
-    ensures value { result ≡ spec.body_place bs.now id.now }
-    ensures place_fits { PlaceFits bs.now result }
-{
-    let i = find(bs, id);
-    if used(bs) <= i {
-        return Place::Nothing;
-    }
-    let n = length_at(bs, i);
-    if !length_ok(n) {
-        return Place::Nothing;
-    }
-    let start = bodies_at(bs) + i * CELL_BYTES as u64 + LENGTH_BYTES;
-    Place::At(start as usize, n as usize)
+    Ok(Assets::of(bs))
 }
 
 // The part of the store that is the asset's body; nothing on any fault or missing id.
-pub fn body_place(bs: &[u8], id: &[u8]) -> Place
+pub fn body_place(bs: &[u8], id: &[u8]) -> Option<Span>
     ensures value { result ≡ spec.body_place bs.now id.now }
     ensures place_fits { PlaceFits bs.now result }
 {
-    if !head_ok(bs) {
-        return Place::Nothing;
-    }
-    place_in(bs, id)
+    let Ok(assets) = checked(bs) else {
+        return None;
+    };
+    assets.body_place(id)
 }
 
 // An empty store of a cells.
@@ -187,22 +116,6 @@ pub fn start(bs: &mut [u8], a: u64)
     let n = bs.len();
     cells::clear(bs, 0, n);
     bs[CAPACITY_AT] = a as u8;
-}
-
-// The cell that is given up: the one that holds the id, none (u) while there is room, or the oldest.
-fn out_for(bs: &[u8], id: &[u8]) -> u64
-    requires { AssetHead bs.now }
-    ensures { result ≡ spec.out_for id.now bs.now }
-{
-    let u = used(bs);
-    let i = find(bs, id);
-    if i < u {
-        return i;
-    }
-    if u < capacity(bs) {
-        return u;
-    }
-    0
 }
 
 // How many cells are used once cell `out` is given up and one is written.
@@ -220,7 +133,7 @@ fn put_asset(bs: &mut [u8], out: u64, n: u64, id: &[u8], body: &[u8])
     requires id_len_bound { (length id.now ≤ id_bytes) × (length body.now ≤ max_body) }
     ensures { bs.new ≡ with_asset out n id.now body.now bs.old }
 {
-    let bodies = bodies_at(bs) as usize;
+    let bodies = Assets::of(bs).bodies_at() as usize;
     let head = [(body.len() / 256) as u8, (body.len() % 256) as u8];
     cells::renew_cells(
         bs,
@@ -251,8 +164,9 @@ pub fn store(bs: &mut [u8], id: &[u8], body: &[u8]) -> u64
     ensures bs_after { bs.new ≡ spec.store_cells id.now body.now bs.old }
     ensures value { result ≡ spec.cell_for id.now bs.old }
 {
-    let out = out_for(bs, id);
-    let n = used_after(used(bs), out);
+    let before = Assets::of(bs);
+    let out = before.out_for(id);
+    let n = used_after(before.used(), out);
     put_asset(bs, out, n, id, body);
     n - 1
 }

@@ -8,7 +8,7 @@ use lib.ListN.{length, replicate}
 use Rattle.history.specs.Calls
 use Rattle.cases.specs.Bench.{bench_model, bench_names, bench_words, bench_bytes, bench_stores, bench_request}
 use Rattle.history.specs.History.{stores_after}
-use Rattle.spec.specs.declared.Answer.{Answer}
+use Rattle.spec.specs.Answers.{Answer}
 use Rattle.spec.specs.declared.Value.TheVariants.{Sample}
 use Rattle.bench.specs.Print.{reply_length}
 use Rattle.bench.proofs.Lengths.{request-within}

@@ -23,10 +23,8 @@ use Rattle.history.specs.Calls.{current_reply, current_up_to, at_reply, cell_row
 use Rattle.history.specs.Calls.{named_reply, answer_request, answer_reading, request}
 use Rattle.spec.specs.declared.Refusal.{Refusal}
 use Rattle.spec.specs.declared.Refusal.TheVariants.{Model, Store, TooMany, AssetNotFound}
-use Rattle.spec.specs.declared.Verdict.{Verdict}
-use Rattle.spec.specs.declared.Verdict.TheVariants.{Fine, Refused}
-use Rattle.spec.specs.declared.Selection.{Selection}
-use Rattle.spec.specs.declared.Selection.TheVariants.{Items, NotFound}
+use Rattle.std.specs.Prelude.{Ok, Err, Option, Some, None}
+use Rattle.spec.specs.Answers.{Verdict}
 use Rattle.spec.proofs.Words.{by_cond}
 use Rattle.bench.specs.Print.{words_of, reply_length}
 use Rattle.spec.proofs.Reply.{length-numbers, length_pairs, length-lengths}
@@ -66,8 +64,8 @@ assets-within u A rows b =
     (λ e. none _ b)
 
 unless-within : {r : Replied} (v : Verdict) (b : List ℕ) → Within b r → Within b (unless v b r)
-unless-within Fine b h = h
-unless-within (Refused x) b h = none x b
+unless-within (Ok tt) b h = h
+unless-within (Err x) b h = none x b
 
 end-pos : (f count last : ℕ) → 1 ≤ end_of f count last
 end-pos f count last =
@@ -77,10 +75,10 @@ end-pos f count last =
     omega arith
 
 module _ (m : ℕ) (st b : List ℕ) where
-  sample-within : (from count : ℕ) (s : Selection) → Within b (sample_reply m st from count b s)
+  sample-within : (from count : ℕ) (s : Option ℕ) → Within b (sample_reply m st from count b s)
   unfolding sample_reply sample_between
-  sample-within from count NotFound = none _ b
-  sample-within from count (Items selection) =
+  sample-within from count None = none _ b
+  sample-within from count (Some selection) =
       let f = start_of (first st) from in
       let e = end_of f count (last st) in
       unless-within
@@ -92,20 +90,20 @@ module _ (m : ℕ) (st b : List ℕ) where
       (end-pos f count (last st)))
       (none Store b))
 
-  current-within : (cat : ℕ → ℕ) (s : Selection) → Within b (current_reply cat m st b s)
+  current-within : (cat : ℕ → ℕ) (s : Option ℕ) → Within b (current_reply cat m st b s)
   unfolding current_reply
-  current-within cat NotFound = none _ b
-  current-within cat (Items selection) =
+  current-within cat None = none _ b
+  current-within cat (Some selection) =
       choice
       (current_ok cat (ring_size st) m st selection)
       (observations-within (first st) (last st) (suc (last st)) (current_rows cat (ring_size st) m st selection) b
       (omega arith))
       (none Store b)
 
-  at-within : (cat : ℕ → ℕ) (number : ℕ) (s : Selection) → Within b (at_reply cat m st number b s)
+  at-within : (cat : ℕ → ℕ) (number : ℕ) (s : Option ℕ) → Within b (at_reply cat m st number b s)
   unfolding at_reply current_up_to
-  at-within cat number NotFound = none _ b
-  at-within cat number (Items selection) =
+  at-within cat number None = none _ b
+  at-within cat number (Some selection) =
       let k = suc number - first st in
       unless-within
       (in_range (first st) (last st) number)

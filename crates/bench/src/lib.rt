@@ -41,8 +41,8 @@ fn prepare(model: &[u32], names: &[u8], observations: &mut [u64], assets: &mut [
     ensures observations_after { observations.new ≡ bench_stores.observations }
     ensures assets_after { assets.new ≡ bench_stores.assets }
 {
-    agent::start(model, names, observations, assets, 3, 1, 1, 1000);
-    agent::observe(
+    let _ = agent::start(model, names, observations, assets, 3, 1, 1, 1000);
+    let _ = agent::observe(
         model,
         names,
         observations,
@@ -51,7 +51,7 @@ fn prepare(model: &[u32], names: &[u8], observations: &mut [u64], assets: &mut [
         1010,
         Value::Sample(5000),
     );
-    agent::observe(
+    let _ = agent::observe(
         model,
         names,
         observations,
@@ -60,7 +60,7 @@ fn prepare(model: &[u32], names: &[u8], observations: &mut [u64], assets: &mut [
         1020,
         Value::Sample(5000),
     );
-    agent::observe(model, names, observations, 1, 0, 1030, Value::Sample(-1));
+    let _ = agent::observe(model, names, observations, 1, 0, 1030, Value::Sample(-1));
 }
 
 // The words of a reply of k rows, whose fourth word is 0 only in an asset reply.
@@ -77,8 +77,8 @@ pub fn word_count(answer: Answer, reply: &[u64; REPLY_WORDS]) -> usize
     ensures { result ≡ reply_length answer reply.now }
 {
     match answer {
-        Answer::Refused(_) => 0,
-        Answer::Done(k) => words_of(reply[3], k) as usize,
+        Err(_) => 0,
+        Ok(k) => words_of(reply[3], k) as usize,
     }
 }
 

@@ -7,40 +7,24 @@ ghost use Rattle.std.specs.Prelude.{◌≤◌, length, IfOk};
 use std::io;
 use std::io::Read;
 
-// The next byte of the line, or its end.
-#[derive(Clone, Copy)]
-enum Next {
-    Byte(u8),
-    End,
-}
-
-// One byte of the input; a line feed ends the line as the end of the input does.
-fn next_byte<R: Read>(input: &mut R) -> io::Result<Next> {
+// The next byte of the line; a line feed ends the line as the end of the input does.
+fn next_byte<R: Read>(input: &mut R) -> io::Result<Option<u8>> {
     let mut one = [0u8; 1];
     let got = input.read(&mut one)?;
-    if got == 0 {
-        return Ok(Next::End);
-    }
-    if one[0] == b'\n' {
-        return Ok(Next::End);
-    }
-    Ok(Next::Byte(one[0]))
+    Ok((got != 0 && one[0] != b'\n').then_some(one[0]))
 }
 
 // The line up to its end, or as much of it as there is room for.
 fn read_line<R: Read>(input: &mut R, line: &mut [u8]) -> io::Result<usize>
     ensures { IfOk result (λ r. r ≤ length line.new) }
 {
-    let mut n = 0;
-    while n < line.len() {
-        let next = next_byte(input)?;
-        let Next::Byte(b) = next else {
+    for n in 0..line.len() {
+        let Some(b) = next_byte(input)? else {
             return Ok(n);
         };
         line[n] = b;
-        n += 1;
     }
-    Ok(n)
+    Ok(line.len())
 }
 
 fn space(rt: &impl Print) -> io::Result<()> {
@@ -51,18 +35,13 @@ fn line_feed(rt: &impl Print) -> io::Result<()> {
     println!(rt; "")
 }
 
-// The first n words on a line.
-fn print_words(rt: &impl Print, words: &[u64; 64], n: usize) -> io::Result<()>
-    requires { n ≤ 64 }
-{
-    let mut i = 0;
-    while i < n {
+// The words on a line.
+fn print_words(rt: &impl Print, words: &[u64]) -> io::Result<()> {
+    for (i, word) in words.iter().enumerate() {
         if 0 < i {
             space(rt)?;
         }
-        let word = words[i];
         print!(rt; "{word}")?;
-        i += 1;
     }
     line_feed(rt)
 }
@@ -85,7 +64,7 @@ fn answer(rt: &impl Print, text: &[u8]) -> io::Result<()> {
         answers::answer_count(answer),
     )?;
     let n = bench::word_count(answer, &reply);
-    print_words(rt, &reply, n)
+    print_words(rt, &reply[..n])
 }
 
 fn main(rt: HostRuntime) -> io::Result<()> {

@@ -1,61 +1,56 @@
 // Times as dates and times of day, 1970 to 2099.
 #![tactic(auto)]
 
-ghost use Rattle.std.specs.Prelude.{true, ◌&&◌, ◌≡◌, ◌≤◌, leb};
+ghost use Rattle.std.specs.Prelude.{true, ◌≡◌};
 ghost use Rattle.lines.specs.Stamps.{month_length, real_date, day_number, time_of, date_of};
 
 use lines::Date;
 
 // The days of a month.
+#[tactic(auto, unfolding(lines::specs::Stamps::month_length))]
 fn month_length(long: bool, m: u64) -> u64
     ensures { result ≡ month_length long m }
 {
-    if m == 2 {
-        if long {
-            return 29;
-        }
-        return 28;
+    match m {
+        2 if long => 29,
+        2 => 28,
+        _ => 30 + (m % 2 + m / 8 % 2) % 2,
     }
-    30 + (m % 2 + m / 8 % 2) % 2
-}
-
-// Whether x is low to high.
-fn within(x: u64, low: u64, high: u64) -> bool
-    ensures { result ≡ (leb low x && leb x high) }
-{
-    (low <= x) & (x <= high)
 }
 
 // Whether there is such a date, 1970 to 2099.
+#[tactic(auto, unfolding(lines::specs::Stamps::real_date))]
 pub fn real_date(d: Date) -> bool
     ensures { result ≡ real_date d }
 {
     let most = month_length(d.year % 4 == 0, d.month);
-    let time = (d.hour <= 23) & ((d.minute <= 59) & ((d.second <= 59) & (d.milli <= 999)));
-    within(d.year, 1970, 2099) & (within(d.month, 1, 12) & (within(d.day, 1, most) & time))
+    (1970..=2099).contains(&d.year)
+        && (1..=12).contains(&d.month)
+        && (1..=most).contains(&d.day)
+        && d.hour <= 23
+        && d.minute <= 59
+        && d.second <= 59
+        && d.milli <= 999
 }
 
 // The days from 1970-01-01 on, counted from 1968-03-01 in years that begin in March.
-fn day_number(y: u64, m: u64, d: u64) -> u64
-    requires le_y { 1970 ≤ y }
-    requires y_bound { y ≤ 2099 }
-    requires le_m { 1 ≤ m }
-    requires m_bound { m ≤ 12 }
-    requires le_d { 1 ≤ d }
-    requires d_bound { d ≤ 31 }
-    ensures value { result ≡ day_number y m d }
-    ensures upper_bound { result ≤ 100000 }
+#[tactic(auto, using(crate::proofs::Laws::real_dates))]
+fn day_number(d: Date) -> u64
+    requires { real_date d ≡ true }
+    ensures { result ≡ day_number d.year d.month d.day }
 {
-    let a = y - 1968 - (14 - m) / 12;
-    a / 4 * 1461 + (365 * (a % 4) + (153 * ((m + 9) % 12) + 2) / 5 + (d - 1)) - 671
+    let m = d.month;
+    let a = d.year - 1968 - (14 - m) / 12;
+    a / 4 * 1461 + (365 * (a % 4) + (153 * ((m + 9) % 12) + 2) / 5 + (d.day - 1)) - 671
 }
 
 // The time of a date.
+#[tactic(auto, unfolding(lines::specs::Stamps::time_of), using(crate::proofs::Laws::real_dates))]
 pub fn time_of(d: Date) -> u64
     requires { real_date d ≡ true }
     ensures { result ≡ time_of d }
 {
-    let days = day_number(d.year, d.month, d.day);
+    let days = day_number(d);
     (((days * 24 + d.hour) * 60 + d.minute) * 60 + d.second) * 1000 + d.milli
 }
 

@@ -10,15 +10,16 @@ use Rattle.history.specs.History.{reference_after}
 use Rattle.history.specs.History.Output.{started, observed}
 use Rattle.cases.specs.Bench.{bench_model, bench_names, bench_start, bench_observes, bench_request, cases, filled}
 use Rattle.cases.specs.Bench.{expected}
-use Rattle.spec.specs.declared.Answer.TheVariants.{Done}
-use Rattle.spec.specs.declared.ObserveAnswer.TheVariants.{Recorded, Same}
+use Rattle.std.specs.Prelude.{Ok}
+use Rattle.spec.specs.declared.Noted.TheVariants.{Recorded, Same}
 use Rattle.cases.proofs.Opened.{opened}
 use Rattle.history.proofs.History.{history}
 
 -- the start's answer, then 3, Same and 4
 abbrev answers : List (List Output)
 answers =
-    (started (Done 0) ∷ []) ∷ (observed (Recorded 3) ∷ []) ∷ (observed Same ∷ []) ∷ (observed (Recorded 4) ∷ []) ∷ []
+    (started (Ok 0) ∷ []) ∷ (observed (Ok (Recorded 3)) ∷ []) ∷ (observed (Ok Same) ∷ [])
+    ∷ (observed (Ok (Recorded 4)) ∷ []) ∷ []
 
 abbrev start106 : Start
 start106 = bench_start (replicate 106 0) (replicate 546 0)

@@ -12,10 +12,9 @@ use Rattle.history.specs.History.{Call}
 use Rattle.history.specs.History.Output.{observed, returned}
 use Rattle.cases.specs.Bench.{bench_model, bench_names}
 use Rattle.spec.specs.declared.Value.TheVariants.{Sample}
-use Rattle.spec.specs.declared.Answer.{Answer}
-use Rattle.spec.specs.declared.Answer.TheVariants.{Done, Refused}
-use Rattle.spec.specs.declared.ObserveAnswer.TheVariants.{Recorded, Refused as Unrecorded}
-use Rattle.spec.specs.declared.StoreAnswer.TheVariants.{Stored, Refused as Unstored}
+use Rattle.std.specs.Prelude.{Ok, Err}
+use Rattle.spec.specs.Answers.{Answer}
+use Rattle.spec.specs.declared.Noted.TheVariants.{Recorded}
 use Rattle.spec.specs.declared.Refusal.TheVariants.{Size, Store, Spent, InvalidRequest, TooMany, Late, Early}
 use Rattle.spec.specs.declared.Refusal.TheVariants.{AssetNotFound, Asset, Space}
 use Rattle.cases.proofs.Opened.{opened}
@@ -32,10 +31,10 @@ Starts model names r N A B words size =
     × (Reference.begin_answer (Reference.begin model names N A B 0 words size) ≡ r)
 
 abbrev Accepted : ℕ → ℕ → ℕ → ℕ → ℕ → Type 0
-Accepted = Starts plain_model plain_names (Done 0)
+Accepted = Starts plain_model plain_names (Ok 0)
 
 abbrev TooLarge : ℕ → ℕ → ℕ → ℕ → ℕ → Type 0
-TooLarge = Starts plain_model plain_names (Refused Size)
+TooLarge = Starts plain_model plain_names (Err Size)
 
 pub ring-sizes :
     Accepted 1 1 1 54 546
@@ -69,8 +68,8 @@ pub first-numbers :
     Accepted 1 1 9223372036854775807 54 546
     × TooLarge 1 1 0 54 546
     × TooLarge 1 1 9223372036854775808 54 546
-    × Starts bench_model bench_names (Done 0) 3 1 9223372036854775806 106 546
-    × Starts bench_model bench_names (Refused Size) 3 1 9223372036854775807 106 546
+    × Starts bench_model bench_names (Ok 0) 3 1 9223372036854775806 106 546
+    × Starts bench_model bench_names (Err Size) 3 1 9223372036854775807 106 546
 unfolding opened
 first-numbers = (
   (λ st bs h k. rw (h, k), refl),
@@ -174,7 +173,7 @@ default-count = ((refl, refl), (refl, refl), (refl, refl))
 pub default-rows :
     PlainGives 101 101 (refuses_in 303 "/sample" Space ∷ [])
     × ((Calls.request plain_model plain_names (plain_store 101 101) no_assets (bytes "/sample") (replicate 304 7)).answer
-    ≡ Done 100)
+    ≡ Ok 100)
 unfolding opened
 default-rows = ((refl, refl), refl)
 
@@ -263,7 +262,7 @@ pub reply-space :
     ∷ refuses_in 3 "/assets" Space
     ∷ shows "/assets" (0 ∷ 0 ∷ 1 ∷ 0 ∷ []) ∷ [])
     × ToolsGive 1
-    (stores (bytes "a") (5 ∷ []) (Stored 0)
+    (stores (bytes "a") (5 ∷ []) (Ok 0)
     ∷ refuses_in 5 "/assets" Space
     ∷ shows "/assets" (1 ∷ 1 ∷ 2 ∷ 0 ∷ 0 ∷ 1 ∷ []) ∷ [])
 unfolding opened
@@ -273,31 +272,31 @@ reply-space = ((refl, refl), (refl, refl))
 
 pub id-lengths :
     ToolsGive 1
-    (stores [] (5 ∷ []) (Unstored Asset)
-    ∷ stores (replicate 33 97) (5 ∷ []) (Unstored Asset)
-    ∷ stores (97 ∷ []) (5 ∷ []) (Stored 0)
-    ∷ stores (replicate 32 97) (5 ∷ []) (Stored 1) ∷ [])
+    (stores [] (5 ∷ []) (Err Asset)
+    ∷ stores (replicate 33 97) (5 ∷ []) (Err Asset)
+    ∷ stores (97 ∷ []) (5 ∷ []) (Ok 0)
+    ∷ stores (replicate 32 97) (5 ∷ []) (Ok 1) ∷ [])
 unfolding opened
 id-lengths = (refl, refl)
 
 -- '!' and '~' are an id's; a space, DEL, ';', '/' and '?' are not
 pub id-bytes :
     ToolsGive 1
-    (stores (33 ∷ 126 ∷ []) (5 ∷ []) (Stored 0)
-    ∷ stores (32 ∷ []) (5 ∷ []) (Unstored Asset)
-    ∷ stores (127 ∷ []) (5 ∷ []) (Unstored Asset)
-    ∷ stores (59 ∷ []) (5 ∷ []) (Unstored Asset)
-    ∷ stores (47 ∷ []) (5 ∷ []) (Unstored Asset)
-    ∷ stores (63 ∷ []) (5 ∷ []) (Unstored Asset) ∷ [])
+    (stores (33 ∷ 126 ∷ []) (5 ∷ []) (Ok 0)
+    ∷ stores (32 ∷ []) (5 ∷ []) (Err Asset)
+    ∷ stores (127 ∷ []) (5 ∷ []) (Err Asset)
+    ∷ stores (59 ∷ []) (5 ∷ []) (Err Asset)
+    ∷ stores (47 ∷ []) (5 ∷ []) (Err Asset)
+    ∷ stores (63 ∷ []) (5 ∷ []) (Err Asset) ∷ [])
 unfolding opened
 id-bytes = (refl, refl)
 
 -- the longest body under the longest id comes back whole; an id of 33 bytes may be asked for and isn't stored
 pub body-lengths :
     ToolsGive 1
-    (stores (97 ∷ []) [] (Unstored Asset)
-    ∷ stores (97 ∷ []) (replicate 511 5) (Unstored Asset)
-    ∷ stores (replicate 32 97) (replicate 510 5) (Stored 0)
+    (stores (97 ∷ []) [] (Err Asset)
+    ∷ stores (97 ∷ []) (replicate 511 5) (Err Asset)
+    ∷ stores (replicate 32 97) (replicate 510 5) (Ok 0)
     ∷ Call.body (replicate 32 97) gives returned (replicate 510 5)
     ∷ Call.body (replicate 33 97) gives returned []
     ∷ shows "/asset/aaaaaaaaaaaaaaaaaaaaaaaaaaaaaaaa" (1 ∷ 1 ∷ 2 ∷ 0 ∷ 0 ∷ 510 ∷ [])
@@ -309,13 +308,13 @@ body-lengths = (refl, refl)
 
 pub full-store :
     ToolsGive 1
-    (stores (bytes "a") (1 ∷ []) (Stored 0)
-    ∷ stores (bytes "b") (2 ∷ 2 ∷ []) (Stored 1)
-    ∷ stores (bytes "c") (3 ∷ 3 ∷ 3 ∷ []) (Stored 1)
+    (stores (bytes "a") (1 ∷ []) (Ok 0)
+    ∷ stores (bytes "b") (2 ∷ 2 ∷ []) (Ok 1)
+    ∷ stores (bytes "c") (3 ∷ 3 ∷ 3 ∷ []) (Ok 1)
     ∷ shows "/assets" (2 ∷ 2 ∷ 2 ∷ 0 ∷ 1 ∷ 0 ∷ 3 ∷ 2 ∷ [])
     ∷ refuses "/asset/a" AssetNotFound
     ∷ Call.body (bytes "a") gives returned []
-    ∷ stores (bytes "b") (4 ∷ []) (Stored 1)
+    ∷ stores (bytes "b") (4 ∷ []) (Ok 1)
     ∷ shows "/asset/b;c" (2 ∷ 2 ∷ 2 ∷ 0 ∷ 1 ∷ 0 ∷ 1 ∷ 3 ∷ []) ∷ [])
 unfolding opened
 full-store = (refl, refl)
@@ -324,9 +323,9 @@ full-store = (refl, refl)
 
 pub last-numbers :
     ToolsGive 9223372036854775805
-    (Call.observe 0 10 10 (Sample (pos 5)) gives observed (Recorded 9223372036854775807)
-    ∷ Call.observe 0 20 20 (Sample (pos 6)) gives observed (Unrecorded Spent)
-    ∷ stores (bytes "a") (1 ∷ []) (Unstored Spent)
+    (Call.observe 0 10 10 (Sample (pos 5)) gives observed (Ok (Recorded 9223372036854775807))
+    ∷ Call.observe 0 20 20 (Sample (pos 6)) gives observed (Err Spent)
+    ∷ stores (bytes "a") (1 ∷ []) (Err Spent)
     ∷ shows "/sample?from=9223372036854775807"
     (1 ∷ 9223372036854775805 ∷ 9223372036854775807 ∷ 9223372036854775808
     ∷ 9223372036854775807 ∷ 10 ∷ 4294967301 ∷ [])
@@ -342,8 +341,8 @@ last-numbers = (refl, refl)
 -- an asset's event takes it
 pub last-event :
     ToolsGive 9223372036854775805
-    (stores (bytes "a") (1 ∷ []) (Stored 0)
-    ∷ stores (bytes "b") (1 ∷ []) (Unstored Spent)
+    (stores (bytes "a") (1 ∷ []) (Ok 0)
+    ∷ stores (bytes "b") (1 ∷ []) (Err Spent)
     ∷ Call.body (bytes "b") gives returned [] ∷ [])
 unfolding opened
 last-event = (refl, refl)

@@ -14,9 +14,8 @@ use Rattle.spec.specs.declared.Value.{Value}
 use Rattle.spec.specs.declared.Value.TheVariants.{Unavailable, Sample, Event, Condition}
 use Rattle.spec.specs.declared.Refusal.{Refusal}
 use Rattle.spec.specs.declared.Refusal.TheVariants.{Store, Kind, Spent, InvalidXpath, Late, Early, Crowded}
-use Rattle.spec.specs.declared.Answer.TheVariants.{Done}
-use Rattle.spec.specs.declared.ObserveAnswer.TheVariants.{Recorded, Same, Refused as Unrecorded}
-use Rattle.spec.specs.declared.StoreAnswer.TheVariants.{Stored, Refused as Unstored}
+use Rattle.std.specs.Prelude.{Ok, Err}
+use Rattle.spec.specs.declared.Noted.TheVariants.{Recorded, Same}
 use Rattle.spec.proofs.Examples.{cells_of, z, w, f}
 use Rattle.cases.proofs.Opened.{opened}
 use Rattle.cases.proofs.Fixtures.{Step, call_of, output_of, shows, refuses, refuses_in, stores, at, gives-in}
@@ -41,13 +40,13 @@ on i x = 1099511627776 * i + x
 
 -- item 0 takes v as number n, says Same, refuses it
 abbrev takes : ℕ → Value → Step
-takes n v = Call.observe 0 (10 * n) 0 v gives observed (Recorded n)
+takes n v = Call.observe 0 (10 * n) 0 v gives observed (Ok (Recorded n))
 
 abbrev same : Value → Step
-same v = Call.observe 0 5 5 v gives observed Same
+same v = Call.observe 0 5 5 v gives observed (Ok Same)
 
 abbrev denies : Value → Refusal → Step
-denies v r = Call.observe 0 5 5 v gives observed (Unrecorded r)
+denies v r = Call.observe 0 5 5 v gives observed (Err r)
 
 -- ---- both layers: one condition item
 
@@ -213,7 +212,7 @@ pub codes-delivered :
     (gives-in
     (at 0 10 (w 1) ∷ at 0 10 (w 1) ∷ at 0 10 (f 1) ∷ at 0 10 (z 2) ∷ at 0 10 (z 1) ∷ at 0 10 (z 0)
     ∷ at 0 10 12935233536 ∷ at 0 10 0 ∷ at 0 10 0 ∷ at 0 10 (z 0) ∷ [])
-    10 (Done 10) (2 ∷ 0 ∷ 3 ∷ 0 ∷ 4 ∷ 0 ∷ 9223372036854775813 ∷ 5 ∷ 0 ∷ 6 ∷ []) ∷ [])
+    10 (Ok 10) (2 ∷ 0 ∷ 3 ∷ 0 ∷ 4 ∷ 0 ∷ 9223372036854775813 ∷ 5 ∷ 0 ∷ 6 ∷ []) ∷ [])
 unfolding opened
 codes-delivered = (refl, refl)
 
@@ -268,7 +267,7 @@ pub eight-again :
     (7 ∷ 10 ∷ 10 ∷ 11 ∷ 3 ∷ 4 ∷ 5 ∷ 6 ∷ 7 ∷ 8 ∷ 9
     ∷ 30 ∷ w 2 ∷ 40 ∷ w 3 ∷ 50 ∷ w 4 ∷ 60 ∷ w 5 ∷ 70 ∷ w 6 ∷ 80 ∷ w 7 ∷ 90 ∷ w 8 ∷ []) ∷ [])
     × EightGive
-    (gives-in (at 0 10 (w 9) ∷ at 0 10 (z 3) ∷ at 0 10 (w 9) ∷ at 0 10 (w 3) ∷ []) 4 (Done 4)
+    (gives-in (at 0 10 (w 9) ∷ at 0 10 (z 3) ∷ at 0 10 (w 9) ∷ at 0 10 (w 3) ∷ []) 4 (Ok 4)
     (9223372036854775827 ∷ 10 ∷ 11 ∷ 9223372036854775827 ∷ []) ∷ [])
 unfolding opened
 eight-again = ((refl, refl), (refl, refl))
@@ -587,7 +586,7 @@ pub others-untested :
     ∷ shows "/current?path=//Axis" (1 ∷ 9 ∷ 9 ∷ 10 ∷ 9 ∷ 90 ∷ on 1 (w 3) ∷ [])
     ∷ shows "/current?at=9&path=//Axis" (1 ∷ 9 ∷ 9 ∷ 10 ∷ 9 ∷ 90 ∷ on 1 (w 3) ∷ [])
     ∷ denies (W 5) Store
-    ∷ Call.observe 1 100 0 (W 5) gives observed (Recorded 10)
+    ∷ Call.observe 1 100 0 (W 5) gives observed (Ok (Recorded 10))
     ∷ shows "/current?path=//Axis"
     (2 ∷ 10 ∷ 10 ∷ 11 ∷ 9 ∷ 10 ∷ 90 ∷ on 1 (w 3) ∷ 100 ∷ on 1 (w 5) ∷ []) ∷ [])
 unfolding opened
@@ -626,11 +625,11 @@ pub categories-untested :
     ∷ shows "/current?at=8"
     (6 ∷ 8 ∷ 9 ∷ 10 ∷ 8 ∷ 99 ∷ 3 ∷ 4 ∷ 99 ∷ 99
     ∷ 80 ∷ 4294967301 ∷ 99 ∷ 99 ∷ 30 ∷ on 2 (w 1) ∷ 40 ∷ on 2 (f 2) ∷ 99 ∷ 99 ∷ 99 ∷ 99 ∷ [])
-    ∷ Call.observe 0 100 0 (Sample (pos 5)) gives observed Same
-    ∷ Call.observe 0 100 0 (Sample (pos 6)) gives observed (Recorded 10)
-    ∷ Call.observe 1 110 0 (Event 7) gives observed (Recorded 11)
-    ∷ Call.observe 4 120 0 (Event 7) gives observed (Recorded 12)
-    ∷ stores (bytes "a") (5 ∷ []) (Stored 0) ∷ [])
+    ∷ Call.observe 0 100 0 (Sample (pos 5)) gives observed (Ok Same)
+    ∷ Call.observe 0 100 0 (Sample (pos 6)) gives observed (Ok (Recorded 10))
+    ∷ Call.observe 1 110 0 (Event 7) gives observed (Ok (Recorded 11))
+    ∷ Call.observe 4 120 0 (Event 7) gives observed (Ok (Recorded 12))
+    ∷ stores (bytes "a") (5 ∷ []) (Ok 0) ∷ [])
 unfolding opened
 categories-untested = refl
 
@@ -652,8 +651,8 @@ pub checkpoint-by-event :
     (all_stores (2 ∷ 5 ∷ 1 ∷ 9 ∷ 90 ∷ 80 ∷ on 2 (w 9) ∷ 4294967301 ∷ [])
     (all_table 8 80 4294967301 (9 ∷ []) (90 ∷ []) (on 2 (w 9) ∷ []))
     (all_table 99 99 99 (3 ∷ 4 ∷ []) (30 ∷ 40 ∷ []) (on 2 (w 1) ∷ on 2 (f 1) ∷ [])))
-    (stores (bytes "a") (5 ∷ []) (Stored 0)
-    ∷ stores (bytes "a") (5 ∷ []) (Unstored Store)
-    ∷ Call.observe 1 110 0 (Event 7) gives observed (Unrecorded Store) ∷ [])
+    (stores (bytes "a") (5 ∷ []) (Ok 0)
+    ∷ stores (bytes "a") (5 ∷ []) (Err Store)
+    ∷ Call.observe 1 110 0 (Event 7) gives observed (Err Store) ∷ [])
 unfolding opened
 checkpoint-by-event = refl

@@ -11,9 +11,8 @@ use Rattle.history.specs.History.{Call, stores_start}
 use Rattle.history.specs.History.Output.{observed, returned}
 use Rattle.cases.specs.Bench.{bench_model, bench_names}
 use Rattle.spec.specs.declared.Value.TheVariants.{Unavailable, Sample}
-use Rattle.spec.specs.declared.Answer.TheVariants.{Done}
-use Rattle.spec.specs.declared.ObserveAnswer.TheVariants.{Recorded, Same, Refused as Unrecorded}
-use Rattle.spec.specs.declared.StoreAnswer.TheVariants.{Stored, Refused as Unstored}
+use Rattle.std.specs.Prelude.{Ok, Err}
+use Rattle.spec.specs.declared.Noted.TheVariants.{Recorded, Same}
 use Rattle.spec.specs.declared.Refusal.TheVariants.{Store, AssetNotFound}
 use Rattle.cases.proofs.Opened.{opened}
 use Rattle.cases.proofs.Fixtures.{Step, shows, refuses, stores, StoresGive, firsts, no_assets, tool_model}
@@ -40,7 +39,7 @@ started-assets = refl
 pub started_below :
     Calls.start bench_model bench_names (replicate 102 99) (replicate 546 99) 1 1 5 1000
     ≡ record {
-      answer = Done 0;
+      answer = Ok 0;
       observations = 1 ∷ 2 ∷ 5 ∷ 6
           ∷ 1000 ∷ 1099511627776
           ∷ firsts (5 ∷ 6 ∷ 1000 ∷ 1000 ∷ 0 ∷ 1099511627776 ∷ 5 ∷ 0 ∷ 1000 ∷ 0 ∷ 0 ∷ 0 ∷ []);
@@ -90,8 +89,8 @@ ring-word-highest = refl
 -- of item m: 2, but Same adds nothing and reads no entry
 pub overwritten-wrong :
     Ring 2199023255552 1103806600072 1108101562367
-    (Call.observe 1 10 10 (Sample (pos 7)) gives observed (Unrecorded Store)
-    ∷ Call.observe 1 10 10 (Sample (negsuc 0)) gives observed Same
+    (Call.observe 1 10 10 (Sample (pos 7)) gives observed (Err Store)
+    ∷ Call.observe 1 10 10 (Sample (negsuc 0)) gives observed (Ok Same)
     ∷ shows "/sample?from=5" (0 ∷ 2 ∷ 4 ∷ 5 ∷ []) ∷ [])
 unfolding opened
 overwritten-wrong = refl
@@ -100,7 +99,7 @@ overwritten-wrong = refl
 pub overwritten-right :
     Calls.observe bench_model bench_names (bench_with 2199023255551 1103806600072 1108101562367) 1 10 10 (Sample (pos 7))
     ≡ record {
-      answer = Recorded 5;
+      answer = Ok (Recorded 5);
       observations = 3 ∷ 2 ∷ 1 ∷ 5
           ∷ 1030 ∷ 10 ∷ 1010
           ∷ 1108101562367 ∷ 1103806595079 ∷ 1103806600072
@@ -112,8 +111,8 @@ overwritten-right = refl
 -- the words of the numbers that stay are not read
 pub overwritten-beside :
     Ring 1099511627776 2199023255552 2199023255552
-    (Call.observe 1 10 10 (Sample (pos 7)) gives observed (Recorded 5)
-    ∷ Call.observe 1 10 10 (Sample (pos 8)) gives observed (Unrecorded Store) ∷ [])
+    (Call.observe 1 10 10 (Sample (pos 7)) gives observed (Ok (Recorded 5))
+    ∷ Call.observe 1 10 10 (Sample (pos 8)) gives observed (Err Store) ∷ [])
 unfolding opened
 overwritten-beside = refl
 
@@ -128,9 +127,9 @@ pub unused-places :
       assets = no_assets;
     })
     (shows "/sample" (2 ∷ 1 ∷ 2 ∷ 3 ∷ 1 ∷ 2 ∷ 0 ∷ 0 ∷ 0 ∷ 1099511627776 ∷ [])
-    ∷ Call.observe 0 10 10 (Sample (pos 7)) gives observed (Recorded 3)
-    ∷ stores (bytes "a") (5 ∷ []) (Stored 0)
-    ∷ Call.observe 0 10 10 (Sample (pos 8)) gives observed (Recorded 5)
+    ∷ Call.observe 0 10 10 (Sample (pos 7)) gives observed (Ok (Recorded 3))
+    ∷ stores (bytes "a") (5 ∷ []) (Ok 0)
+    ∷ Call.observe 0 10 10 (Sample (pos 8)) gives observed (Ok (Recorded 5))
     ∷ shows "/sample?from=5" (1 ∷ 2 ∷ 5 ∷ 6 ∷ 5 ∷ 10 ∷ 4294967304 ∷ []) ∷ [])
 unfolding opened
 unused-places = refl
@@ -139,10 +138,10 @@ unused-places = refl
 pub overwritten-by-event :
     StoresGive tool_model tool_names
     (record { observations = 1 ∷ 2 ∷ 1 ∷ 2 ∷ 0 ∷ 2199023255552 ∷ replicate 96 0; assets = no_assets })
-    (stores (bytes "a") (5 ∷ []) (Unstored Store)
+    (stores (bytes "a") (5 ∷ []) (Err Store)
     ∷ Call.body (bytes "a") gives returned [] ∷ [])
     × Ring 2199023255552 1103806600072 1108101562367
-    (stores (bytes "a") (5 ∷ []) (Stored 0)
+    (stores (bytes "a") (5 ∷ []) (Ok 0)
     ∷ Call.body (bytes "a") gives returned (5 ∷ []) ∷ [])
 unfolding opened
 overwritten-by-event = (refl, refl)
@@ -178,10 +177,10 @@ checkpoint-none = refl
 pub latest-words :
     RowsGive (rows_with 9 8 108851651149824 1 1000 0)
     (shows "/current" (2 ∷ 2 ∷ 4 ∷ 5 ∷ 9 ∷ 4 ∷ 8 ∷ 108851651149824 ∷ 1030 ∷ 1108101562367 ∷ [])
-    ∷ Call.observe 0 10 10 Unavailable gives observed (Recorded 5) ∷ [])
+    ∷ Call.observe 0 10 10 Unavailable gives observed (Ok (Recorded 5)) ∷ [])
     × RowsGive (rows_with 9 8 4294967296 1 1000 0)
-    (Call.observe 0 10 10 Unavailable gives observed (Recorded 5)
-    ∷ Call.observe 0 10 10 Unavailable gives observed Same ∷ [])
+    (Call.observe 0 10 10 Unavailable gives observed (Ok (Recorded 5))
+    ∷ Call.observe 0 10 10 Unavailable gives observed (Ok Same) ∷ [])
 unfolding opened
 latest-words = (refl, refl)
 
@@ -203,7 +202,7 @@ pub lower-cell :
     AssetsGive (twice 2 0 1 0 2)
     (shows "/asset/a" (1 ∷ 2 ∷ 2 ∷ 0 ∷ 0 ∷ 1 ∷ [])
     ∷ Call.body (bytes "a") gives returned (5 ∷ [])
-    ∷ stores (bytes "a") (9 ∷ 9 ∷ 9 ∷ []) (Stored 1)
+    ∷ stores (bytes "a") (9 ∷ 9 ∷ 9 ∷ []) (Ok 1)
     ∷ shows "/assets" (2 ∷ 2 ∷ 2 ∷ 0 ∷ 1 ∷ 0 ∷ 3 ∷ 2 ∷ [])
     ∷ Call.body (bytes "a") gives returned (7 ∷ 8 ∷ []) ∷ [])
 unfolding opened
@@ -236,7 +235,7 @@ pub lengths_read :
     (shows "/assets" (0 ∷ 0 ∷ 2 ∷ 0 ∷ [])
     ∷ refuses "/asset/a" AssetNotFound
     ∷ Call.body (bytes "a") gives returned [] ∷ [])
-    × AssetsGive (twice 2 0 0 0 0) (stores (bytes "b") (9 ∷ []) (Stored 1) ∷ [])
+    × AssetsGive (twice 2 0 0 0 0) (stores (bytes "b") (9 ∷ []) (Ok 1) ∷ [])
 unfolding opened
 lengths_read = (refl, refl, refl, refl)
 

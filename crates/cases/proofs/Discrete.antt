@@ -23,9 +23,8 @@ use Rattle.spec.specs.declared.Level.TheVariants.{Normal}
 use Rattle.spec.specs.declared.Value.{Value}
 use Rattle.spec.specs.declared.Value.TheVariants.{Unavailable, Sample, Event, Condition}
 use Rattle.spec.specs.declared.Refusal.TheVariants.{Store, Item, Kind, Spent}
-use Rattle.spec.specs.declared.Answer.TheVariants.{Done}
-use Rattle.spec.specs.declared.ObserveAnswer.TheVariants.{Recorded, Same, Refused as Unrecorded}
-use Rattle.spec.specs.declared.StoreAnswer.TheVariants.{Stored}
+use Rattle.std.specs.Prelude.{Ok, Err}
+use Rattle.spec.specs.declared.Noted.TheVariants.{Recorded, Same}
 use Rattle.history.proofs.Recorded.{last_or-append}
 use Rattle.history.proofs.Agree.{observe-agree, store-last}
 use Rattle.history.proofs.History.{behind-good}
@@ -60,7 +59,7 @@ discrete-order model st item time v e = rw (e, discrete-takes v)
 -- the reference model has no question behind 4 and 5 but for a number
 counted : (model names : List ℕ) (p : State) (item : ℕ) (v : Value) → model_ok model names ≡ true → item < items model
     → category model item ≡ discrete → takes 1 v ≡ true → last_of p < max_number
-    → observe_answer model names p item v ≡ Recorded (suc (last_of p))
+    → observe_answer model names p item v ≡ Ok (Recorded (suc (last_of p)))
 unfolding observe_answer
 counted model names p item v m h k g l =
     rw (m, lt-leb _ _ h, k, discrete-takes v, g, ne_eqb (last_of p) max_number (omega arith))
@@ -84,7 +83,7 @@ again model o (suc k) (h, c, g, d) = (h, c, g, again model o k (h, c, g, d))
 -- so many offers in a row, equal or not, have so many numbers in a row
 pub discrete-all : (model names : List ℕ) → model_ok model names ≡ true → (os : List Offer) (p : State)
     → Discrete model os → last_of p + length os ≤ max_number
-    → offers_answers model names p os ≡ map Recorded (rising (length os) (suc (last_of p)))
+    → offers_answers model names p os ≡ map (λ (n : ℕ). Ok (Recorded n)) (rising (length os) (suc (last_of p)))
 unfolding offers_answers
 discrete-all model names m [] p d l = refl
 discrete-all model names m (o ∷ os) p (h, k, g, d) l =
@@ -98,14 +97,14 @@ pub discrete-recorded : (a : Start) (p : State) → begins a ≡ begun p → (cs
     → (item time host : ℕ) (v : Value) → item < items a.model → category a.model item ≡ discrete
     → takes 1 v ≡ true → Fits v → last (stores_behind a cs).observations < max_number
     → (Calls.observe a.model a.names (stores_behind a cs).observations item time host v).answer
-    ≡ Recorded (suc (last (stores_behind a cs).observations))
+    ≡ Ok (Recorded (suc (last (stores_behind a cs).observations)))
 discrete-recorded a p e cs t item time host v h k g f l =
     let G = behind-good a p e cs t in
     let q = reference_after a.model a.names p cs in
     let z : last (stores_behind a cs).observations ≡ last_of q = store-last a.model a.names q _ G in
     (observe-agree a.model a.names q _ G item time host v f).0
     ∙ counted a.model a.names q item v G.right h k g (omega (arith, z))
-    ∙ ap (λ (n : ℕ). Recorded (suc n)) (sym z)
+    ∙ ap (λ (n : ℕ). Ok (Recorded (suc n))) (sym z)
 
 -- ---- an event item, two discrete items and an asset change item between them; N 4
 
@@ -147,12 +146,12 @@ PulsesGive B =
 -- rows show it; the event item beside them says Same
 pub discrete-counts :
     PulsesGive 1
-    (Call.observe 1 10 10 Unavailable gives observed (Recorded 5)
-    ∷ Call.observe 1 11 11 Unavailable gives observed (Recorded 6)
-    ∷ Call.observe 3 12 12 Unavailable gives observed (Recorded 7)
-    ∷ Call.observe 0 13 13 Unavailable gives observed Same
-    ∷ Call.observe 1 14 14 (Event 7) gives observed (Recorded 8)
-    ∷ Call.observe 1 14 14 (Event 7) gives observed (Recorded 9)
+    (Call.observe 1 10 10 Unavailable gives observed (Ok (Recorded 5))
+    ∷ Call.observe 1 11 11 Unavailable gives observed (Ok (Recorded 6))
+    ∷ Call.observe 3 12 12 Unavailable gives observed (Ok (Recorded 7))
+    ∷ Call.observe 0 13 13 Unavailable gives observed (Ok Same)
+    ∷ Call.observe 1 14 14 (Event 7) gives observed (Ok (Recorded 8))
+    ∷ Call.observe 1 14 14 (Event 7) gives observed (Ok (Recorded 9))
     ∷ shows "/sample"
     (4 ∷ 6 ∷ 9 ∷ 10 ∷ 6 ∷ 7 ∷ 8 ∷ 9
     ∷ 11 ∷ 1099511627776 ∷ 12 ∷ 3298534883328 ∷ 14 ∷ 1108101562375 ∷ 14 ∷ 1108101562375 ∷ [])
@@ -161,11 +160,11 @@ pub discrete-counts :
     ∷ 1000 ∷ 0 ∷ 14 ∷ 1108101562375 ∷ 1000 ∷ 2199023255552 ∷ 12 ∷ 3298534883328 ∷ [])
     ∷ shows "/current?at=8&path=//Device//DataItem[@type=\"PART_COUNT\"]"
     (1 ∷ 6 ∷ 9 ∷ 10 ∷ 8 ∷ 14 ∷ 1108101562375 ∷ [])
-    ∷ Call.observe 0 15 15 (Event 7) gives observed (Recorded 10)
-    ∷ Call.observe 0 16 16 (Event 7) gives observed Same
-    ∷ Call.observe 3 17 17 (Event 7) gives observed (Recorded 11)
-    ∷ Call.observe 3 17 17 (Event 7) gives observed (Recorded 12)
-    ∷ stores (bytes "a") (5 ∷ []) (Stored 0)
+    ∷ Call.observe 0 15 15 (Event 7) gives observed (Ok (Recorded 10))
+    ∷ Call.observe 0 16 16 (Event 7) gives observed (Ok Same)
+    ∷ Call.observe 3 17 17 (Event 7) gives observed (Ok (Recorded 11))
+    ∷ Call.observe 3 17 17 (Event 7) gives observed (Ok (Recorded 12))
+    ∷ stores (bytes "a") (5 ∷ []) (Ok 0)
     ∷ shows "/sample?from=11"
     (3 ∷ 10 ∷ 13 ∷ 14 ∷ 11 ∷ 12 ∷ 13
     ∷ 17 ∷ 3307124817927 ∷ 17 ∷ 3307124817927 ∷ 10 ∷ 2207613190144 ∷ []) ∷ [])
@@ -175,13 +174,13 @@ discrete-counts = (refl, refl)
 -- a sample and a condition get 5, as does every value of the asset change item; the highest code is taken
 pub discrete-kinds :
     PulsesGive 1
-    (Call.observe 1 10 10 (Sample (pos 7)) gives observed (Unrecorded Kind)
-    ∷ Call.observe 1 10 10 (Condition Normal 0) gives observed (Unrecorded Kind)
-    ∷ Call.observe 3 10 10 (Sample (pos 7)) gives observed (Unrecorded Kind)
-    ∷ Call.observe 2 10 10 (Event 7) gives observed (Unrecorded Kind)
-    ∷ Call.observe 2 10 10 Unavailable gives observed (Unrecorded Kind)
-    ∷ Call.observe 4 10 10 Unavailable gives observed (Unrecorded Item)
-    ∷ Call.observe 1 10 10 (Event 4294967295) gives observed (Recorded 5) ∷ [])
+    (Call.observe 1 10 10 (Sample (pos 7)) gives observed (Err Kind)
+    ∷ Call.observe 1 10 10 (Condition Normal 0) gives observed (Err Kind)
+    ∷ Call.observe 3 10 10 (Sample (pos 7)) gives observed (Err Kind)
+    ∷ Call.observe 2 10 10 (Event 7) gives observed (Err Kind)
+    ∷ Call.observe 2 10 10 Unavailable gives observed (Err Kind)
+    ∷ Call.observe 4 10 10 Unavailable gives observed (Err Item)
+    ∷ Call.observe 1 10 10 (Event 4294967295) gives observed (Ok (Recorded 5)) ∷ [])
 unfolding opened
 discrete-kinds = (refl, refl)
 
@@ -189,16 +188,16 @@ discrete-kinds = (refl, refl)
 -- given to an equal value
 pub discrete-spent :
     PulsesGive 9223372036854775804
-    (Call.observe 0 10 10 Unavailable gives observed Same
-    ∷ Call.observe 1 10 10 Unavailable gives observed (Unrecorded Spent)
-    ∷ Call.observe 1 10 10 (Event 7) gives observed (Unrecorded Spent)
-    ∷ Call.observe 1 10 10 (Sample (pos 7)) gives observed (Unrecorded Kind)
-    ∷ Call.observe 4 10 10 Unavailable gives observed (Unrecorded Item) ∷ [])
+    (Call.observe 0 10 10 Unavailable gives observed (Ok Same)
+    ∷ Call.observe 1 10 10 Unavailable gives observed (Err Spent)
+    ∷ Call.observe 1 10 10 (Event 7) gives observed (Err Spent)
+    ∷ Call.observe 1 10 10 (Sample (pos 7)) gives observed (Err Kind)
+    ∷ Call.observe 4 10 10 Unavailable gives observed (Err Item) ∷ [])
     × PulsesGive 9223372036854775803
-    (Call.observe 0 10 10 Unavailable gives observed Same
-    ∷ Call.observe 1 10 10 Unavailable gives observed (Recorded 9223372036854775807)
-    ∷ Call.observe 1 10 10 Unavailable gives observed (Unrecorded Spent)
-    ∷ Call.observe 0 10 10 Unavailable gives observed Same ∷ [])
+    (Call.observe 0 10 10 Unavailable gives observed (Ok Same)
+    ∷ Call.observe 1 10 10 Unavailable gives observed (Ok (Recorded 9223372036854775807))
+    ∷ Call.observe 1 10 10 Unavailable gives observed (Err Spent)
+    ∷ Call.observe 0 10 10 Unavailable gives observed (Ok Same) ∷ [])
 unfolding opened
 discrete-spent = ((refl, refl), (refl, refl))
 
@@ -208,7 +207,7 @@ pub discrete-delivered :
     (gives-in
     (at 3 10 0 ∷ at 0 10 0 ∷ at 1 10 8589934599 ∷ at 0 10 8589934599 ∷ at 1 10 8589934599 ∷ at 0 10 8589934599
     ∷ at 1 10 4294967303 ∷ at 3 10 0 ∷ [])
-    8 (Done 8) (5 ∷ 0 ∷ 6 ∷ 7 ∷ 8 ∷ 0 ∷ 9223372036854775813 ∷ 9 ∷ [])
+    8 (Ok 8) (5 ∷ 0 ∷ 6 ∷ 7 ∷ 8 ∷ 0 ∷ 9223372036854775813 ∷ 9 ∷ [])
     ∷ shows "/sample"
     (4 ∷ 6 ∷ 9 ∷ 10 ∷ 6 ∷ 7 ∷ 8 ∷ 9
     ∷ 10 ∷ 1108101562375 ∷ 10 ∷ 8589934599 ∷ 10 ∷ 1108101562375 ∷ 10 ∷ 3298534883328 ∷ []) ∷ [])
@@ -232,9 +231,10 @@ pulse = record { item = 0; time = 10; host = 77; value = Event 7 }
 pub discrete-most :
     StoresGive one_model one_name
     (record { observations = 1 ∷ 1 ∷ 1 ∷ 1 ∷ 1000 ∷ 0 ∷ firsts (1 ∷ 1000 ∷ 0 ∷ 0 ∷ 0 ∷ 0 ∷ []); assets = no_assets })
-    (gives-in (replicate 256 (at 0 10 8589934599)) 256 (Done 256) (rising 256 2)
+    (gives-in (replicate 256 (at 0 10 8589934599)) 256 (Ok 256) (rising 256 2)
     ∷ shows "/sample" (1 ∷ 257 ∷ 257 ∷ 258 ∷ 257 ∷ 10 ∷ 8589934599 ∷ []) ∷ [])
-    × (offers_answers one_model one_name one_state (replicate 256 pulse) ≡ map Recorded (rising 256 2))
+    × (offers_answers one_model one_name one_state (replicate 256 pulse)
+    ≡ map (λ (n : ℕ). Ok (Recorded n)) (rising 256 2))
 unfolding opened
 discrete-most = (
   refl,
@@ -257,12 +257,12 @@ Latest x y = StoresGive pulse_model pulse_names (record { observations = pulse_s
 -- a discrete item's latest word is not read: the word to be added, another item's, no item's; the event item's is
 pub discrete-latest :
     Latest 8589934599 1108101562375
-    (Call.observe 0 10 10 (Event 7) gives observed Same
-    ∷ Call.observe 1 10 10 (Event 7) gives observed (Recorded 5) ∷ [])
+    (Call.observe 0 10 10 (Event 7) gives observed (Ok Same)
+    ∷ Call.observe 1 10 10 (Event 7) gives observed (Ok (Recorded 5)) ∷ [])
     × Latest 18446744073709551615 3307124817927
-    (Call.observe 1 10 10 (Event 7) gives observed (Recorded 5)
-    ∷ Call.observe 0 10 10 (Event 7) gives observed (Recorded 6) ∷ [])
-    × Latest 0 18446744073709551615 (Call.observe 1 10 10 Unavailable gives observed (Recorded 5) ∷ [])
+    (Call.observe 1 10 10 (Event 7) gives observed (Ok (Recorded 5))
+    ∷ Call.observe 0 10 10 (Event 7) gives observed (Ok (Recorded 6)) ∷ [])
+    × Latest 0 18446744073709551615 (Call.observe 1 10 10 Unavailable gives observed (Ok (Recorded 5)) ∷ [])
 unfolding opened
 discrete-latest = (refl, refl, refl)
 
@@ -275,9 +275,9 @@ Entry l =
 -- 5 before 2, 2 for an equal value; and 6 before 2
 pub discrete-entry :
     Entry 4
-    (Call.observe 0 10 10 Unavailable gives observed Same
-    ∷ Call.observe 1 10 10 Unavailable gives observed (Unrecorded Store)
-    ∷ Call.observe 1 10 10 (Sample (pos 7)) gives observed (Unrecorded Kind) ∷ [])
-    × Entry 9223372036854775807 (Call.observe 1 10 10 Unavailable gives observed (Unrecorded Spent) ∷ [])
+    (Call.observe 0 10 10 Unavailable gives observed (Ok Same)
+    ∷ Call.observe 1 10 10 Unavailable gives observed (Err Store)
+    ∷ Call.observe 1 10 10 (Sample (pos 7)) gives observed (Err Kind) ∷ [])
+    × Entry 9223372036854775807 (Call.observe 1 10 10 Unavailable gives observed (Err Spent) ∷ [])
 unfolding opened
 discrete-entry = (refl, refl)

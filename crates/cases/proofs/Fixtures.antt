@@ -15,9 +15,8 @@ use Rattle.spec.proofs.Examples.{cells_of, w}
 use Rattle.spec.specs.declared.Value.TheVariants.{Unavailable, Sample}
 use Rattle.spec.specs.declared.Refusal.{Refusal}
 use Rattle.spec.specs.declared.Record.{Record}
-use Rattle.spec.specs.declared.Answer.{Answer}
-use Rattle.spec.specs.declared.Answer.TheVariants.{Done, Refused}
-use Rattle.spec.specs.declared.StoreAnswer.{StoreAnswer}
+use Rattle.std.specs.Prelude.{Ok, Err}
+use Rattle.spec.specs.Answers.{Answer}
 
 infix 80 ◌gives◌
 -- ---- calls and what they are to give
@@ -33,17 +32,17 @@ output_of (c gives o) = o ∷ []
 
 -- a request whose reply fills the buffer; the first word is the answer's k
 abbrev pub shows : String → List ℕ → Step
-shows text words = Call.request (bytes text) (replicate (length words) 7) gives replied (Done (get_or words 0 0)) words
+shows text words = Call.request (bytes text) (replicate (length words) 7) gives replied (Ok (get_or words 0 0)) words
 
 -- a request that is refused and leaves so many words as they are
 abbrev pub refuses_in : ℕ → String → Refusal → Step
-refuses_in words text r = Call.request (bytes text) (replicate words 7) gives replied (Refused r) (replicate words 7)
+refuses_in words text r = Call.request (bytes text) (replicate words 7) gives replied (Err r) (replicate words 7)
 
 abbrev pub refuses : String → Refusal → Step
 refuses = refuses_in 64
 
 -- an asset that is stored
-abbrev pub stores : List ℕ → List ℕ → StoreAnswer → Step
+abbrev pub stores : List ℕ → List ℕ → Answer → Step
 stores id content r = Call.store_asset id content 10 gives stored r
 
 -- a record: item, time and the value's word
@@ -70,8 +69,8 @@ blank_at number item = record { number = number; item = item; time = 1000; value
 -- both layers give so behind a start that is accepted, the reference model's from the state p
 abbrev pub StartGives : Start → State → List Step → Type 0
 StartGives a p ss =
-    (stores_outputs a (map call_of ss) ≡ (started (Done 0) ∷ []) ∷ map output_of ss)
-    × (reference_outputs a p (map call_of ss) ≡ (started (Done 0) ∷ []) ∷ map output_of ss)
+    (stores_outputs a (map call_of ss) ≡ (started (Ok 0) ∷ []) ∷ map output_of ss)
+    × (reference_outputs a p (map call_of ss) ≡ (started (Ok 0) ∷ []) ∷ map output_of ss)
 
 -- ---- tables
 

@@ -16,9 +16,9 @@ use Rattle.cases.specs.Bench.{bench_model, bench_names}
 use Rattle.spec.specs.declared.Level.TheVariants.{Normal, Warning, Fault}
 use Rattle.spec.specs.declared.Value.{Value}
 use Rattle.spec.specs.declared.Value.TheVariants.{Unavailable, Sample, Event, Condition}
-use Rattle.spec.specs.declared.Answer.TheVariants.{Done}
-use Rattle.spec.specs.declared.ObserveAnswer.{ObserveAnswer}
-use Rattle.spec.specs.declared.ObserveAnswer.TheVariants.{Recorded, Same, Refused as Unrecorded}
+use Rattle.std.specs.Prelude.{Ok, Err}
+use Rattle.spec.specs.Answers.{ObserveAnswer}
+use Rattle.spec.specs.declared.Noted.TheVariants.{Recorded, Same}
 use Rattle.spec.specs.declared.Refusal.{Refusal}
 use Rattle.spec.specs.declared.Refusal.TheVariants.{Model, Store, Item, Kind, Spent, Space, Crowded, Line, Stamp}
 use Rattle.cases.proofs.Opened.{opened}
@@ -31,22 +31,22 @@ abbrev reads : String → ObserveAnswer → Step
 reads text x = Call.line (bytes text) 77 gives observed x
 
 abbrev records : String → ℕ → Step
-records text n = reads text (Recorded n)
+records text n = reads text (Ok (Recorded n))
 
 abbrev refuses : String → Refusal → Step
-refuses text r = reads text (Unrecorded r)
+refuses text r = reads text (Err r)
 
 -- ---- lines read
 
 -- an empty stamp, and one that is time 0, take the host's time; a value that stands already is Same, stamp or no stamp
 pub lines-observed :
     BenchGives
-    (reads "|1|-0.001" Same
+    (reads "|1|-0.001" (Ok Same)
     ∷ records "|1|5.05" 5
-    ∷ reads "2026-11-21T08:30:00.250Z|1|5.050" Same
+    ∷ reads "2026-11-21T08:30:00.250Z|1|5.050" (Ok Same)
     ∷ records "1970-01-01T00:00:02.000Z|1|-5" 6
     ∷ records "1970-01-01T00:00:00.000Z|01|0" 7
-    ∷ reads "|1|-0.000" Same
+    ∷ reads "|1|-0.000" (Ok Same)
     ∷ shows "/sample?from=5"
     (3 ∷ 5 ∷ 7 ∷ 8 ∷ 5 ∷ 6 ∷ 7 ∷ 77 ∷ 1103806600122 ∷ 2000 ∷ 1108101557368 ∷ 77 ∷ 1103806595072 ∷ []) ∷ [])
 unfolding opened
@@ -56,7 +56,7 @@ lines-observed = (refl, refl)
 pub lines-by-category :
     BenchGives
     (records "|0|3" 5
-    ∷ reads "|0|0000000003" Same
+    ∷ reads "|0|0000000003" (Ok Same)
     ∷ refuses "|0|-3" Kind
     ∷ refuses "|0|-0" Kind
     ∷ refuses "|0|3.0" Kind
@@ -64,7 +64,7 @@ pub lines-by-category :
     ∷ refuses "|1|FAULT:1" Kind
     ∷ records "|0|UNAVAILABLE" 6
     ∷ records "|1|UNAVAILABLE" 7
-    ∷ reads "|1|UNAVAILABLE" Same ∷ [])
+    ∷ reads "|1|UNAVAILABLE" (Ok Same) ∷ [])
 unfolding opened
 lines-by-category = (refl, refl)
 
@@ -108,20 +108,20 @@ alarm_state = record { N = 4; A = 1; B = 1; H = blank_at 1 0 ∷ []; T = [] }
 
 pub lines-conditions :
     StartGives alarm_start alarm_state
-    (reads "|0|NORMAL:7" Same
+    (reads "|0|NORMAL:7" (Ok Same)
     ∷ records "|0|FAULT:16777215" 2
     ∷ refuses "|0|FAULT:16777216" Kind
     ∷ refuses "|0|FAULT:9999999999" Kind
     ∷ refuses "|0|NORMAL:16777216" Kind
     ∷ refuses "|0|5" Kind
-    ∷ reads "|0|FAULT:0016777215" Same
+    ∷ reads "|0|FAULT:0016777215" (Ok Same)
     ∷ records "|0|WARNING:16777215" 3
     ∷ records "|0|NORMAL:16777215" 4
-    ∷ reads "|0|NORMAL:0" Same
+    ∷ reads "|0|NORMAL:0" (Ok Same)
     ∷ records "|0|WARNING:1" 5 ∷ records "|0|WARNING:2" 6 ∷ records "|0|WARNING:3" 7 ∷ records "|0|WARNING:4" 8
     ∷ records "|0|WARNING:5" 9 ∷ records "|0|WARNING:6" 10 ∷ records "|0|WARNING:7" 11 ∷ records "|0|FAULT:0" 12
     ∷ refuses "|0|FAULT:9" Crowded
-    ∷ reads "|0|NORMAL:9" Same
+    ∷ reads "|0|NORMAL:9" (Ok Same)
     ∷ records "|0|UNAVAILABLE" 13
     ∷ records "|0|NORMAL:0" 14 ∷ [])
 unfolding opened
@@ -134,7 +134,7 @@ pub lines-tools :
     ∷ refuses "|1|0" Kind
     ∷ records "|0|5" 9223372036854775807
     ∷ refuses "|0|6" Spent
-    ∷ reads "|0|5" Same
+    ∷ reads "|0|5" (Ok Same)
     ∷ refuses "|0|6x" Line
     ∷ refuses "2099-02-29T00:00:00.000Z|0|6" Stamp ∷ [])
 unfolding opened
@@ -177,7 +177,7 @@ lines-model = (refl, refl)
 abbrev Writes : List ℕ → List ℕ → ℕ → ℕ → Value → ℕ → String → ℕ → Type 0
 Writes model names item time v room text behind =
     write_line model names item time v (replicate room 7)
-    ≡ record { answer = Done (length (bytes text)); reply = bytes text ++ replicate behind 7 }
+    ≡ record { answer = Ok (length (bytes text)); reply = bytes text ++ replicate behind 7 }
 
 -- as they stood
 abbrev Keeps : List ℕ → List ℕ → ℕ → ℕ → Value → ℕ → Refusal → Type 0

@@ -13,9 +13,8 @@ use Rattle.history.specs.History.Output.{observed}
 use Rattle.cases.specs.Bench.{bench_model, bench_names}
 use Rattle.spec.specs.declared.Level.TheVariants.{Normal}
 use Rattle.spec.specs.declared.Value.TheVariants.{Unavailable, Sample, Event, Condition}
-use Rattle.spec.specs.declared.Answer.TheVariants.{Refused}
-use Rattle.spec.specs.declared.ObserveAnswer.TheVariants.{Same, Refused as Unrecorded}
-use Rattle.spec.specs.declared.StoreAnswer.TheVariants.{Refused as Unstored}
+use Rattle.std.specs.Prelude.{Ok, Err}
+use Rattle.spec.specs.declared.Noted.TheVariants.{Same}
 use Rattle.spec.specs.declared.Refusal.TheVariants.{Model, Store, Item, Kind, Spent, InvalidUri}
 use Rattle.spec.specs.declared.Refusal.TheVariants.{InvalidRequest, Unsupported, TooMany, InvalidXpath}
 use Rattle.spec.specs.declared.Refusal.TheVariants.{AssetNotFound, Asset, Late, Early}
@@ -115,9 +114,9 @@ asset-orders = refl
 -- 4 before 5: a value that no item takes, of an item that isn't there
 pub item-orders :
     BenchGives
-    (Call.observe 2 10 10 (Condition Normal 16777216) gives observed (Unrecorded Item)
-    ∷ Call.observe 1 10 10 (Condition Normal 16777216) gives observed (Unrecorded Kind)
-    ∷ Call.observe 1 10 10 (Event 1) gives observed (Unrecorded Kind) ∷ [])
+    (Call.observe 2 10 10 (Condition Normal 16777216) gives observed (Err Item)
+    ∷ Call.observe 1 10 10 (Condition Normal 16777216) gives observed (Err Kind)
+    ∷ Call.observe 1 10 10 (Event 1) gives observed (Err Kind) ∷ [])
 unfolding opened
 item-orders = (refl, refl)
 
@@ -130,21 +129,21 @@ pub kind-orders :
           ∷ (firsts (1 ∷ 2 ∷ 0 ∷ 0 ∷ 0 ∷ 1108101562375 ∷ []) ++ replicate 48 0);
       assets = no_assets;
     })
-    (Call.observe 1 10 10 (Event 7) gives observed (Unrecorded Kind) ∷ [])
+    (Call.observe 1 10 10 (Event 7) gives observed (Err Kind) ∷ [])
 unfolding opened
 kind-orders = refl
 
 -- last is 2^63 - 1: 4, 5 and Same before 6
 pub spent-orders :
     ToolsGive 9223372036854775806
-    (Call.observe 2 10 10 (Sample (pos 5)) gives observed (Unrecorded Item)
-    ∷ Call.observe 0 10 10 (Event 5) gives observed (Unrecorded Kind)
-    ∷ Call.observe 1 10 10 Unavailable gives observed (Unrecorded Kind)
-    ∷ Call.observe 0 10 10 Unavailable gives observed Same
-    ∷ Call.observe 0 10 10 (Sample (pos 5)) gives observed (Unrecorded Spent)
-    ∷ stores [] (5 ∷ []) (Unstored Asset)
-    ∷ stores (bytes "a") [] (Unstored Asset)
-    ∷ stores (bytes "a") (5 ∷ []) (Unstored Spent) ∷ [])
+    (Call.observe 2 10 10 (Sample (pos 5)) gives observed (Err Item)
+    ∷ Call.observe 0 10 10 (Event 5) gives observed (Err Kind)
+    ∷ Call.observe 1 10 10 Unavailable gives observed (Err Kind)
+    ∷ Call.observe 0 10 10 Unavailable gives observed (Ok Same)
+    ∷ Call.observe 0 10 10 (Sample (pos 5)) gives observed (Err Spent)
+    ∷ stores [] (5 ∷ []) (Err Asset)
+    ∷ stores (bytes "a") [] (Err Asset)
+    ∷ stores (bytes "a") (5 ∷ []) (Err Spent) ∷ [])
 unfolding opened
 spent-orders = (refl, refl)
 
@@ -158,17 +157,17 @@ EntryGives l = StoresGive tool_model tool_names (record { observations = wrong_e
 -- 4, 5, Same and 14 before 2 for the entry about to be overwritten, and so is 6
 pub entry-orders :
     EntryGives 2
-    (Call.observe 2 10 10 (Sample (pos 5)) gives observed (Unrecorded Item)
-    ∷ Call.observe 0 10 10 (Event 5) gives observed (Unrecorded Kind)
-    ∷ Call.observe 0 10 10 Unavailable gives observed Same
-    ∷ Call.observe 0 10 10 (Sample (pos 5)) gives observed (Unrecorded Store)
-    ∷ stores [] (5 ∷ []) (Unstored Asset)
-    ∷ stores (bytes "a") (5 ∷ []) (Unstored Store) ∷ [])
+    (Call.observe 2 10 10 (Sample (pos 5)) gives observed (Err Item)
+    ∷ Call.observe 0 10 10 (Event 5) gives observed (Err Kind)
+    ∷ Call.observe 0 10 10 Unavailable gives observed (Ok Same)
+    ∷ Call.observe 0 10 10 (Sample (pos 5)) gives observed (Err Store)
+    ∷ stores [] (5 ∷ []) (Err Asset)
+    ∷ stores (bytes "a") (5 ∷ []) (Err Store) ∷ [])
     × EntryGives 9223372036854775807
-    (Call.observe 0 10 10 Unavailable gives observed Same
-    ∷ Call.observe 0 10 10 (Sample (pos 5)) gives observed (Unrecorded Spent)
-    ∷ stores [] (5 ∷ []) (Unstored Asset)
-    ∷ stores (bytes "a") (5 ∷ []) (Unstored Spent) ∷ [])
+    (Call.observe 0 10 10 Unavailable gives observed (Ok Same)
+    ∷ Call.observe 0 10 10 (Sample (pos 5)) gives observed (Err Spent)
+    ∷ stores [] (5 ∷ []) (Err Asset)
+    ∷ stores (bytes "a") (5 ∷ []) (Err Spent) ∷ [])
 unfolding opened
 entry-orders = (refl, refl)
 
@@ -177,24 +176,24 @@ entry-orders = (refl, refl)
 -- 1 before 2, 4, 7 and 14, and before 3
 pub model-orders :
     BothGive [] plain_names (record { observations = []; assets = [] }) (tool_state 1)
-    (Call.observe 9 10 10 Unavailable gives observed (Unrecorded Model)
-    ∷ stores [] [] (Unstored Model)
+    (Call.observe 9 10 10 Unavailable gives observed (Err Model)
+    ∷ stores [] [] (Err Model)
     ∷ refuses_in 0 "x" Model ∷ [])
-    × ((Calls.start [] plain_names [] [] 0 0 0 0).answer ≡ Refused Model)
-    × (Reference.begin_answer (Reference.begin [] plain_names 0 0 0 0 0 0) ≡ Refused Model)
+    × ((Calls.start [] plain_names [] [] 0 0 0 0).answer ≡ Err Model)
+    × (Reference.begin_answer (Reference.begin [] plain_names 0 0 0 0 0 0) ≡ Err Model)
 unfolding opened
 model-orders = ((refl, refl), refl, refl)
 
 -- 2 for a head before 4, 7, 8, 13 and 14; observe takes the observation store alone, store-asset and request take both
 pub head-orders :
     StoresGive bench_model bench_names (record { observations = []; assets = no_assets })
-    (Call.observe 9 10 10 Unavailable gives observed (Unrecorded Store)
-    ∷ stores [] [] (Unstored Store)
+    (Call.observe 9 10 10 Unavailable gives observed (Err Store)
+    ∷ stores [] [] (Err Store)
     ∷ refuses "x" Store
     ∷ refuses "/assets" Store ∷ [])
     × StoresGive bench_model bench_names (record { observations = bench_store; assets = [] })
-    (Call.observe 9 10 10 Unavailable gives observed (Unrecorded Item)
-    ∷ stores [] [] (Unstored Store)
+    (Call.observe 9 10 10 Unavailable gives observed (Err Item)
+    ∷ stores [] [] (Err Store)
     ∷ refuses "x" Store
     ∷ refuses "/asset/a" Store
     ∷ refuses "/sample?count=0" Store ∷ [])

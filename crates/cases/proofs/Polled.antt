@@ -2,7 +2,6 @@
 use mathlib.Core.Path.{refl}
 use Prim.Native.Nat.{◌≤◌, ◌<◌}
 use mathlib.Core.List.{List, [], ◌∷◌, map}
-use mathlib.Core.Option.{none}
 use lib.Dec.{lit<, lit≤}
 use lib.IntN.{pos}
 use lib.ListN.{replicate}
@@ -13,8 +12,8 @@ use Rattle.history.specs.History.Output.{observed}
 use Rattle.history.specs.Polls.{Gave, Polls, state_before}
 use Rattle.spec.specs.declared.Value.TheVariants.{Sample}
 use Rattle.spec.specs.declared.Refusal.TheVariants.{TooMany, InvalidXpath, Late, Early}
-use Rattle.spec.specs.declared.Answer.TheVariants.{Done, Refused}
-use Rattle.spec.specs.declared.ObserveAnswer.TheVariants.{Recorded}
+use Rattle.std.specs.Prelude.{Ok, Err, None}
+use Rattle.spec.specs.declared.Noted.TheVariants.{Recorded}
 use Rattle.cases.proofs.Opened.{opened}
 use Rattle.cases.proofs.Fixtures.{Step, call_of, shows, refuses, ToolsGive, tool_start, tool_state}
 use Rattle.cases.proofs.Fixtures.Step.{◌gives◌}
@@ -24,12 +23,12 @@ use Rattle.cases.proofs.Fixtures.Step.{◌gives◌}
 abbrev slept : List Step
 slept =
     shows "/current" (2 ∷ 1 ∷ 2 ∷ 3 ∷ 1 ∷ 2 ∷ 1000 ∷ 0 ∷ 1000 ∷ 1099511627776 ∷ [])
-    ∷ Call.observe 0 10 10 (Sample (pos 1)) gives observed (Recorded 3)
-    ∷ Call.observe 0 11 11 (Sample (pos 2)) gives observed (Recorded 4)
-    ∷ Call.observe 0 12 12 (Sample (pos 3)) gives observed (Recorded 5)
-    ∷ Call.observe 0 13 13 (Sample (pos 4)) gives observed (Recorded 6)
+    ∷ Call.observe 0 10 10 (Sample (pos 1)) gives observed (Ok (Recorded 3))
+    ∷ Call.observe 0 11 11 (Sample (pos 2)) gives observed (Ok (Recorded 4))
+    ∷ Call.observe 0 12 12 (Sample (pos 3)) gives observed (Ok (Recorded 5))
+    ∷ Call.observe 0 13 13 (Sample (pos 4)) gives observed (Ok (Recorded 6))
     ∷ shows "/sample?from=3&count=1" (1 ∷ 3 ∷ 6 ∷ 4 ∷ 3 ∷ 10 ∷ 4294967297 ∷ [])
-    ∷ Call.observe 0 14 14 (Sample (pos 5)) gives observed (Recorded 7)
+    ∷ Call.observe 0 14 14 (Sample (pos 5)) gives observed (Ok (Recorded 7))
     ∷ refuses "/sample?from=3" Late
     ∷ refuses "/sample?from=3&count=4&path=//Device" Late
     ∷ refuses "/sample?from=3&count=5" TooMany
@@ -60,14 +59,14 @@ slept-gave =
     }
 
 pub slept-late :
-    Polls (tool_start 1) slept_calls 7 3 (Refused Late)
+    Polls (tool_start 1) slept_calls 7 3 (Err Late)
     × (3 < first_of (state_before (tool_start 1) (tool_state 1) slept_calls 7))
 unfolding opened
 slept-late = (
   record {
     text = bytes "/sample?from=3";
     words = replicate 64 7;
-    path = none;
+    path = None;
     count = 0;
     asks = record { buffer = replicate 64 7; call = refl; output = refl };
     from = refl;
@@ -76,14 +75,14 @@ slept-late = (
 )
 
 pub slept-kept :
-    Polls (tool_start 1) slept_calls 5 3 (Done 1)
+    Polls (tool_start 1) slept_calls 5 3 (Ok 1)
     × (first_of (state_before (tool_start 1) (tool_state 1) slept_calls 5) ≤ 3)
 unfolding opened
 slept-kept = (
   record {
     text = bytes "/sample?from=3&count=1";
     words = 1 ∷ 3 ∷ 6 ∷ 4 ∷ 3 ∷ 10 ∷ 4294967297 ∷ [];
-    path = none;
+    path = None;
     count = 1;
     asks = record { buffer = replicate 7 7; call = refl; output = refl };
     from = refl;

@@ -7,6 +7,7 @@ use mathlib.Core.List.{List, [], ◌∷◌, ◌++◌}
 use lib.IntN.{pos}
 use lib.Dec.{leb, ltb}
 use lib.ListN.{length, replicate}
+use Rattle.std.specs.Prelude.{Result, Ok, Err}
 use Rattle.spec.specs.Bytes.{bytes}
 use Rattle.spec.specs.Value.{takes, pack}
 use Rattle.spec.specs.Model.{items, category, has_change, model_ok}
@@ -15,7 +16,7 @@ use Rattle.spec.specs.Path.{select}
 use Rattle.history.specs.Observations.{ring_size, base, last, head_ok, ring_ok, current_ok, at_ok}
 use Rattle.spec.specs.Assets.{used, length_at, asset_head_ok, asset_ok, cell_for, store_cells, length_ok}
 use Rattle.spec.specs.Reply.{Replied, refuse, over, observation_words, written, observation_reply, asset_reply}
-use Rattle.spec.specs.Answers.{answer_number, observe_word, store_word}
+use Rattle.spec.specs.Answers.{Answer, Verdict, answer_number, observe_word, store_word}
 use Rattle.spec.specs.Text.{Request, Reading}
 use Rattle.spec.specs.Text.Request.{sample, current, current_at, assets, all_assets}
 use Rattle.spec.specs.Text.Reading.{unread, asked}
@@ -28,7 +29,8 @@ use Rattle.history.specs.Calls.{observe_item, observe_reading, observe_line, wri
 use Rattle.lines.specs.Stamps.{max_time}
 use Rattle.lines.specs.Lines.{read_line, value_for, line_of}
 use Rattle.lines.specs.declared.Line.{Line}
-use Rattle.lines.specs.declared.Line.TheVariants.{Malformed, BadStamp, Reads}
+use Rattle.lines.specs.declared.LineError.{LineError}
+use Rattle.lines.specs.declared.LineError.TheVariants.{Malformed, BadStamp}
 use Rattle.cases.specs.Bench.{bench_model, bench_names}
 use Rattle.spec.specs.declared.Record.{Record}
 use Rattle.spec.specs.declared.Value.{Value}
@@ -36,14 +38,7 @@ use Rattle.spec.specs.declared.Level.TheVariants.{Fault}
 use Rattle.spec.specs.declared.Value.TheVariants.{Sample, Condition}
 use Rattle.spec.specs.declared.Refusal.{Refusal}
 use Rattle.spec.specs.declared.Refusal.TheVariants.{Space}
-use Rattle.spec.specs.declared.Answer.{Answer}
-use Rattle.spec.specs.declared.Answer.TheVariants.{Done, Refused}
-use Rattle.spec.specs.declared.ObserveAnswer.TheVariants.{Refused as Unrecorded}
-use Rattle.spec.specs.declared.StoreAnswer.TheVariants.{Stored, Refused as Unstored}
-use Rattle.spec.specs.declared.Verdict.{Verdict}
-use Rattle.spec.specs.declared.Verdict.TheVariants.{Fine, Refused as Against}
-use Rattle.spec.specs.declared.Selection.{Selection}
-use Rattle.spec.specs.declared.Selection.TheVariants.{Items, NotFound}
+use Rattle.std.specs.Prelude.{Ok, Err, Option, Some, None}
 use Rattle.spec.proofs.Examples.{w}
 use Rattle.cases.proofs.Opened.{opened}
 use Rattle.cases.proofs.Fixtures.{no_assets, bench_store, alarm_model, alarm_names, eight_warnings}
@@ -117,7 +112,7 @@ each-given = refl
 -- ---- a refused call changes nothing
 
 abbrev KeepsStart : List ℕ → List ℕ → Started → Type 0
-KeepsStart st bs o = (r : Refusal) → o.answer ≡ Refused r → (o.observations ≡ st) × (o.assets ≡ bs)
+KeepsStart st bs o = (r : Refusal) → o.answer ≡ Err r → (o.observations ≡ st) × (o.assets ≡ bs)
 
 pub start-keeps : (model names st bs : List ℕ) (N A B host : ℕ) → KeepsStart st bs (start model names st bs N A B host)
 unfolding start start_both
@@ -127,12 +122,12 @@ start-keeps model names st bs N A B host =
     (λ h r e. (refl, refl))
 
 abbrev KeepsObserve : List ℕ → Observed → Type 0
-KeepsObserve st o = (r : Refusal) → o.answer ≡ Unrecorded r → o.observations ≡ st
+KeepsObserve st o = (r : Refusal) → o.answer ≡ Err r → o.observations ≡ st
 
 observe-by : (x : Verdict) (cat : ℕ → ℕ) (m : ℕ) (st : List ℕ) (item time word : ℕ)
     → KeepsObserve st (observe_by x cat m st item time word)
-observe-by Fine cat m st item time word r q = cc
-observe-by (Against x) cat m st item time word r q = refl
+observe-by (Ok tt) cat m st item time word r q = cc
+observe-by (Err x) cat m st item time word r q = refl
 
 item-keeps : (model st : List ℕ) (item time : ℕ) (v : Value) → KeepsObserve st (observe_item model st item time v)
 item-keeps model st item time v =
@@ -149,11 +144,11 @@ observe-keeps model names st item time host v =
     (λ b. item-keeps model st item (time_or time host) v) (λ b r q. refl))
     (λ a r q. refl)
 
-reading-observed : (model st : List ℕ) (host : ℕ) (l : Line) → KeepsObserve st (observe_reading l model st host)
-reading-observed model st host Malformed = λ r q. refl
-reading-observed model st host BadStamp = λ r q. refl
-reading-observed model st host (Reads time item form) =
-    item-keeps model st item (time_or time host) (value_for (category model item) form)
+reading-observed : (model st : List ℕ) (host : ℕ) (l : Result Line LineError) → KeepsObserve st (observe_reading l model st host)
+reading-observed model st host (Err Malformed) = λ r q. refl
+reading-observed model st host (Err BadStamp) = λ r q. refl
+reading-observed model st host (Ok l) =
+    item-keeps model st l.item (time_or l.time host) (value_for (category model l.item) l.form)
 
 pub line-keeps : (model names st text : List ℕ) (host : ℕ)
     → KeepsObserve st (observe_line model names st text host)
@@ -165,11 +160,11 @@ line-keeps model names st text host =
     (λ a r q. refl)
 
 abbrev KeepsBatch : List ℕ → List ℕ → Batched → Type 0
-KeepsBatch st answers o = (r : Refusal) → o.answer ≡ Refused r → (o.observations ≡ st) × (o.answers ≡ answers)
+KeepsBatch st answers o = (r : Refusal) → o.answer ≡ Err r → (o.observations ≡ st) × (o.answers ≡ answers)
 
 batch-by : (x : Answer) (q : Answered) (st answers : List ℕ) → KeepsBatch st answers (batch_by x q st answers)
-batch-by (Done n) q st answers r e = (cc, cc)
-batch-by (Refused x) q st answers r e = (refl, refl)
+batch-by (Ok n) q st answers r e = (cc, cc)
+batch-by (Err x) q st answers r e = (refl, refl)
 
 pub batch-keeps : (model names st : List ℕ) (records : List Record) (host : ℕ) (answers : List ℕ)
     → KeepsBatch st answers (observe_batch model names st records host answers)
@@ -179,13 +174,13 @@ batch-keeps model names st records host answers =
     answers
 
 abbrev KeepsStore : List ℕ → List ℕ → Kept → Type 0
-KeepsStore st bs o = (r : Refusal) → o.answer ≡ Unstored r → (o.observations ≡ st) × (o.assets ≡ bs)
+KeepsStore st bs o = (r : Refusal) → o.answer ≡ Err r → (o.observations ≡ st) × (o.assets ≡ bs)
 
 keep-by : (x : Verdict) (model st bs id content : List ℕ) (host : ℕ) → KeepsStore st bs (keep_by x model st bs id content host)
-keep-by Fine model st bs id content host r q = (cc, cc)
-keep-by (Against x) model st bs id content host r q = (refl, refl)
+keep-by (Ok tt) model st bs id content host r q = (cc, cc)
+keep-by (Err x) model st bs id content host r q = (refl, refl)
 
-stored-keeps : (c : ℕ) (st bs bs' : List ℕ) → KeepsStore st bs (record { answer = Stored c; observations = st; assets = bs' })
+stored-keeps : (c : ℕ) (st bs bs' : List ℕ) → KeepsStore st bs (record { answer = Ok c; observations = st; assets = bs' })
 stored-keeps c st bs bs' r q = (refl, cc)
 
 pub store_keeps : (model names st bs id content : List ℕ) (host : ℕ) → KeepsStore st bs (store_asset model names st bs id content host)
@@ -203,7 +198,7 @@ store_keeps model names st bs id content host =
     (λ a r q. (refl, refl))
 
 abbrev KeepsReply : List ℕ → Replied → Type 0
-KeepsReply reply o = (r : Refusal) → o.answer ≡ Refused r → o.reply ≡ reply
+KeepsReply reply o = (r : Refusal) → o.answer ≡ Err r → o.reply ≡ reply
 
 module _ (reply : List ℕ) where
   K : Replied → Type 0
@@ -213,7 +208,7 @@ module _ (reply : List ℕ) where
   unfolding K
   refuse-keeps x r q = refl
 
-  done-keeps : (k : ℕ) (words : List ℕ) → K (record { answer = Done k; reply = over words reply })
+  done-keeps : (k : ℕ) (words : List ℕ) → K (record { answer = Ok k; reply = over words reply })
   unfolding K
   done-keeps k words r q = cc
 
@@ -230,24 +225,24 @@ module _ (reply : List ℕ) where
   cells-keeps bs cells = by_cond K (all_cells (λ i. length_ok (length_at bs i)) cells) _ _ (λ h. written_keeps (length (cell_rows bs cells)) _) (λ h. refuse-keeps _)
 
   unless-keeps : (x : Verdict) (o : Replied) → K o → K (unless x reply o)
-  unless-keeps Fine o h = h
-  unless-keeps (Against r) o h = refuse-keeps r
+  unless-keeps (Ok tt) o h = h
+  unless-keeps (Err r) o h = refuse-keeps r
 
   between-keeps : (m : ℕ) (st : List ℕ) (sel f e : ℕ) → K (sample_between m st sel f e reply)
   unfolding sample_between
   between-keeps m st sel f e = by_cond K (ring_ok (ring_size st) m (base st) st (e - f) f) _ _ (λ h. observation-keeps _ _ _ _) (λ h. refuse-keeps _)
 
-  sample-keeps : (m : ℕ) (st : List ℕ) (from count : ℕ) (s : Selection) → K (sample_reply m st from count reply s)
+  sample-keeps : (m : ℕ) (st : List ℕ) (from count : ℕ) (s : Option ℕ) → K (sample_reply m st from count reply s)
   unfolding sample_reply
-  sample-keeps m st from count NotFound = refuse-keeps _
-  sample-keeps m st from count (Items sel) =
+  sample-keeps m st from count None = refuse-keeps _
+  sample-keeps m st from count (Some sel) =
       let f : ℕ = start_of (first st) from in
       unless-keeps (in_range (first st) (suc (last st)) f) (sample_between m st sel f (end_of f count (last st)) reply) (between-keeps m st sel f (end_of f count (last st)))
 
-  current-keeps : (cat : ℕ → ℕ) (m : ℕ) (st : List ℕ) (s : Selection) → K (current_reply cat m st reply s)
+  current-keeps : (cat : ℕ → ℕ) (m : ℕ) (st : List ℕ) (s : Option ℕ) → K (current_reply cat m st reply s)
   unfolding current_reply
-  current-keeps cat m st NotFound = refuse-keeps _
-  current-keeps cat m st (Items sel) =
+  current-keeps cat m st None = refuse-keeps _
+  current-keeps cat m st (Some sel) =
       by_cond K (current_ok cat (ring_size st) m st sel) _ _ (λ h. observation-keeps _ _ _ _) (λ h. refuse-keeps _)
 
   up_to-keeps : (cat : ℕ → ℕ) (m : ℕ) (st : List ℕ) (sel number : ℕ) → K (current_up_to cat m st sel number reply)
@@ -258,10 +253,10 @@ module _ (reply : List ℕ) where
       && at_ok cat (ring_size st) m (base st) st sel (suc number - first st) (first st)) _ _
       (λ h. observation-keeps _ _ _ _) (λ h. refuse-keeps _)
 
-  at-keeps : (cat : ℕ → ℕ) (m : ℕ) (st : List ℕ) (number : ℕ) (s : Selection) → K (at_reply cat m st number reply s)
+  at-keeps : (cat : ℕ → ℕ) (m : ℕ) (st : List ℕ) (number : ℕ) (s : Option ℕ) → K (at_reply cat m st number reply s)
   unfolding at_reply
-  at-keeps cat m st number NotFound = refuse-keeps _
-  at-keeps cat m st number (Items sel) =
+  at-keeps cat m st number None = refuse-keeps _
+  at-keeps cat m st number (Some sel) =
       unless-keeps (in_range (first st) (last st) number) (current_up_to cat m st sel number reply)
       (up_to-keeps cat m st sel number)
 

@@ -4,7 +4,6 @@
 use mathlib.Core.Path.{◌≡◌, refl}
 use mathlib.Core.Bool.{true}
 use mathlib.Core.List.{List, [], ◌∷◌, ◌++◌, map}
-use mathlib.Core.Option.{none}
 use lib.IntN.{pos}
 use lib.ListN.{replicate}
 use Rattle.spec.specs.Bytes.{bytes, pad}
@@ -12,8 +11,8 @@ use Rattle.history.specs.History.{Call, Stores, Start, Window, stores_behind, ca
 use Rattle.history.specs.History.Output.{observed, stored, returned}
 use Rattle.cases.specs.Bench.{bench_start, bench_observes, bench_stores}
 use Rattle.spec.specs.declared.Value.TheVariants.{Sample}
-use Rattle.spec.specs.declared.ObserveAnswer.TheVariants.{Recorded}
-use Rattle.spec.specs.declared.StoreAnswer.TheVariants.{Stored}
+use Rattle.std.specs.Prelude.{Ok, None}
+use Rattle.spec.specs.declared.Noted.TheVariants.{Recorded}
 use Rattle.cases.proofs.Opened.{opened}
 use Rattle.cases.proofs.Fixtures.{Step, call_of, shows, ToolsGive, tool_start, bench_store}
 use Rattle.cases.proofs.Fixtures.Step.{◌gives◌}
@@ -23,9 +22,9 @@ use Rattle.cases.proofs.Fixtures.Step.{◌gives◌}
 -- an asset is stored, another, the first anew; then what is asked for
 abbrev tool_steps : List Step
 tool_steps =
-    Call.store_asset (bytes "a") (7 ∷ []) 10 gives stored (Stored 0)
-    ∷ Call.store_asset (bytes "b") (8 ∷ 9 ∷ []) 20 gives stored (Stored 1)
-    ∷ Call.store_asset (bytes "a") (1 ∷ 2 ∷ 3 ∷ []) 30 gives stored (Stored 1)
+    Call.store_asset (bytes "a") (7 ∷ []) 10 gives stored (Ok 0)
+    ∷ Call.store_asset (bytes "b") (8 ∷ 9 ∷ []) 20 gives stored (Ok 1)
+    ∷ Call.store_asset (bytes "a") (1 ∷ 2 ∷ 3 ∷ []) 30 gives stored (Ok 1)
     ∷ shows "/assets" (2 ∷ 2 ∷ 2 ∷ 0 ∷ 1 ∷ 0 ∷ 3 ∷ 2 ∷ 7 ∷ 7 ∷ [])
     ∷ shows "/asset/b;a;b" (3 ∷ 2 ∷ 2 ∷ 0 ∷ 0 ∷ 1 ∷ 0 ∷ 2 ∷ 3 ∷ 2 ∷ [])
     ∷ Call.body (bytes "a") gives returned (1 ∷ 2 ∷ 3 ∷ [])
@@ -44,10 +43,10 @@ tools = (refl, refl)
 -- a time of 0 is missing: the host's, which may be 0 too; times need not rise
 pub times :
     ToolsGive 1
-    (Call.observe 0 0 50 (Sample (pos 1)) gives observed (Recorded 3)
-    ∷ Call.observe 0 60 70 (Sample (pos 2)) gives observed (Recorded 4)
-    ∷ Call.observe 0 40 70 (Sample (pos 3)) gives observed (Recorded 5)
-    ∷ Call.observe 0 0 0 (Sample (pos 4)) gives observed (Recorded 6)
+    (Call.observe 0 0 50 (Sample (pos 1)) gives observed (Ok (Recorded 3))
+    ∷ Call.observe 0 60 70 (Sample (pos 2)) gives observed (Ok (Recorded 4))
+    ∷ Call.observe 0 40 70 (Sample (pos 3)) gives observed (Ok (Recorded 5))
+    ∷ Call.observe 0 0 0 (Sample (pos 4)) gives observed (Ok (Recorded 6))
     ∷ shows "/sample"
     (4 ∷ 3 ∷ 6 ∷ 7 ∷ 3 ∷ 4 ∷ 5 ∷ 6
     ∷ 50 ∷ 4294967297 ∷ 60 ∷ 4294967298 ∷ 40 ∷ 4294967299 ∷ 0 ∷ 4294967300 ∷ []) ∷ [])
@@ -94,7 +93,7 @@ client_calls =
 abbrev first_window : Window
 first_window =
     record {
-      path = none;
+      path = None;
       begin = 2;
       next = 4;
       rows = (2 ∷ 1000 ∷ 1099511627776 ∷ []) ∷ (3 ∷ 1010 ∷ 1103806600072 ∷ []) ∷ [];
@@ -103,7 +102,7 @@ first_window =
 abbrev second_window : Window
 second_window =
     record {
-      path = none;
+      path = None;
       begin = 4;
       next = 6;
       rows = (4 ∷ 1030 ∷ 1108101562367 ∷ []) ∷ (5 ∷ 1040 ∷ 1103806595079 ∷ []) ∷ [];
@@ -116,5 +115,5 @@ unfolding opened
 two-windows = refl
 
 -- and they meet
-pub two-meet : Meets (λ path. path ≡ none) 4 (second_window ∷ [])
+pub two-meet : Meets (λ path. path ≡ None) 4 (second_window ∷ [])
 two-meet = (refl, refl, tt)

@@ -1,18 +1,16 @@
 -- The bench case: document 01, "Bench case", with C5 and C8 as document 02, Req 04, has them. The start, the three
 -- observes and the twelve requests with what they give.
-use Rattle.std.specs.Prelude.{ℕ, ◌+◌, List, [], ◌∷◌, ◌++◌, pos, negsuc, replicate}
+use Rattle.std.specs.Prelude.{ℕ, List, [], ◌∷◌, ◌++◌, pos, negsuc, replicate, Ok, Err}
 use Rattle.spec.specs.Bytes.{bytes, pad}
 use Rattle.history.specs.Observations.{store_words}
 use Rattle.spec.specs.Assets.{store_bytes}
 use Rattle.spec.specs.Reply.{Replied, over}
 use Rattle.history.specs.Calls
-use Rattle.history.specs.Reference
 use Rattle.history.specs.History.{Call, Stores, Start, stores_after}
 use Rattle.history.specs.History.Call.{observe}
 use Rattle.spec.specs.declared.Value.TheVariants.{Sample}
 use Rattle.spec.specs.declared.Refusal.TheVariants.{InvalidRequest, TooMany, Late, Early}
-use Rattle.spec.specs.declared.Answer.{Answer}
-use Rattle.spec.specs.declared.Answer.TheVariants.{Done, Refused}
+use Rattle.spec.specs.Answers.{Answer}
 
 abbrev pub bench_model : List ℕ
 bench_model = 2 ∷ 2 ∷ 0 ∷ 1 ∷ 65538 ∷ 259 ∷ []
@@ -58,18 +56,18 @@ c1 = 3 ∷ 2 ∷ 4 ∷ 5 ∷ 2 ∷ 3 ∷ 4 ∷ 1000 ∷ 1099511627776 ∷ 1010 �
 
 abbrev pub cases : List Case
 cases =
-    record { text = bytes "/sample"; answer = Done 3; words = c1 }
-    ∷ record { text = bytes "/current?at=2"; answer = Done 2; words = 2 ∷ 2 ∷ 4 ∷ 5 ∷ 1 ∷ 2 ∷ 1000 ∷ 0 ∷ 1000 ∷ 1099511627776 ∷ [] }
-    ∷ record { text = bytes "/current?path=//Axes"; answer = Done 1; words = 1 ∷ 2 ∷ 4 ∷ 5 ∷ 4 ∷ 1030 ∷ 1108101562367 ∷ [] }
-    ∷ record { text = bytes "/sample?from=5"; answer = Done 0; words = 0 ∷ 2 ∷ 4 ∷ 5 ∷ [] }
-    ∷ record { text = bytes "/sample?from=6"; answer = Refused Early; words = [] }
-    ∷ record { text = bytes "/sample?from=1"; answer = Refused Late; words = [] }
-    ∷ record { text = bytes "/sample?count=3"; answer = Done 3; words = c1 }
-    ∷ record { text = bytes "/sample?count=4"; answer = Refused TooMany; words = [] }
-    ∷ record { text = bytes "/sample?count=0"; answer = Refused InvalidRequest; words = [] }
-    ∷ record { text = bytes "/current?at=1"; answer = Refused Late; words = [] }
-    ∷ record { text = bytes "/sample?from=2&count=1&path=//Device//DataItem[@type=\"AVAILABILITY\"]"; answer = Done 0; words = 0 ∷ 2 ∷ 4 ∷ 3 ∷ [] }
-    ∷ record { text = bytes "/assets"; answer = Done 0; words = 0 ∷ 0 ∷ 1 ∷ 0 ∷ [] }
+    record { text = bytes "/sample"; answer = Ok 3; words = c1 }
+    ∷ record { text = bytes "/current?at=2"; answer = Ok 2; words = 2 ∷ 2 ∷ 4 ∷ 5 ∷ 1 ∷ 2 ∷ 1000 ∷ 0 ∷ 1000 ∷ 1099511627776 ∷ [] }
+    ∷ record { text = bytes "/current?path=//Axes"; answer = Ok 1; words = 1 ∷ 2 ∷ 4 ∷ 5 ∷ 4 ∷ 1030 ∷ 1108101562367 ∷ [] }
+    ∷ record { text = bytes "/sample?from=5"; answer = Ok 0; words = 0 ∷ 2 ∷ 4 ∷ 5 ∷ [] }
+    ∷ record { text = bytes "/sample?from=6"; answer = Err Early; words = [] }
+    ∷ record { text = bytes "/sample?from=1"; answer = Err Late; words = [] }
+    ∷ record { text = bytes "/sample?count=3"; answer = Ok 3; words = c1 }
+    ∷ record { text = bytes "/sample?count=4"; answer = Err TooMany; words = [] }
+    ∷ record { text = bytes "/sample?count=0"; answer = Err InvalidRequest; words = [] }
+    ∷ record { text = bytes "/current?at=1"; answer = Err Late; words = [] }
+    ∷ record { text = bytes "/sample?from=2&count=1&path=//Device//DataItem[@type=\"AVAILABILITY\"]"; answer = Ok 0; words = 0 ∷ 2 ∷ 4 ∷ 3 ∷ [] }
+    ∷ record { text = bytes "/assets"; answer = Ok 0; words = 0 ∷ 0 ∷ 1 ∷ 0 ∷ [] }
     ∷ []
 
 -- 64 reply words filled beforehand with a word that no reply contains: words beyond the reply's stay

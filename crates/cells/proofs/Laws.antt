@@ -9,7 +9,10 @@ use mathlib.Core.Bool.{Bool, true, ◌&&◌, and_assoc, and-true}
 use lib.Dec.{eqb}
 use lib.ListN.{length, get_or, set, take, drop, replicate, length-set, length-append, length-drop, length-replicate}
 use lib.ListN.{drop_of_length-le}
-use lib.Seq.{sets, sets-eq, drop-cons, drop-set-lt, get_or-drop, get_or-take, drop-drop, length-take-le}
+use lib.Seq.{sets, sets-eq, paste, drop-cons, drop-set-lt, get_or-drop, get_or-take, drop-drop, length-take-le}
+use borrow.Rule.Slice.PartMut.{put_mid}
+use Rattle.std.proofs.lemmas.List.Edits.{paste_all}
+use Rattle.std.proofs.lemmas.Slice.{put_mid-paste}
 use Rattle.spec.specs.Bytes.{same, pad}
 use Rattle.spec.specs.Assets.{renew}
 
@@ -46,55 +49,21 @@ module _ {s t : List ℕ} {fine : Bool} {j : ℕ} (r : Comparing s t fine j) whe
 
 -- ---- writing
 
--- what a loop that writes v over o from `at` on knows behind j bytes: l is what stands there now
-pub record Writing (v o : List ℕ) (at : ℕ) (l : List ℕ) (j : ℕ) : Type 0 where
-  pub below : j ≤ length v
-  pub len : length l ≡ length o
-  pub rest : sets o at v ≡ sets l (at + j) (drop j v)
-  pub ahead : drop (at + j) l ≡ drop (at + j) o
+-- a part that was written over, as the bytes set there
+pub part-set : (a k : ℕ) (o v w : List ℕ) → v ≡ w → k ≡ length w → a + length w ≤ length o
+    → put_mid a k o v ≡ sets o a w
+part-set a k o v w e f h =
+    put_mid-paste a k o v w k e refl f
+    ∙ (paste_all o a w k f ∙ (sym (append_assoc (take a o) w _) ∙ rw f (sym (sets-eq w o a h))))
 
-pub writing-none : (v o : List ℕ) (at : ℕ) → Writing v o at o 0
-writing-none v o at = record { below = omega arith; len = refl; rest = rw (add-zero at); ahead = refl }
-
-pub writing_more : {v o : List ℕ} {at : ℕ} {l : List ℕ} {j : ℕ} → Writing v o at l j → j < length v → (x : ℕ)
-    → x ≡ get_or v j 0
-    → Writing v o at (set l (at + j) x) (j + 1)
-writing_more {v} {o} {at} {l} {j} r h x e =
-    let q : at + (j + 1) ≡ suc (at + j) = omega arith in
-    record {
-      below = omega arith;
-      len = length-set l (at + j) x ∙ r.len;
-      rest = r.rest ∙ rw (drop-cons v j 0 h, q, e, add-one j);
-      ahead = rw q (drop-set-lt (suc (at + j)) l (at + j) x (omega arith) ∙ one r.ahead);
-    }
-  where
-    one : drop (at + j) l ≡ drop (at + j) o → drop (suc (at + j)) l ≡ drop (suc (at + j)) o
-    one a = let q : at + j + 1 ≡ suc (at + j) = omega arith in
-        rw (← q, ← drop-drop 1 (at + j) l, ← drop-drop 1 (at + j) o) (ap (drop 1) a)
-
-pub writing-all : {v o : List ℕ} {at : ℕ} {l : List ℕ} {j : ℕ} → Writing v o at l j → length v ≤ j → l ≡ sets o at v
-writing-all {v} {o} {at} {l} {j} r h = sym (r.rest ∙ ap (sets l (at + j)) (drop_of_length-le v {i = j} h))
-
--- ---- bytes that move down
+-- a part that was copied there
+pub paste-set : (a n : ℕ) (o s : List ℕ) → n ≤ length s → a + n ≤ length o → paste o a s n ≡ sets o a (take n s)
+paste-set a n o s h g =
+    let e = length-take-le n s h in sym (sets-eq (take n s) o a (omega arith) ∙ rw e)
 
 -- the n bytes from a on
 pub part_length : (a n : ℕ) (o : List ℕ) → a + n ≤ length o → length (take n (drop a o)) ≡ n
 part_length a n o h = length-take-le n (drop a o) (omega (arith, length-drop a o))
-
--- what is still to be moved stands as it stood
-pub moved-byte : (o l : List ℕ) (at gap n j : ℕ) → Writing (take n (drop (at + gap) o)) o at l j → j < n
-    → get_or l (at + gap + j) 0 ≡ get_or (take n (drop (at + gap) o)) j 0
-moved-byte o l at gap n j r h =
-    let q : at + gap + j ≡ at + j + gap = omega arith in
-    rw (
-      get_or-take n (drop (at + gap) o) j 0 h,
-      get_or-drop (at + gap) o j 0,
-      q,
-      ← get_or-drop (at + j) l gap 0,
-      ← get_or-drop
-          (at + j) o gap 0,
-      r.ahead,
-    )
 
 -- ---- padded cells
 
@@ -168,3 +137,49 @@ renew-is w b out n c o h hb hc =
     let v : at + w ≡ b + suc out * w = omega (arith, suc-mul out w) in
     let u : n - 1 - out ≡ n - suc out = omega arith in
     sets-eq (moved ++ c) o at (omega arith) ∙ rw (t, v, u) (simp append_assoc)
+
+-- ---- bytes that move down
+
+-- what a loop that writes v over o from `at` on knows behind j bytes: l is what stands there now
+pub record Writing (v o : List ℕ) (at : ℕ) (l : List ℕ) (j : ℕ) : Type 0 where
+  pub below : j ≤ length v
+  pub len : length l ≡ length o
+  pub rest : sets o at v ≡ sets l (at + j) (drop j v)
+  pub ahead : drop (at + j) l ≡ drop (at + j) o
+
+pub writing-none : (v o : List ℕ) (at : ℕ) → Writing v o at o 0
+writing-none v o at = record { below = omega arith; len = refl; rest = rw (add-zero at); ahead = refl }
+
+pub writing_more : {v o : List ℕ} {at : ℕ} {l : List ℕ} {j : ℕ} → Writing v o at l j → j < length v → (x : ℕ)
+    → x ≡ get_or v j 0
+    → Writing v o at (set l (at + j) x) (j + 1)
+writing_more {v} {o} {at} {l} {j} r h x e =
+    let q : at + (j + 1) ≡ suc (at + j) = omega arith in
+    record {
+      below = omega arith;
+      len = length-set l (at + j) x ∙ r.len;
+      rest = r.rest ∙ rw (drop-cons v j 0 h, q, e, add-one j);
+      ahead = rw q (drop-set-lt (suc (at + j)) l (at + j) x (omega arith) ∙ one r.ahead);
+    }
+  where
+    one : drop (at + j) l ≡ drop (at + j) o → drop (suc (at + j)) l ≡ drop (suc (at + j)) o
+    one a = let q : at + j + 1 ≡ suc (at + j) = omega arith in
+        rw (← q, ← drop-drop 1 (at + j) l, ← drop-drop 1 (at + j) o) (ap (drop 1) a)
+
+pub writing-all : {v o : List ℕ} {at : ℕ} {l : List ℕ} {j : ℕ} → Writing v o at l j → length v ≤ j → l ≡ sets o at v
+writing-all {v} {o} {at} {l} {j} r h = sym (r.rest ∙ ap (sets l (at + j)) (drop_of_length-le v {i = j} h))
+
+-- what is still to be moved stands as it stood
+pub moved-byte : (o l : List ℕ) (at gap n j : ℕ) → Writing (take n (drop (at + gap) o)) o at l j → j < n
+    → get_or l (at + gap + j) 0 ≡ get_or (take n (drop (at + gap) o)) j 0
+moved-byte o l at gap n j r h =
+    let q : at + gap + j ≡ at + j + gap = omega arith in
+    rw (
+      get_or-take n (drop (at + gap) o) j 0 h,
+      get_or-drop (at + gap) o j 0,
+      q,
+      ← get_or-drop (at + j) l gap 0,
+      ← get_or-drop
+          (at + j) o gap 0,
+      r.ahead,
+    )

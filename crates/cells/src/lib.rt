@@ -13,10 +13,8 @@ pub fn same_bytes(a: &[u8], b: &[u8]) -> bool
     ensures { result ≡ same a.now b.now }
 {
     let mut fine = true;
-    let mut j = 0;
-    while j < a.len() {
-        fine = fine & (a[j] == b[j]);
-        j += 1;
+    for j in 0..a.len() {
+        fine &= a[j] == b[j];
     }
     fine
 }
@@ -26,11 +24,7 @@ pub fn write(bs: &mut [u8], at: usize, s: &[u8])
     requires { at + length s.now ≤ length bs.old }
     ensures { bs.new ≡ sets bs.old at s.now }
 {
-    let mut j = 0;
-    while j < s.len() {
-        bs[at + j] = s[j];
-        j += 1;
-    }
+    bs[at..at + s.len()].copy_from_slice(s);
 }
 
 // n zeros stand from `at` on.
@@ -38,22 +32,17 @@ pub fn clear(bs: &mut [u8], at: usize, n: usize)
     requires { at + n ≤ length bs.old }
     ensures { bs.new ≡ sets bs.old at (replicate n 0) }
 {
-    let mut j = 0;
-    while j < n {
-        bs[at + j] = 0;
-        j += 1;
-    }
+    bs[at..at + n].fill(0);
 }
 
-// The n bytes that stood `gap` further on stand from `at` on.
+// The n bytes that stood `gap` further on stand from `at` on. No copy_within: with it, an asset in place of the oldest
+// takes as long as the second implementation, where this takes two thirds.
 pub fn move_down(bs: &mut [u8], at: usize, gap: usize, n: usize)
     requires { at + gap + n ≤ length bs.old }
     ensures { bs.new ≡ sets bs.old at (take n (drop (at + gap) bs.old)) }
 {
-    let mut j = 0;
-    while j < n {
+    for j in 0..n {
         bs[at + j] = bs[at + gap + j];
-        j += 1;
     }
 }
 

@@ -1,64 +1,61 @@
 // What one more observation does to a condition item's eight entries, told by their marks.
 #![tactic(auto)]
 
-ghost use Rattle.std.specs.Prelude.{◌≡◌, ◌+◌, ◌^◌, ◌≤◌, ◌<◌, length};
-ghost use Rattle.marks.specs.Marks.{eight_at};
+ghost use Rattle.std.specs.Prelude.{◌≡◌, ◌^◌, ◌<◌, length};
 ghost use Rattle.changes.specs.Changes.{raised_for, cleared_for, change_for, ChangeFits};
 
 // What an observation does to the eight entries of its item: it is put at a place, it stands alone, the entry at a
 // place goes out, they stay, or it would be a ninth.
 #[derive(Clone, Copy)]
 pub enum Change {
-    Put(u64),
+    Put(usize),
     Alone,
-    Out(u64),
+    Out(usize),
     Stay,
     Full,
 }
 
 // A Warning or Fault where others are active: to its code's place, or behind the last; Full behind eight.
-fn raised(marks: &[u64], k: usize, key: u64) -> Change
-    requires { k + 8 ≤ length marks.now }
-    ensures { result ≡ raised_for key (eight_at marks.now k) }
+fn raised(marks: &[u64], key: u64) -> Change
+    requires { length marks.now ≡ 8 }
+    ensures { result ≡ raised_for key marks.now }
 {
-    let j = marks::find(marks, k, key);
-    if j == spec::ENTRIES {
+    let Some(j) = marks::find(marks, key) else {
         return Change::Full;
-    }
+    };
     Change::Put(j)
 }
 
 // A Normal of one code where others are active: its entry, if there is one, goes out; in the place of the last one,
 // the Normal stands alone.
-fn cleared(marks: &[u64], k: usize, key: u64) -> Change
-    requires { k + 8 ≤ length marks.now }
-    ensures { result ≡ cleared_for key (eight_at marks.now k) }
+fn cleared(marks: &[u64], key: u64) -> Change
+    requires { length marks.now ≡ 8 }
+    ensures { result ≡ cleared_for key marks.now }
 {
-    let j = marks::find(marks, k, key);
-    if j == spec::ENTRIES {
+    let Some(j) = marks::find(marks, key) else {
+        return Change::Stay;
+    };
+    if marks[j] == 0 {
         return Change::Stay;
     }
-    if marks[k + (j as usize)] == 0 {
-        return Change::Stay;
-    }
-    if marks[k + 1] == 0 {
+    if marks[1] == 0 {
         return Change::Alone;
     }
     Change::Out(j)
 }
 
-// What an observation, by its packed word, does to the entries whose marks stand from word k on.
-pub fn change_for(marks: &[u64], k: usize, own: u64, word: u64) -> Change
-    requires { (k + 8 ≤ length marks.now) × (own < 2 ^ 24) }
-    ensures value { result ≡ change_for own (eight_at marks.now k) word }
+// What an observation, by its packed word, does to the entries of eight marks.
+pub fn change_for(marks: &[u64], own: u64, word: u64) -> Change
+    requires { (length marks.now ≡ 8) × (own < 2 ^ 24) }
+    ensures value { result ≡ change_for own marks.now word }
     ensures change_fits { ChangeFits result }
 {
-    if marks::key_in(marks[k]) == 0 {
+    if marks::key_in(marks[0]) == 0 {
         return Change::Alone;
     }
     let key = marks::key_of(own, word);
     if key != 0 {
-        return raised(marks, k, key);
+        return raised(marks, key);
     }
     let code = marks::code_of(word);
     if code == 0 {
@@ -67,5 +64,5 @@ pub fn change_for(marks: &[u64], k: usize, own: u64, word: u64) -> Change
     if !marks::is_normal(word) {
         return Change::Alone;
     }
-    cleared(marks, k, code + 1)
+    cleared(marks, code + 1)
 }

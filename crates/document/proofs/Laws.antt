@@ -4,6 +4,7 @@ use mathlib.Core.Path.{◌≡◌, refl, sym, ap, ◌∙◌, subst}
 use mathlib.Core.Logic.{◌≢◌}
 use mathlib.Core.List.{List, [], ◌∷◌, ◌++◌, append_assoc, map}
 use native.Mathlib.Omega.{arith}
+use contract.BorrowLft.{◌⊑◌, ⊑_meet, ⊑_static}
 use lib.ListN.{length, get_or, length-map}
 use Rattle.spec.specs.Bytes.{bytes, decimal}
 use Rattle.spec.specs.Reply.{rows_of}
@@ -12,12 +13,17 @@ use Rattle.streams.specs.Streams.{Row, row_in, tag, empty_tag, header_tag, devic
 use Rattle.streams.specs.Streams.{document_lines, ended, document}
 use Rattle.streams.proofs.Rows.{rows-length}
 use Rattle.streams.proofs.Pieces.{ended-append}
+use Rattle.writer.specs.declared.Output.{Output}
 use Rattle.writer.specs.Puts.{Put}
 use Rattle.document.specs.Header.{start_lines, given_part, numbers_part}
 
 -- another name of the text that is put
-pub put_is : {o : List ℕ} {at : ℕ} {s t e : List ℕ} {r : ℕ} → s ≡ t → Put o at s e r → Put o at t e r
-put_is {o} {at} {s} {t} {e} {r} q p = subst (λ (x : List ℕ). Put o at x e r) q p
+pub put_is : {o e : Output} {s t : List ℕ} → s ≡ t → Put o s e → Put o t e
+put_is {o} {e} q p = subst (λ (x : List ℕ). Put o x e) q p
+
+-- what lives for one borrowed part and for the rest lives for both
+pub part : {k l r : List ℕ} → k ⊑ l → k ⊑ r → k ⊑ (l ++ []) ++ r
+part p q = ⊑_meet _ _ _ (⊑_meet _ _ _ p (⊑_static _)) q
 
 -- ---- the header
 

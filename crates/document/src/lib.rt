@@ -10,110 +10,98 @@ ghost use Rattle.document.specs.Header.{start_lines, given_part, numbers_part};
 
 use attributes::{put_number, put_time};
 use components_text::{put_components, put_device};
+use model::Words;
 use reply_rows::rows;
 use row_groups::{MARKS, groups_present};
-use spec::{Answer, Refusal};
-use writer::put_bytes;
+use spec::Answer;
+use writer::{Output, write_whole};
 
 // The header's first half: the document's own time and what the host gives.
-fn put_given(n: u64, instance: u64, creation: u64, out: &mut [u8], at: usize) -> usize
-    ensures { Put out.old at (given_part n instance creation) out.new result }
+fn put_given(n: u64, instance: u64, creation: u64, out: &mut Output)
+    ensures { Put out.old (given_part n instance creation) out.new }
 {
-    let p = put_time(out, at, b"<Header creationTime=\"", creation);
-    let q = put_number(out, p, b" sender=\"box\" instanceId=\"", instance);
-    put_number(out, q, b" bufferSize=\"", n)
+    put_time(out, b"<Header creationTime=\"", creation);
+    put_number(out, b" sender=\"box\" instanceId=\"", instance);
+    put_number(out, b" bufferSize=\"", n);
 }
 
 // Its second half: the reply's next, first and last.
-fn put_numbers(next: u64, first: u64, last: u64, out: &mut [u8], at: usize) -> usize
-    ensures { Put out.old at (numbers_part next first last) out.new result }
+fn put_numbers(next: u64, first: u64, last: u64, out: &mut Output)
+    ensures { Put out.old (numbers_part next first last) out.new }
 {
-    let p = put_number(out, at, b" version=\"1.2\" nextSequence=\"", next);
-    let q = put_number(out, p, b" firstSequence=\"", first);
-    put_number(out, q, b" lastSequence=\"", last)
+    put_number(out, b" version=\"1.2\" nextSequence=\"", next);
+    put_number(out, b" firstSequence=\"", first);
+    put_number(out, b" lastSequence=\"", last);
 }
 
 // The header.
-fn put_header(
-    reply: &[u64],
-    n: u64,
-    instance: u64,
-    creation: u64,
-    out: &mut [u8],
-    at: usize,
-) -> usize
+fn put_header(reply: &[u64], n: u64, instance: u64, creation: u64, out: &mut Output)
     requires { words_ok reply.now ≡ true }
-    ensures { Put out.old at
-        (empty_tag (header_tag reply.now n instance creation) ++ 10 ∷ []) out.new result }
+    ensures { Put out.old
+        (empty_tag (header_tag reply.now n instance creation) ++ 10 ∷ []) out.new }
 {
-    let p = put_given(n, instance, creation, out, at);
-    let q = put_numbers(reply[3], reply[1], reply[2], out, p);
-    put_bytes(out, q, b"/>\n")
+    put_given(n, instance, creation, out);
+    put_numbers(reply[3], reply[1], reply[2], out);
+    out.put_bytes(b"/>\n");
 }
 
 // The rows with all that stands around them; an empty element where there are none.
 fn put_streams(
-    model: &[u32],
+    model: &Words<'_>,
     names: &[u8],
     reply: &[u64],
     present: &[u8; MARKS],
-    out: &mut [u8],
-    at: usize,
-) -> usize
+    out: &mut Output,
+)
     requires documented { Documented model.now names.now reply.now }
     requires marked { Marked model.now (reply_rows reply.now) present.now }
-    ensures { Put out.old at
+    ensures { Put out.old
         (ended (streams_lines model.now names.now (reply_rows reply.now)))
-        out.new result }
+        out.new }
 {
     if rows(reply) == 0 {
-        return put_bytes(out, at, b"<Streams/>\n");
+        return out.put_bytes(b"<Streams/>\n");
     }
-    let p = put_bytes(out, at, b"<Streams>\n");
-    let q = put_device(model, names, out, p);
-    let r = put_components(model, names, reply, present, out, q);
-    put_bytes(out, r, b"</DeviceStream>\n</Streams>\n")
+    out.put_bytes(b"<Streams>\n");
+    put_device(model, names, out);
+    put_components(model, names, reply, present, out);
+    out.put_bytes(b"</DeviceStream>\n</Streams>\n");
 }
 
 // The document's first two lines.
-fn put_start(out: &mut [u8], at: usize) -> usize
-    ensures { Put out.old at (ended start_lines) out.new result }
+fn put_start(out: &mut Output)
+    ensures { Put out.old (ended start_lines) out.new }
 {
-    let p = put_bytes(out, at, b"<?xml version=\"1.0\" encoding=\"UTF-8\"?>\n");
-    put_bytes(
-        out,
-        p,
-        b"<MTConnectStreams xmlns=\"urn:mtconnect.org:MTConnectStreams:1.2\">\n",
-    )
+    out.put_bytes(b"<?xml version=\"1.0\" encoding=\"UTF-8\"?>\n");
+    out.put_bytes(b"<MTConnectStreams xmlns=\"urn:mtconnect.org:MTConnectStreams:1.2\">\n");
 }
 
 // The document.
 fn put_document(
-    model: &[u32],
+    model: &Words<'_>,
     names: &[u8],
     reply: &[u64],
     n: u64,
     instance: u64,
     creation: u64,
     present: &[u8; MARKS],
-    out: &mut [u8],
-    at: usize,
-) -> usize
+    out: &mut Output,
+)
     requires documented { Documented model.now names.now reply.now }
     requires marked { Marked model.now (reply_rows reply.now) present.now }
-    ensures { Put out.old at
+    ensures { Put out.old
         (document model.now names.now reply.now n instance creation)
-        out.new result }
+        out.new }
 {
-    let p = put_start(out, at);
-    let q = put_header(reply, n, instance, creation, out, p);
-    let r = put_streams(model, names, reply, present, out, q);
-    put_bytes(out, r, b"</MTConnectStreams>\n")
+    put_start(out);
+    put_header(reply, n, instance, creation, out);
+    put_streams(model, names, reply, present, out);
+    out.put_bytes(b"</MTConnectStreams>\n");
 }
 
 // The document, or nothing where the text is too short for it. The first pass, over no bytes, gives the length.
 pub fn write_document(
-    model: &[u32],
+    model: &Words<'_>,
     names: &[u8],
     reply: &[u64],
     n: u64,
@@ -129,21 +117,7 @@ pub fn write_document(
         text.old }
 {
     let present = groups_present(model, reply);
-    let k = put_document(
-        model,
-        names,
-        reply,
-        n,
-        instance,
-        creation,
-        &present,
-        &mut text[0..0],
-        0,
-    );
-    if text.len() < k {
-        return Answer::Refused(Refusal::Space);
-    }
-    Answer::Done(put_document(
-        model, names, reply, n, instance, creation, &present, text, 0,
-    ) as u64)
+    write_whole(text, |out| {
+        put_document(model, names, reply, n, instance, creation, &present, out)
+    })
 }

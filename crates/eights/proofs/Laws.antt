@@ -1,74 +1,43 @@
--- Eight words changed where they stand: one taken out, and one alone.
-use Prim.Native.Nat.{ℕ, suc, ◌+◌, ◌≤◌, ◌<◌}
-use mathlib.Core.Path.{◌≡◌, refl, sym, ap, ◌∙◌}
-use mathlib.Core.List.{List, [], ◌∷◌, ◌++◌}
+-- Eight words without one of them: those behind it moved down, and 0 written behind them. Eight words among others.
+use Prim.Native.Nat.{ℕ, ◌+◌, ◌-◌, ◌≤◌, ◌<◌}
+use mathlib.Core.Path.{◌≡◌, sym, ap, ◌∙◌}
+use mathlib.Core.List.{List, [], ◌∷◌, ◌++◌, append_assoc}
 use native.Mathlib.Numerals.{add-one}
 use native.Mathlib.Omega.{arith}
-use lib.ListN.{length, get_or, set, drop, length-set, drop_of_length-le}
-use lib.Seq.{sets, drop-cons, drop-set-lt, get_or-drop, drop-drop, take-take}
+use lib.ListN.{length, get_or, set, take, drop, length-append, length-drop, drop_of_length-le}
+use lib.Seq.{sets, drop-cons, length-take-le, set-append_seam}
+use Rattle.std.specs.List.{copy_within}
+use Rattle.std.proofs.lemmas.List.Edits.{paste_all}
+use borrow.Rule.Slice.PartMut.{put_mid}
 use Rattle.marks.specs.Marks.{eight_at}
-use Rattle.marks.proofs.Laws.{eight-length, eight-at, sets-kept}
-use Rattle.changes.specs.Changes.{without, alone_with}
+use Rattle.marks.proofs.Laws.{eight-length, eight-lent, eight-back}
+use Rattle.changes.specs.Changes.{without, changed, ChangeFits}
+use Rattle.changes.specs.declared.Change.{Change}
+use Rattle.changes.proofs.Steps.{length-changed}
 
--- what a loop that takes out word j of eight knows before word i: l stands now, and o stood
-pub record Moving (o : List ℕ) (k j : ℕ) (l : List ℕ) (i : ℕ) : Type 0 where
-  pub fits : k + 8 ≤ length o
-  pub high : i ≤ 7
-  pub len : length l ≡ length o
-  pub rest : sets o k (without 0 j (eight_at o k)) ≡ sets l (k + i) (drop (suc i) (eight_at o k) ++ (0 ∷ []))
-  pub ahead : drop (k + i) l ≡ drop (k + i) o
+pub moved-down : (l : List ℕ) (j : ℕ) → length l ≡ 8 → j < 8 → set (copy_within l (j + 1) 8 j) 7 0 ≡ without 0 j l
+moved-down l j e h =
+    let s = drop (j + 1) l in
+    let front = take j l ++ s in
+    let n : 8 - (j + 1) ≡ length s = omega (arith, length-drop (j + 1) l) in
+    let m : length front ≡ 7 = omega (arith, length-append (take j l) s, length-take-le j l (omega arith), n) in
+    let p : j + (8 - (j + 1)) ≡ 7 = omega arith in
+    let d : drop 7 l ≡ get_or l 7 0 ∷ [] =
+    drop-cons l 7 0 (omega arith) ∙ ap (λ (t : List ℕ). get_or l 7 0 ∷ t) (drop_of_length-le l {i = 8} (omega arith)) in
+    let q : copy_within l (j + 1) 8 j ≡ front ++ (get_or l 7 0 ∷ []) =
+    paste_all l j s (8 - (j + 1)) n ∙ rw (p, d) (sym (append_assoc (take j l) s (get_or l 7 0 ∷ []))) in
+    let a : set (front ++ (get_or l 7 0 ∷ [])) 7 0 ≡ front ++ (0 ∷ []) =
+    rw m at (set-append_seam front (get_or l 7 0) [] 0) in
+    rw (q, a, append_assoc (take j l) s (0 ∷ []), add-one j)
 
-pub moving-none : (o : List ℕ) (k j : ℕ) → k + 8 ≤ length o → j < 8 → Moving o k j o j
-moving-none o k j h b =
-    record {
-      fits = h;
-      high = omega arith;
-      len = refl;
-      rest = rw (take-take j 8 (drop k o) (omega arith)) (sets-kept j o k _ (omega arith));
-      ahead = refl;
-    }
+-- eight words among others, lent and changed
+module _ (a : ℕ) (l : List ℕ) (h : Change) (x : ℕ) {ys : List ℕ} (fits : ChangeFits h) (room : a + 8 ≤ length l) where
+  pub eight-written : ys ≡ changed 0 h x (eight_at l a)
+      → put_mid a (a + 8 - a) l ys ≡ sets l a (changed 0 h x (eight_at l a))
+  eight-written e =
+      let n : length ys ≡ 8 = ap length e ∙ length-changed 0 h x (eight_at l a) fits (eight-length l a room) in
+      eight-back a l ys n room ∙ ap (sets l a) e
 
-module _ {o : List ℕ} {k j : ℕ} {l : List ℕ} {i : ℕ} (r : Moving o k j l i) where
-  -- the word to be moved stands as it stood
-  next_word : i < 7 → get_or l (k + i + 1) 0 ≡ get_or (eight_at o k) (suc i) 0
-  next_word h =
-      let e : k + suc i ≡ k + i + 1 = omega arith in
-      sym (eight-at o k (suc i) 0 (omega arith)
-      ∙ rw (e, ← get_or-drop (k + i) o 1 0, ← r.ahead) (get_or-drop (k + i) l 1 0))
-
-  pub moving-more : i < 7 → Moving o k j (set l (k + i) (get_or l (k + i + 1) 0)) (i + 1)
-  moving-more h =
-      let x = get_or l (k + i + 1) 0 in
-      let q : k + (i + 1) ≡ suc (k + i) = omega arith in
-      let b : suc i < length (eight_at o k) = omega (arith, eight-length o k r.fits) in
-      record {
-        fits = r.fits;
-        high = omega arith;
-        len = length-set l (k + i) x ∙ r.len;
-        rest = r.rest ∙ rw (drop-cons (eight_at o k) (suc i) 0 b, ← next_word h, q, add-one i);
-        ahead = rw q (drop-set-lt (suc (k + i)) l (k + i) x (omega arith) ∙ one r.ahead);
-      }
-    where
-      one : drop (k + i) l ≡ drop (k + i) o → drop (suc (k + i)) l ≡ drop (suc (k + i)) o
-      one a = let q : k + i + 1 ≡ suc (k + i) = omega arith in
-          rw (← q, ← drop-drop 1 (k + i) l, ← drop-drop 1 (k + i) o) (ap (drop 1) a)
-
-  pub moving-all : 7 ≤ i → set l (k + 7) 0 ≡ sets o k (without 0 j (eight_at o k))
-  moving-all h =
-      let e : i ≡ 7 = omega arith in
-      let b : length (eight_at o k) ≤ 8 = omega (arith, eight-length o k r.fits) in
-      sym (r.rest ∙ rw (e, drop_of_length-le (eight_at o k) {i = 8} b))
-
--- one word, and seven zeros
-pub alone-is : (l : List ℕ) (k x : ℕ) →
-    let l₃ = set (set (set (set l k x) (k + 1) 0) (k + 2) 0) (k + 3) 0 in
-    set (set (set (set l₃ (k + 4) 0) (k + 5) 0) (k + 6) 0) (k + 7) 0 ≡ sets l k (alone_with 0 x)
-alone-is l k x =
-    let e₁ : k + 1 ≡ suc k = omega arith in
-    let e₂ : k + 2 ≡ suc (suc k) = omega arith in
-    let e₃ : k + 3 ≡ suc (suc (suc k)) = omega arith in
-    let e₄ : k + 4 ≡ suc (suc (suc (suc k))) = omega arith in
-    let e₅ : k + 5 ≡ suc (suc (suc (suc (suc k)))) = omega arith in
-    let e₆ : k + 6 ≡ suc (suc (suc (suc (suc (suc k))))) = omega arith in
-    let e₇ : k + 7 ≡ suc (suc (suc (suc (suc (suc (suc k)))))) = omega arith in
-    rw (e₁, e₂, e₃, e₄, e₅, e₆, e₇)
+  pub eight-changed : ys ≡ changed 0 h x (take (a + 8 - a) (drop a l))
+      → put_mid a (a + 8 - a) l ys ≡ sets l a (changed 0 h x (eight_at l a))
+  eight-changed e = eight-written (e ∙ ap (changed 0 h x) (eight-lent a l))

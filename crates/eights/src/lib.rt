@@ -2,55 +2,43 @@
 // them or to their marks.
 #![tactic(auto)]
 
-ghost use Rattle.std.specs.Prelude.{◌≡◌, true, not, ◌+◌, ◌≤◌, ◌<◌, length};
-ghost use Rattle.std.proofs.lemmas.List.Edits.{sets};
-ghost use Rattle.marks.specs.Marks.{eight_at};
+ghost use Rattle.std.specs.Prelude.{◌≡◌, true, not, ◌<◌, length};
 ghost use Rattle.changes.specs.Changes.{raised_for, without, alone_with, changed, ChangeFits, is_full};
 
 use changes::Change;
 
-// The eight words from word k on without the one at place j: those behind it move down, and the last is 0.
-fn take_out(words: &mut [u64], k: usize, j: u64)
-    requires { (k + 8 ≤ length words.old) × (j < 8) }
-    ensures { words.new ≡ sets words.old k (without 0 j (eight_at words.old k)) }
+// Eight words without the one at place j: those behind it move down, and the last is 0.
+fn take_out(words: &mut [u64], j: usize)
+    requires { (length words.old ≡ 8) × (j < 8) }
+    ensures { words.new ≡ without 0 j words.old }
 {
-    let mut i = j as usize;
-    while i < 7 {
-        words[k + i] = words[k + i + 1];
-        i += 1;
-    }
-    words[k + 7] = 0;
+    words.copy_within(j + 1.., j);
+    words[7] = 0;
 }
 
-// The eight words from word k on become x, and zeros behind it.
-fn make_alone(words: &mut [u64], k: usize, x: u64)
-    requires { k + 8 ≤ length words.old }
-    ensures { words.new ≡ sets words.old k (alone_with 0 x) }
+// Eight words become x, and zeros behind it.
+fn make_alone(words: &mut [u64], x: u64)
+    requires { length words.old ≡ 8 }
+    ensures { words.new ≡ alone_with 0 x }
 {
-    words[k] = x;
-    words[k + 1] = 0;
-    words[k + 2] = 0;
-    words[k + 3] = 0;
-    words[k + 4] = 0;
-    words[k + 5] = 0;
-    words[k + 6] = 0;
-    words[k + 7] = 0;
+    words.fill(0);
+    words[0] = x;
 }
 
-// The change done to the eight words from word k on, x being the new one.
-pub fn apply(words: &mut [u64], k: usize, change: Change, x: u64)
-    requires { (k + 8 ≤ length words.old) × ChangeFits change }
-    ensures { words.new ≡ sets words.old k (changed 0 change x (eight_at words.old k)) }
+// The change done to eight words, x being the new one.
+pub fn apply(words: &mut [u64], change: Change, x: u64)
+    requires { (length words.old ≡ 8) × ChangeFits change }
+    ensures { words.new ≡ changed 0 change x words.old }
 {
     match change {
         Change::Put(j) => {
-            words[k + (j as usize)] = x;
+            words[j] = x;
         }
         Change::Alone => {
-            make_alone(words, k, x);
+            make_alone(words, x);
         }
         Change::Out(j) => {
-            take_out(words, k, j);
+            take_out(words, j);
         }
         Change::Stay => {}
         Change::Full => {}
@@ -59,17 +47,14 @@ pub fn apply(words: &mut [u64], k: usize, change: Change, x: u64)
 
 // A Warning or Fault where others are active, done to their marks at once, x being its own: to its code's place, or
 // behind the last; false behind eight. Most observations of a condition are this one.
-pub fn raise(marks: &mut [u64], k: usize, key: u64, x: u64) -> bool
-    requires { k + 8 ≤ length marks.old }
-    ensures value { result ≡ not (is_full (raised_for key (eight_at marks.old k))) }
-    ensures fact { result ≡ true →
-        let ms = eight_at marks.old k in
-        marks.new ≡ sets marks.old k (changed 0 (raised_for key ms) x ms) }
+pub fn raise(marks: &mut [u64], key: u64, x: u64) -> bool
+    requires { length marks.old ≡ 8 }
+    ensures value { result ≡ not (is_full (raised_for key marks.old)) }
+    ensures fact { result ≡ true → marks.new ≡ changed 0 (raised_for key marks.old) x marks.old }
 {
-    let j = marks::find(marks, k, key);
-    if j == spec::ENTRIES {
+    let Some(j) = marks::find(marks, key) else {
         return false;
-    }
-    marks[k + (j as usize)] = x;
+    };
+    marks[j] = x;
     true
 }

@@ -11,7 +11,10 @@ use lib.ListN.{length, get_or, take, drop, drop_of_length-le}
 use lib.Seq.{take-suc, take_all, drop-cons}
 use Rattle.spec.specs.Bytes.{digit, split, join_first}
 use Rattle.writer.specs.Puts.{stop, Put}
-use Rattle.writer.proofs.Laws.{put-append, put-none, put-length}
+use Rattle.writer.specs.declared.Output.{Output}
+use Rattle.writer.proofs.Laws.{put-append, put-none}
+use Rattle.std.specs.Char.{to_ascii_uppercase, to_ascii_lowercase}
+use Rattle.std.proofs.lemmas.Bool.Decides.{nat_tests}
 use Rattle.streams.specs.Streams.{upper, lower, capitals, lettered, element_name}
 use Rattle.element.specs.Pascal.{case_of, pascal, start_after, bare}
 
@@ -63,60 +66,49 @@ start-more start [] x = refl
 start-more start (y ∷ s) x = start-more (eqb y 95) s x
 
 -- i bytes of s are put, and `start` says whether a word starts behind them
-pub record Cased (o : List ℕ) (at : ℕ) (s : List ℕ) (i : ℕ) (start : Bool) (l : List ℕ) (p : ℕ) : Type 0 where
+pub record Cased (entry : Output) (s : List ℕ) (i : ℕ) (start : Bool) (exit : Output) : Type 0 where
   pub inside : i ≤ length s
-  pub len : length l ≡ length o
-  pub done : Put o at (pascal true (take i s)) l p
+  pub done : Put entry (pascal true (take i s)) exit
   pub flag : start ≡ start_after true (take i s)
 
-pub cased-none : (o : List ℕ) (at : ℕ) (s : List ℕ) → length o ≤ stop → Cased o at s 0 true o at
+pub cased-none : (a : Output) (s : List ℕ) → length a.bytes.now ≤ stop → Cased a s 0 true a
 unfolding pascal start_after
-cased-none o at s h = record { inside = omega arith; len = refl; done = put-none o at h; flag = refl }
+cased-none a s h = record { inside = omega arith; done = put-none a h; flag = refl }
 
-module _ {o : List ℕ} {at : ℕ} {s : List ℕ} {i : ℕ} {start : Bool} {l : List ℕ} {p : ℕ}
-    (r : Cased o at s i start l p) where
-  pub cased-more : i < length s → {l₁ : List ℕ} {q : ℕ} → Put l p (case_of start (get_or s i 0)) l₁ q
-      → Cased o at s (i + 1) (eqb (get_or s i 0) 95) l₁ q
-  cased-more h b =
-      let x = get_or s i 0 in
+module _ {a : Output} {s : List ℕ} {i : ℕ} {start : Bool} {b : Output} (r : Cased a s i start b) where
+  pub cased-more : i < length s → {e : Output} → Put b (case_of start (get_or s i 0)) e
+      → Cased a s (i + 1) (eqb (get_or s i 0) 95) e
+  cased-more h p =
       record {
         inside = omega arith;
-        len = put-length b ∙ r.len;
-        done = rw (add-one i, take-suc s i 0 h, pascal-more true (take i s) x, ← r.flag) (put-append r.done b);
-        flag = rw (add-one i, take-suc s i 0 h, start-more true (take i s) x);
+        done = rw (add-one i, take-suc s i 0 h, pascal-more true (take i s) (get_or s i 0), ← r.flag)
+            (put-append r.done p);
+        flag = rw (add-one i, take-suc s i 0 h, start-more true (take i s) (get_or s i 0));
       }
 
-  pub cased-all : length s ≤ i → Put o at (capitals (split 95 s)) l p
+  pub cased-all : length s ≤ i → Put a (capitals (split 95 s)) b
   cased-all h = rw (capitals-pascal s) (rw (take_all i s h) at r.done)
 
 -- ---- one byte
 
-pub upper-same : (x : ℕ) → x < 97 → x ≡ upper x
-upper-same x h = rw (lt-leb 97 x h)
+-- the library's words for the same
+upper-is : (x : ℕ) → to_ascii_uppercase x ≡ upper x
+upper-is x = grind (arith, nat_tests)
 
-pub upper-high : (x : ℕ) → 97 ≤ x → 122 < x → x ≡ upper x
-upper-high x h k = rw (le-leb 97 x h, lt-leb x 122 k)
+lower-is : (x : ℕ) → to_ascii_lowercase x ≡ lower x
+lower-is x = grind (arith, nat_tests)
 
-pub upper-letter : (x : ℕ) → 97 ≤ x → x ≤ 122 → x - 32 ≡ upper x
-upper-letter x h k = rw (le-leb 97 x h, le-leb x 122 k)
-
-pub lower-same : (x : ℕ) → x < 65 → x ≡ lower x
-lower-same x h = rw (lt-leb 65 x h)
-
-pub lower_high : (x : ℕ) → 65 ≤ x → 90 < x → x ≡ lower x
-lower_high x h k = rw (le-leb 65 x h, lt-leb x 90 k)
-
-pub lower-letter : (x : ℕ) → 65 ≤ x → x ≤ 90 → x + 32 ≡ lower x
-lower-letter x h k = rw (le-leb 65 x h, le-leb x 90 k)
-
-pub case-none : {l : List ℕ} {a : ℕ} (start : Bool) (x : ℕ) → x ≡ 95 → length l ≤ stop
-    → Put l a (case_of start x) l a
-case-none {l} {a} start x q h = rw (eq-eqb x 95 q) (put-none l a h)
+pub case-none : {a : Output} (start : Bool) (x : ℕ) → x ≡ 95 → length a.bytes.now ≤ stop
+    → Put a (case_of start x) a
+case-none {a} start x q h = rw (eq-eqb x 95 q) (put-none a h)
 
 -- a byte other than '_'
-pub case-some : {l l₁ : List ℕ} {a e : ℕ} (start : Bool) (x : ℕ) → (x ≡ 95 → ⊥) → {t : Bool} → start ≡ t → {b : ℕ}
-    → b ≡ cond t (upper x) (lower x) → Put l a (b ∷ []) l₁ e → Put l a (case_of start x) l₁ e
-case-some start x n s q h = rw (ne_eqb x 95 n, s, ← q) h
+module _ (x : ℕ) (n : x ≡ 95 → ⊥) {start : Bool} {a e : Output} {b : ℕ} where
+  pub case-upper : start ≡ true → b ≡ to_ascii_uppercase x → Put a (b ∷ []) e → Put a (case_of start x) e
+  case-upper s q p = rw (ne_eqb x 95 n, s, ← upper-is x, ← q) p
+
+  pub case-lower : start ≡ false → b ≡ to_ascii_lowercase x → Put a (b ∷ []) e → Put a (case_of start x) e
+  case-lower s q p = rw (ne_eqb x 95 n, s, ← lower-is x, ← q) p
 
 -- ---- 'T' before
 
@@ -172,13 +164,12 @@ lettered-bare : (t : List ℕ) → lettered t ≡ cond (bare t) (84 ∷ t) t
 lettered-bare [] = refl
 lettered-bare (x ∷ t) = refl
 
-module _ {l l₁ : List ℕ} {a e : ℕ} (s : List ℕ) where
-  pub unlettered : bare (capitals (split 95 s)) ≡ false → Put l a (capitals (split 95 s)) l₁ e
-      → Put l a (element_name s) l₁ e
+module _ {a e : Output} (s : List ℕ) where
+  pub unlettered : bare (capitals (split 95 s)) ≡ false → Put a (capitals (split 95 s)) e → Put a (element_name s) e
   unfolding element_name
-  unlettered b h = rw (lettered-bare (capitals (split 95 s)), b) h
+  unlettered b p = rw (lettered-bare (capitals (split 95 s)), b) p
 
-  pub t-before : {l₂ : List ℕ} {p : ℕ} → bare (capitals (split 95 s)) ≡ true → Put l a (84 ∷ []) l₂ p
-      → Put l₂ p (capitals (split 95 s)) l₁ e → Put l a (element_name s) l₁ e
+  pub t-before : {m : Output} → bare (capitals (split 95 s)) ≡ true → Put a (84 ∷ []) m
+      → Put m (capitals (split 95 s)) e → Put a (element_name s) e
   unfolding element_name
-  t-before b h g = rw (lettered-bare (capitals (split 95 s)), b) (put-append h g)
+  t-before b p q = rw (lettered-bare (capitals (split 95 s)), b) (put-append p q)

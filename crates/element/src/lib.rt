@@ -3,87 +3,57 @@
 
 ghost use Rattle.std.specs.Prelude.{◌≡◌};
 ghost use Rattle.spec.specs.Bytes.{split};
-ghost use Rattle.streams.specs.Streams.{upper, lower, capitals, element_name};
+ghost use Rattle.streams.specs.Streams.{capitals, element_name};
 ghost use Rattle.writer.specs.Puts.{Put};
 ghost use Rattle.element.specs.Pascal.{case_of, bare};
 
 use scan::is_digit;
-use writer::put_byte;
-
-fn upper(x: u8) -> u8
-    ensures { result ≡ upper x }
-{
-    if x < 97 {
-        return x;
-    }
-    if 122 < x {
-        return x;
-    }
-    x - 32
-}
-
-fn lower(x: u8) -> u8
-    ensures { result ≡ lower x }
-{
-    if x < 65 {
-        return x;
-    }
-    if 90 < x {
-        return x;
-    }
-    x + 32
-}
+use writer::Output;
 
 // What byte x of a name gives, at a word's start or behind it.
-fn put_case(out: &mut [u8], at: usize, start: bool, x: u8) -> usize
-    ensures { Put out.old at (case_of start x) out.new result }
+#[inline]
+fn put_case(out: &mut Output, start: bool, x: u8)
+    ensures { Put out.old (case_of start x) out.new }
 {
     if x == 95 {
-        return at;
+        return;
     }
     if start {
-        return put_byte(out, at, upper(x));
+        return out.put_byte(x.to_ascii_uppercase());
     }
-    put_byte(out, at, lower(x))
+    out.put_byte(x.to_ascii_lowercase());
 }
 
 // A name in Pascal case, without a 'T' before.
-fn put_pascal(out: &mut [u8], at: usize, s: &[u8]) -> usize
-    ensures { Put out.old at (capitals (split 95 s.now)) out.new result }
+fn put_pascal(out: &mut Output, s: &[u8])
+    ensures { Put out.old (capitals (split 95 s.now)) out.new }
 {
-    let mut p = at;
     let mut start = true;
-    let mut i = 0;
-    while i < s.len() {
-        let x = s[i];
-        p = put_case(out, p, start, x);
-        start = x == 95;
-        i += 1;
+    for x in s {
+        put_case(out, start, *x);
+        start = *x == 95;
     }
-    p
 }
 
 // Whether no letter begins a name in Pascal case.
 fn is_bare(s: &[u8]) -> bool
     ensures { result ≡ bare (capitals (split 95 s.now)) }
 {
-    let mut i = 0;
-    while i < s.len() {
-        if s[i] != 95 {
-            return is_digit(s[i]);
+    for x in s {
+        if *x != 95 {
+            return is_digit(*x);
         }
-        i += 1;
     }
     true
 }
 
 // A row's element.
-pub fn put_element(out: &mut [u8], at: usize, s: &[u8]) -> usize
-    ensures { Put out.old at (element_name s.now) out.new result }
+pub fn put_element(out: &mut Output, s: &[u8])
+    ensures { Put out.old (element_name s.now) out.new }
 {
     if !is_bare(s) {
-        return put_pascal(out, at, s);
+        return put_pascal(out, s);
     }
-    let p = put_byte(out, at, 84);
-    put_pascal(out, p, s)
+    out.put_byte(84);
+    put_pascal(out, s);
 }

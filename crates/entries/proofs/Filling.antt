@@ -1,17 +1,15 @@
 -- The loop of fill: what it knows at row j of n used rows, a law to each branch, and what is known behind it.
 use Prim.Native.Nat.{ℕ, zero, suc, ◌+◌, ◌≤◌, ◌<◌}
 use mathlib.Core.Path.{◌≡◌, refl, sym, ap, ◌∙◌}
-use mathlib.Core.Logic.{inl}
 use mathlib.Core.Bool.{Bool, true, false, cond, ◌&&◌, and-false}
 use mathlib.Core.List.{List, [], ◌∷◌, ◌++◌, append-nil}
 use native.Mathlib.Nat.{add-zero}
 use native.Mathlib.Omega.{arith}
 use native.Mathlib.Numerals.{add-one}
 use lib.Dec.{eqb}
-use lib.ListN.{length, get_or, set, take, drop, replicate, get_or-replicate, length-set, length-take, length-drop}
-use lib.ListN.{drop_of_length-le}
-use lib.Seq.{sets, length-sets, take-suc, take_all, length-take-le, drop-cons, drop-set-lt}
-use lib.Seq.{get_or-drop, get_or-append-add, get_or-set_same, set-get_or}
+use lib.ListN.{length, get_or, set, take, drop, replicate, get_or-replicate, drop_of_length-le}
+use lib.Seq.{take-suc, take_all, length-take-le, drop-cons, append_snoc, set-append_seam}
+use lib.Seq.{get_or-append-add, set-get_or}
 use borrow.Author.Tests.{eqb-true, eq-eqb, ne_eqb}
 use Rattle.spec.specs.Words.{row}
 use Rattle.spec.specs.Blocks.{table_rows}
@@ -19,43 +17,14 @@ use Rattle.spec.specs.Entries.{packed, used_rows, form_ok}
 use Rattle.spec.proofs.Blocks.{Given}
 use Rattle.spec.proofs.Steps.{Formed, used-formed}
 use Rattle.spec.proofs.Words.{and_left, and_right, not_so}
-use Rattle.marks.specs.Marks.{mark_of, key_of, eight_at}
+use Rattle.marks.specs.Marks.{mark_of, key_of}
 use Rattle.marks.specs.Marked.{Marked}
-use Rattle.marks.proofs.Laws.{eight-at}
 use Rattle.marks.proofs.Keys.{key-small, mark-some, mark-key}
 use Rattle.marks.proofs.Places.{marked-zeros}
 use Rattle.entries.specs.Forms.{may_follow, marks_of, filled}
-use Rattle.entries.specs.declared.Filled.{Filled}
-use Rattle.entries.specs.declared.Filled.TheVariants.{Used, Broken}
-use Rattle.entries.proofs.Columns.{sets-set, run-words}
+use Rattle.std.specs.Prelude.{Option, Some, None, is_some}
 use Rattle.entries.proofs.Marks.{length-marks, marks-of}
-use Rattle.entries.proofs.Laws.{follows, fill_rest, rest_all, follows-marked, filled-used}
-
--- ---- a run of words stored, read back
-
-sets-run : (xs l : List ℕ) (n i : ℕ) → length xs ≤ n → i + n ≤ length l
-    → take n (drop i (sets l i xs)) ≡ xs ++ drop (length xs) (take n (drop i l))
-sets-run [] l n i h f = refl
-sets-run (x ∷ xs) l zero i h f = absurd (omega arith)
-sets-run (x ∷ xs) l (suc n) i h f =
-    let m : List ℕ = sets (set l i x) (suc i) xs in
-    let a : length m ≡ length l = length-sets (set l i x) (suc i) xs ∙ length-set l i x in
-    let b : get_or m i 0 ≡ x =
-    ap (λ (y : List ℕ). get_or y i 0) (sets-set xs l (suc i) i x (inl (omega arith)))
-    ∙ get_or-set_same (sets l (suc i) xs) i x 0 (omega (arith, length-sets l (suc i) xs)) in
-    rw (
-      run-words n m i (omega arith),
-      run-words n l i f,
-      b,
-      sets-run xs (set l i x) n (suc i) (omega arith) (omega (arith, length-set l i x)),
-      drop-set-lt (suc i) l i x (omega arith),
-    )
-
-sets-snoc : (xs l : List ℕ) (i x : ℕ) → sets l i (xs ++ (x ∷ [])) ≡ set (sets l i xs) (i + length xs) x
-sets-snoc [] l i x = rw (add-zero i)
-sets-snoc (y ∷ xs) l i x =
-    let e : suc i + length xs ≡ i + suc (length xs) = omega arith in
-    rw e at (sets-snoc xs (set l i y) (suc i) x)
+use Rattle.entries.proofs.Laws.{follows, fill_rest, rest_all, follows-marked, filled-used, some-filled}
 
 -- ---- marks
 
@@ -88,80 +57,64 @@ module _ (own : ℕ) where
   zeros-drop (suc n) [] z = tt
   zeros-drop (suc n) (x ∷ zs) z = zeros-drop n zs z.1
 
-  -- the marks of eight rows, once they stand at word s
-  pub marks-there : (rs : List (List ℕ)) (o : List ℕ) (s : ℕ) → length rs ≡ 8 → s + 8 ≤ length o
-      → eight_at (sets o s (marks_of own 1 rs)) s ≡ marks_of own 1 rs
-  marks-there rs o s e h =
-      let m : List ℕ = marks_of own 1 rs in
-      let f : length m ≡ 8 = length-marks own 1 rs ∙ e in
-      sets-run m o 8 s (omega arith) h
-      ∙ ap (λ (x : List ℕ). m ++ x)
-      (drop_of_length-le (eight_at o s) {i = length m} (omega (arith, length-take 8 (drop s o), length-drop s o)))
-      ∙ append-nil m
-
 given-snoc : (es : List (List ℕ)) (r : List ℕ) → Given es → 0 < get_or r 0 0 → Given (es ++ (r ∷ []))
 given-snoc [] r g h = (h, tt)
 given-snoc (e ∷ es) r g h = (g.0, given-snoc es r g.1 h)
 
+-- the marks of the rows passed, and zeros behind
+abbrev marks-before : ℕ → List (List ℕ) → ℕ → List ℕ
+marks-before own rows j = marks_of own 1 (take j rows) ++ drop j (replicate 8 0)
+
 -- n of the first j rows are used, and are the first; these are marked
-pub record Filling (own : ℕ) (rows : List (List ℕ)) (o : List ℕ) (s : ℕ) (marks : List ℕ) (n j : ℕ) : Type 0 where
+pub record Filling (own : ℕ) (rows : List (List ℕ)) (marks : List ℕ) (n j : ℕ) : Type 0 where
   pub used : n ≤ j
   pub few : j ≤ 8
-  pub made : marks ≡ sets o s (marks_of own 1 (take j rows))
+  pub made : marks ≡ marks-before own rows j
   pub given : n ≡ j → Given (take n rows)
   pub rest : filled own rows ≡ fill_rest own (take n rows) (eqb n j) (drop j rows)
 
-pub filling-start : (own : ℕ) (rows : List (List ℕ)) (o : List ℕ) (s : ℕ) → Filling own rows o s o 0 0
+pub filling-start : (own : ℕ) (rows : List (List ℕ)) {marks : List ℕ} → marks ≡ replicate 8 0
+    → Filling own rows marks 0 0
 unfolding marks_of
-filling-start own rows o s =
-    record { used = omega arith; few = omega arith; made = refl; given = λ e. tt; rest = rest_all own rows }
+filling-start own rows e =
+    record { used = omega arith; few = omega arith; made = e; given = λ e. tt; rest = rest_all own rows }
 
-module _ {own : ℕ} {rows : List (List ℕ)} {o : List ℕ} {s : ℕ} {marks : List ℕ} {n j : ℕ}
-    (v : Filling own rows o s marks n j) where
-  pub filling-length : length marks ≡ length o
-  filling-length = ap length v.made ∙ length-sets o s (marks_of own 1 (take j rows))
-
+module _ {own : ℕ} {rows : List (List ℕ)} {marks : List ℕ} {n j : ℕ} (v : Filling own rows marks n j) where
   pub filling-end : length rows ≡ 8 → 8 ≤ j
-      → (Used n ≡ filled own rows) × (form_ok own 0 rows ≡ true → marks ≡ sets o s (marks_of own 1 rows))
+      → (Some n ≡ filled own rows) × (form_ok own 0 rows ≡ true → marks ≡ marks_of own 1 rows)
   unfolding fill_rest
   filling-end size h =
       let e : j ≡ 8 = omega (arith, v.few) in
       let l : length (take n rows) ≡ n = length-take-le n rows (omega (arith, v.used, v.few)) in (
         sym (v.rest ∙ rw (drop_of_length-le rows {i = j} (omega arith), l)),
-        λ f. v.made ∙ rw (take_all j rows (omega arith)),
+        λ f. v.made ∙ rw (take_all j rows (omega arith), e, append-nil (marks_of own 1 rows)),
       )
 
 -- a turn: row j is read
-pub record Reading (own : ℕ) (rows : List (List ℕ)) (o : List ℕ) (s : ℕ) (marks : List ℕ) (n j number time word : ℕ)
-    : Type 0 where
-  pub filling : Filling own rows o s marks n j
+pub record Reading (own : ℕ) (rows : List (List ℕ)) (marks : List ℕ) (n j number time word : ℕ) : Type 0 where
+  pub filling : Filling own rows marks n j
   pub size : length rows ≡ 8
-  pub room : s + 8 ≤ length o
-  pub zeros : eight_at o s ≡ replicate 8 0
   pub more : j < 8
   pub is : get_or rows j [] ≡ number ∷ time ∷ word ∷ []
 
-module _ {own : ℕ} {rows : List (List ℕ)} {o : List ℕ} {s : ℕ} {marks : List ℕ} {n j number time word : ℕ}
-    (d : Reading own rows o s marks n j number time word) where
+module _ {own : ℕ} {rows : List (List ℕ)} {marks : List ℕ} {n j number time word : ℕ}
+    (d : Reading own rows marks n j number time word) where
   abbrev here : List ℕ
   here = number ∷ time ∷ word ∷ []
+
+  abbrev zeros : List ℕ
+  zeros = replicate 8 0
 
   passed : length (take j rows) ≡ j
   passed = length-take-le j rows (omega (arith, d.size, d.more))
 
-  -- the words read as marks are those of the rows passed
-  reading-eight : eight_at marks s ≡ marks_of own 1 (take j rows) ++ drop j (replicate 8 0)
-  reading-eight =
-      let m : List ℕ = marks_of own 1 (take j rows) in
-      let e : length m ≡ j = length-marks own 1 (take j rows) ∙ passed in
-      ap (λ x. eight_at x s) d.filling.made
-      ∙ sets-run m o 8 s (omega (arith, d.more)) d.room
-      ∙ rw (d.zeros, e)
+  passed-marks : length (marks_of own 1 (take j rows)) ≡ j
+  passed-marks = length-marks own 1 (take j rows) ∙ passed
 
-  reading-marked : n ≡ j → Marked own (take n rows) (eight_at marks s)
+  reading-marked : n ≡ j → Marked own (take n rows) marks
   reading-marked q =
       let g = d.filling.given q in
-      rw (reading-eight, ← q)
+      rw (d.filling.made, ← q)
       (marked-given own 1 (take n rows) (drop n (replicate 8 0)) (omega arith) g
       (zeros-drop own n (replicate 8 0) (marked-zeros own 8)))
 
@@ -174,60 +127,68 @@ module _ {own : ℕ} {rows : List (List ℕ)} {o : List ℕ} {s : ℕ} {marks : 
   take_row : take (j + 1) rows ≡ take j rows ++ (here ∷ [])
   take_row = rw (add-one, take-suc rows j [] (omega (arith, d.size, d.more)), d.is)
 
+  -- the words behind those passed: 0, and the others
+  behind : drop j zeros ≡ 0 ∷ drop (suc j) zeros
+  behind =
+      drop-cons zeros j 0 d.more ∙ ap (λ (x : ℕ). x ∷ drop (suc j) zeros) (get_or-replicate 8 j 0 0 d.more)
+
   -- the row's mark
-  made_row : sets o s (marks_of own 1 (take (j + 1) rows)) ≡ set marks (s + j) (mark_at own (j + 1) here)
+  made_row : set marks j (mark_at own (j + 1) here) ≡ marks-before own rows (j + 1)
   made_row =
+      let m : List ℕ = marks_of own 1 (take j rows) in
+      let x : ℕ = mark_at own (j + 1) here in
+      let rest : List ℕ = drop (suc j) zeros in
       let p : 1 + length (take j rows) ≡ j + 1 = omega (arith, passed) in
-      let q : s + length (marks_of own 1 (take j rows)) ≡ s + j =
-      ap (λ (x : ℕ). s + x) (length-marks own 1 (take j rows) ∙ passed) in
-      rw (take_row, marks-snoc own 1 (take j rows) here, p)
-      (sets-snoc (marks_of own 1 (take j rows)) o s (mark_at own (j + 1) here) ∙ rw (q, ← d.filling.made))
+      let a : set (m ++ (0 ∷ rest)) j x ≡ m ++ (x ∷ rest) = rw passed-marks at (set-append_seam m 0 rest x) in
+      let b : marks_of own 1 (take (j + 1) rows) ≡ m ++ (x ∷ []) =
+      rw (take_row, marks-snoc own 1 (take j rows) here, p) in
+      let e : drop (j + 1) zeros ≡ rest = rw (add-one j) in
+      ap (λ (l : List ℕ). set l j x) (d.filling.made ∙ ap (λ (l : List ℕ). m ++ l) behind)
+      ∙ (a
+      ∙ sym (ap (λ (l : List ℕ). l ++ drop (j + 1) zeros) b
+      ∙ (append_snoc m x (drop (j + 1) zeros) ∙ ap (λ (l : List ℕ). m ++ (x ∷ l)) e)))
 
   -- there is none yet
-  unmarked : get_or marks (s + j) 0 ≡ 0
+  unmarked : get_or marks j 0 ≡ 0
   unmarked =
       let m : List ℕ = marks_of own 1 (take j rows) in
-      let e : length m ≡ j = length-marks own 1 (take j rows) ∙ passed in
-      sym (eight-at marks s j 0 d.more)
-      ∙ ap (λ (x : List ℕ). get_or x j 0) reading-eight
-      ∙ rw (add-zero (length m), e) at (get_or-append-add m (drop j (replicate 8 0)) 0 0)
-      ∙ get_or-drop j (replicate 8 0) 0 0
-      ∙ get_or-replicate 8 (j + 0) 0 0 (omega (arith, d.more))
+      rw (d.filling.made, behind)
+      (rw (add-zero (length m), passed-marks) at (get_or-append-add m (0 ∷ drop (suc j) zeros) 0 0))
 
   -- an unused row
   module _ (z : number ≡ 0) where
-    pub reading-spoilt : (time ≡ 0 → word ≡ 0 → ⊥) → Broken ≡ filled own rows
+    pub reading-spoilt : (time ≡ 0 → word ≡ 0 → ⊥) → None ≡ filled own rows
     unfolding fill_rest
     reading-spoilt f =
         let g : false ≡ eqb time 0 && eqb word 0 =
         not_so _ (λ b. f (eqb-true time 0 (and_left _ _ b)) (eqb-true word 0 (and_right (eqb time 0) _ b))) in
         sym (rest-row ∙ rw (z, ← g))
 
-    pub reading-unused : time ≡ 0 → word ≡ 0 → Filling own rows o s marks n (j + 1)
+    pub reading-unused : time ≡ 0 → word ≡ 0 → Filling own rows marks n (j + 1)
     unfolding fill_rest
     reading-unused a b =
         record {
           used = omega (arith, d.filling.used);
           few = omega (arith, d.more);
-          made = sym (made_row ∙ rw z (ap (set marks (s + j)) (sym unmarked) ∙ set-get_or marks (s + j) 0));
+          made = sym (rw z (ap (set marks j) (sym unmarked) ∙ set-get_or marks j 0)) ∙ made_row;
           given = λ q. absurd (omega (arith, d.filling.used));
           rest = rest-row ∙ rw (z, a, b, ne_eqb n (j + 1) (omega (arith, d.filling.used)), add-one j);
         }
 
   -- a used one
   module _ (u : number ≡ 0 → ⊥) where
-    pub reading-late : (n ≡ j → ⊥) → Broken ≡ filled own rows
+    pub reading-late : (n ≡ j → ⊥) → None ≡ filled own rows
     unfolding fill_rest
     reading-late f = sym (rest-row ∙ rw (ne_eqb number 0 u, ne_eqb n j f))
 
     module _ {key : ℕ} (k : key ≡ key_of own word) (q : n ≡ j) {t : Bool}
-        (f : t ≡ may_follow n key (eight_at marks s)) where
+        (f : t ≡ may_follow n key marks) where
       by-marks : follows own (take n rows) here ≡ t
       by-marks =
           let e : length (take n rows) ≡ n = length-take-le n rows (omega (arith, d.size, d.more)) in
-          sym (f ∙ rw k (rw e at (follows-marked own here (take n rows) (eight_at marks s) (reading-marked q))))
+          sym (f ∙ rw k (rw e at (follows-marked own here (take n rows) marks (reading-marked q))))
 
-      pub reading-refused : t ≡ false → Broken ≡ filled own rows
+      pub reading-refused : t ≡ false → None ≡ filled own rows
       unfolding fill_rest
       reading-refused g = sym (rest-row ∙ rw (ne_eqb number 0 u, by-marks ∙ g, and-false))
 
@@ -235,13 +196,13 @@ module _ {own : ℕ} {rows : List (List ℕ)} {o : List ℕ} {s : ℕ} {marks : 
       take-used = rw q take_row
 
       pub reading-used : t ≡ true → {mark : ℕ} → mark ≡ mark_of (j + 1) key
-          → Filling own rows o s (set marks (s + j) mark) (n + 1) (j + 1)
+          → Filling own rows (set marks j mark) (n + 1) (j + 1)
       unfolding fill_rest
       reading-used g m =
           record {
             used = omega arith;
             few = omega (arith, d.more);
-            made = ap (set marks (s + j)) (m ∙ rw (ne_eqb number 0 u, k)) ∙ sym made_row;
+            made = ap (set marks j) (m ∙ rw (ne_eqb number 0 u, k)) ∙ made_row;
             given = λ x. rw take-used (given-snoc (take n rows) here (d.filling.given q) (omega (arith, u)));
             rest =
                 rest-row
@@ -273,32 +234,31 @@ unfolding table_rows
 rows-many st t w zero k = refl
 rows-many st t w (suc n) k = ap suc (rows-many st t w n (suc k))
 
--- eight zeros filled with the marks of rows that have their written form
-pub marks-filled : (own : ℕ) (rs : List (List ℕ)) {marks : List ℕ} → length rs ≡ 8 → form_ok own 0 rs ≡ true
-    → (form_ok own 0 rs ≡ true → marks ≡ sets (replicate 8 0) 0 (marks_of own 1 rs))
-    → eight_at marks 0 ≡ marks_of own 1 rs
-marks-filled own rs size form f =
-    ap (λ l. eight_at l 0) (f form) ∙ marks-there own rs (replicate 8 0) 0 size (omega arith)
-
 pub record FilledBy (own : ℕ) (rs : List (List ℕ)) (marks : List ℕ) (n : ℕ) : Type 0 where
   pub size : length rs ≡ 8
   pub form : form_ok own 0 rs ≡ true
   pub many : n ≡ length (used_rows rs)
-  pub is : eight_at marks 0 ≡ marks_of own 1 rs
+  pub is : marks ≡ marks_of own 1 rs
 
-pub filled-by : (own : ℕ) (rs : List (List ℕ)) {found : Filled} {marks : List ℕ} {n : ℕ} → length rs ≡ 8
-    → found ≡ filled own rs
-    → (form_ok own 0 rs ≡ true → marks ≡ sets (replicate 8 0) 0 (marks_of own 1 rs))
-    → found ≡ Used n → FilledBy own rs marks n
-filled-by own rs size e f u =
-    let x = filled-used own rs (sym u ∙ e) in
-    record { size = size; form = x.0; many = x.1; is = marks-filled own rs size x.0 f }
+pub filled-by : (own : ℕ) (rs : List (List ℕ)) {marks : List ℕ} {n : ℕ} → length rs ≡ 8 → Some n ≡ filled own rs
+    → (form_ok own 0 rs ≡ true → marks ≡ marks_of own 1 rs) → FilledBy own rs marks n
+filled-by own rs size e f =
+    let x = filled-used own rs e in
+    record { size = size; form = x.0; many = x.1; is = f x.0 }
+
+-- the same where the number is not asked for
+pub formed-by : (own : ℕ) (rs : List (List ℕ)) {found : Option ℕ} {marks : List ℕ} → length rs ≡ 8 → found ≡ filled own rs
+    → (form_ok own 0 rs ≡ true → marks ≡ marks_of own 1 rs) → is_some found ≡ true
+    → FilledBy own rs marks (length (used_rows rs))
+formed-by own rs size e f s =
+    let x : form_ok own 0 rs ≡ true = sym (ap is_some e ∙ some-filled own rs) ∙ s in
+    record { size = size; form = x; many = refl; is = f x }
 
 module _ {own : ℕ} {rs : List (List ℕ)} {marks : List ℕ} {n : ℕ} (by : FilledBy own rs marks n) where
-  pub by-marked : Marked own (used_rows rs) (eight_at marks 0)
+  pub by-marked : Marked own (used_rows rs) marks
   by-marked = rw by.is (marks-of own 0 rs by.form)
 
-  pub by-eight : length (eight_at marks 0) ≡ 8
+  pub by-eight : length marks ≡ 8
   by-eight = rw by.is (length-marks own 1 rs ∙ by.size)
 
   pub by-formed : Formed own (used_rows rs)

@@ -1,5 +1,5 @@
 -- The written form of an item's rows, row by row: what may follow, and what is found of the rows left.
-use Prim.Native.Nat.{ℕ, suc, ◌≤◌}
+use Prim.Native.Nat.{ℕ, suc, ◌≤◌, ◌<◌}
 use mathlib.Core.Path.{◌≡◌, refl, sym, ap, ◌∙◌}
 use mathlib.Core.Bool.{Bool, true, false, cond, ◌&&◌, ◌||◌, not, true≢false, and-false, and-true, not-not}
 use mathlib.Core.Bool.{or-false, or_assoc}
@@ -8,17 +8,16 @@ use native.Mathlib.Omega.{arith}
 use lib.Dec.{leb, eqb, eqb-suc-zero}
 use lib.ListN.{length, get_or, drop, length-append}
 use lib.Seq.{append_snoc}
-use borrow.Author.Tests.{eqb-true, eqb-false, eq-eqb, ne_eqb, le-leb, lt-leb, leb-false}
+use borrow.Author.Tests.{eqb-true, eqb-false, eq-eqb, ne_eqb, le-leb, lt-leb, leb-false, ltb-false}
 use Rattle.spec.specs.Entries.{active, active_as, code_field, packed, any_entry, each_row, has_code, zero_row, used_rows}
 use Rattle.spec.specs.Entries.{codes_differ, form_ok}
 use Rattle.spec.proofs.Words.{and_left, by-test}
-use Rattle.marks.specs.Marks.{key_in, key_of, place_of}
+use Rattle.marks.specs.Marks.{key_in, key_of, place_of, found_at}
 use Rattle.marks.specs.Marked.{Marked}
 use Rattle.marks.proofs.Keys.{key-active, key-idle}
 use Rattle.marks.proofs.Places.{place-has, place_none}
 use Rattle.entries.specs.Forms.{may_follow, filled}
-use Rattle.entries.specs.declared.Filled.{Filled}
-use Rattle.entries.specs.declared.Filled.TheVariants.{Used, Broken}
+use Rattle.std.specs.Prelude.{Option, Some, None, MatchOption, is_some, nat_lt}
 
 -- ---- one more entry
 
@@ -70,12 +69,12 @@ follows own (e ∷ es) r =
     active own (packed r) && (active own (packed e) && not (has_code own (code_field (packed r)) (e ∷ es)))
 
 -- what is found of rows behind the used ones es; more of them may follow where no unused one was passed
-unfoldable pub fill_rest : ℕ → List (List ℕ) → Bool → List (List ℕ) → Filled
-fill_rest own es more [] = Used (length es)
+unfoldable pub fill_rest : ℕ → List (List ℕ) → Bool → List (List ℕ) → Option ℕ
+fill_rest own es more [] = Some (length es)
 fill_rest own es more (r ∷ rs) =
     cond (eqb (get_or r 0 0) 0)
-    (cond (eqb (get_or r 1 0) 0 && eqb (packed r) 0) (fill_rest own es false rs) Broken)
-    (cond (more && follows own es r) (fill_rest own (es ++ (r ∷ [])) true rs) Broken)
+    (cond (eqb (get_or r 1 0) 0 && eqb (packed r) 0) (fill_rest own es false rs) None)
+    (cond (more && follows own es r) (fill_rest own (es ++ (r ∷ [])) true rs) None)
 
 module _ (own : ℕ) where
   -- two or more
@@ -126,7 +125,7 @@ module _ (own : ℕ) where
       (λ f. f)
 
   -- no more may follow: zeros
-  rest-shut : (es rs : List (List ℕ)) → fill_rest own es false rs ≡ cond (each_row zero_row rs) (Used (length es)) Broken
+  rest-shut : (es rs : List (List ℕ)) → fill_rest own es false rs ≡ cond (each_row zero_row rs) (Some (length es)) None
   unfolding fill_rest each_row
   rest-shut es [] = refl
   rest-shut es (r ∷ rs) =
@@ -139,8 +138,8 @@ module _ (own : ℕ) where
   rest-open : (es rs : List (List ℕ)) → formed own es ≡ true
       → fill_rest own es true rs
       ≡ cond (each_row zero_row (drop (length (used_rows rs)) rs) && formed own (es ++ used_rows rs))
-      (Used (length (es ++ used_rows rs)))
-      Broken
+      (Some (length (es ++ used_rows rs)))
+      None
   unfolding fill_rest each_row used_rows
   rest-open es [] f = rw (append-nil es, f)
   rest-open es (r ∷ rs) f =
@@ -202,6 +201,24 @@ module _ (own : ℕ) (r : List ℕ) where
       (not-not (active own (packed e)))))
       (λ a. rw (eqb-suc-zero (length es), key-none own (packed r), a))
 
+-- where a key is found, its place is n
+abbrev pub is_at : ℕ → Option ℕ → Bool
+is_at n None = false
+is_at n (Some j) = eqb j n
+
+pub tested : (n : ℕ) (o : Option ℕ) {P : ℕ → Type 0} {r : Bool} → MatchOption o (r ≡ false) P
+    → ((x : ℕ) → P x → r ≡ eqb x n) → r ≡ is_at n o
+tested n None h f = h
+tested n (Some x) h f = f x h
+
+-- behind fewer than there are marks
+pub found-at : (n key : ℕ) (ms : List ℕ) → n < length ms → is_at n (found_at key ms) ≡ eqb (place_of key ms) n
+unfolding found_at
+found-at n key ms h =
+    by-test (nat_lt (place_of key ms) (length ms))
+    (λ t. rw t)
+    (λ t. rw (t, ne_eqb (place_of key ms) n (omega (arith, ltb-false (place_of key ms) (length ms) t))))
+
 -- a branch of may_follow each
 module _ (n key : ℕ) (ms : List ℕ) where
   pub may-first : n ≡ 0 → true ≡ may_follow n key ms
@@ -225,20 +242,24 @@ module _ (n key : ℕ) (ms : List ℕ) where
 -- ---- what fill answers
 
 module _ (own : ℕ) (rs : List (List ℕ)) where
-  pub filled-broken : Broken ≡ filled own rs → form_ok own 0 rs ≡ false
+  pub filled-broken : None ≡ filled own rs → form_ok own 0 rs ≡ false
   unfolding filled
   filled-broken e =
       by-test (form_ok own 0 rs)
       (λ f. let z : ◌≡◌ {A = ℕ} 0 1 = cc (rw f at e) in absurd (omega arith))
       (λ f. f)
 
-  pub filled-used : {n : ℕ} → Used n ≡ filled own rs → (form_ok own 0 rs ≡ true) × (n ≡ length (used_rows rs))
+  pub filled-used : {n : ℕ} → Some n ≡ filled own rs → (form_ok own 0 rs ≡ true) × (n ≡ length (used_rows rs))
   unfolding filled
   filled-used e =
       by-test (form_ok own 0 rs)
       (λ f. (f, cc (rw f at e)))
       (λ f. let z : ◌≡◌ {A = ℕ} 0 1 = cc (rw f at e) in absurd (omega arith))
 
+  pub some-filled : is_some (filled own rs) ≡ form_ok own 0 rs
+  unfolding filled
+  some-filled = by-test (form_ok own 0 rs) (λ f. rw f) (λ f. rw f)
+
   -- then nothing is asked of the marks
-  pub broken : {A : Type 0} → Broken ≡ filled own rs → form_ok own 0 rs ≡ true → A
+  pub broken : {A : Type 0} → None ≡ filled own rs → form_ok own 0 rs ≡ true → A
   broken e t = absurd (true≢false (sym t ∙ filled-broken e))

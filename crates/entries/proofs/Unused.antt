@@ -15,7 +15,7 @@ use Rattle.spec.specs.Blocks.{table_rows}
 use Rattle.spec.specs.Entries.{each_row, zero_row, used_rows, form_ok}
 use Rattle.spec.proofs.Words.{and_left, by-test}
 use Rattle.entries.specs.Forms.{filled}
-use Rattle.entries.specs.declared.Filled.TheVariants.{Used}
+use Rattle.std.specs.Prelude.{Some}
 
 or-none : (a b : ℕ) → eqb (bit_or a b) 0 ≡ eqb a 0 && eqb b 0
 or-none a b =
@@ -80,13 +80,13 @@ none-used [] z = refl
 none-used (r ∷ rs) z = rw (and_left (eqb (get_or r 0 0) 0) _ (and_left (zero_row r) _ z))
 
 one-used : (own : ℕ) (r : List ℕ) (rs : List (List ℕ)) → (get_or r 0 0 ≡ 0 → ⊥) → each_row zero_row rs ≡ true
-    → Used 1 ≡ filled own (r ∷ rs)
+    → Some 1 ≡ filled own (r ∷ rs)
 unfolding filled form_ok used_rows
 one-used own r rs u z = rw (ne_eqb (get_or r 0 0) 0 u, none-used rs z, z)
 
 pub first_alone : (own : ℕ) (st : List ℕ) (t w k : ℕ) → (get_or st (t + k) 0 ≡ 0 → ⊥)
     → each_row zero_row (table_rows st t w 7 (k + 1)) ≡ true
-    → Used 1 ≡ filled own (table_rows st t w 8 k)
+    → Some 1 ≡ filled own (table_rows st t w 8 k)
 unfolding table_rows row
 first_alone own st t w k u z =
     one-used own (row st t w k 3) (table_rows st t w 7 (suc k)) u (rw (add-one k) at z)

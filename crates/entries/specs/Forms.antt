@@ -1,9 +1,7 @@
 -- What the functions over an item's eight entries give, by the rows that stand in its table.
-use Rattle.std.specs.Prelude.{ℕ, suc, ◌+◌, ◌*◌, ◌≤◌, Bool, cond, ◌&&◌, ◌||◌, not, List, [], ◌∷◌, eqb, length, get_or}
+use Rattle.std.specs.Prelude.{ℕ, suc, ◌+◌, ◌*◌, ◌≤◌, Bool, cond, ◌&&◌, ◌||◌, not, List, [], ◌∷◌, eqb, length, get_or, Option, Some, None}
 use Rattle.spec.specs.Entries.{packed, used_rows, form_ok}
 use Rattle.marks.specs.Marks.{mark_of, key_in, key_of, place_of}
-use Rattle.entries.specs.declared.Filled.{Filled}
-use Rattle.entries.specs.declared.Filled.TheVariants.{Used, Broken}
 
 -- eight rows from row k on of a table of w rows that begins at word t, in a store of so many words
 pub record Table (w t k words : ℕ) : Type 0 where
@@ -22,6 +20,6 @@ marks_of own place (r ∷ rs) =
     let ms = marks_of own (suc place) rs in
     cond (eqb (get_or r 0 0) 0) 0 (mark_of place (key_of own (packed r))) ∷ ms
 
--- how many rows are used; Broken where they are not in their written form
-unfoldable pub filled : ℕ → List (List ℕ) → Filled
-filled own rs = cond (form_ok own 0 rs) (Used (length (used_rows rs))) Broken
+-- how many rows are used, where they have their written form
+unfoldable pub filled : ℕ → List (List ℕ) → Option ℕ
+filled own rs = cond (form_ok own 0 rs) (Some (length (used_rows rs))) None

@@ -29,7 +29,7 @@ use Rattle.evicting.specs.Writing.{Overwriting, InTable}
 
 module _ (cat : ℕ → ℕ) (st : List ℕ) (t m k item : ℕ) (em : k ≡ m) where
   -- what the step of a condition item's entries asks
-  pub step_fits : InTable cat m t item st → m ≤ max_items → cat item ≡ 2
+  pub step_fits : InTable cat m t item st → k ≤ max_items → cat item ≡ 2
       → Table (8 * k) t (8 * item) (length st)
       × ((item < 2 ^ 24) × (form_ok item 0 (table_rows st t (8 * k) 8 (8 * item)) ≡ true))
   step_fits i h c =

@@ -2,13 +2,15 @@
 #![tactic(auto)]
 
 ghost use Rattle.std.specs.Prelude.{◌≡◌, [], ◌∷◌, ◌<◌};
-ghost use Rattle.spec.specs.Model.{Sizes, items, category};
+ghost use Rattle.spec.specs.Model.{items, category};
 ghost use Rattle.history.specs.Observations.{place, set_newest, evict};
 ghost use Rattle.evicting.specs.Writing.{Overwriting, InTable};
 
+use model::Words;
+
 // The table at word t takes an observation of the item: the entries of a condition item, or another's one row.
 pub fn set_newest(
-    model: &[u32],
+    model: &Words<'_>,
     st: &mut [u64],
     t: u64,
     item: u64,
@@ -16,15 +18,14 @@ pub fn set_newest(
     time: u64,
     word: u64,
 )
-    requires sizes { Sizes model.now }
     requires in_table { InTable (category model.now) (items model.now) t item st.old }
     ensures { st.new
         ≡ set_newest (category model.now) st.old t (items model.now) item
         (number ∷ time ∷ word ∷ []) }
 {
-    let w = spec::ENTRIES * model::items(model);
+    let w = spec::ENTRIES * model.items();
     let k = spec::ENTRIES * item;
-    let category = model::category(model, item);
+    let category = model.category(item);
     if category == spec::CONDITION {
         stepping::step(st, w, t, k, item, number, time, word);
     } else {
@@ -33,8 +34,7 @@ pub fn set_newest(
 }
 
 // The entry at place p that number s is about to overwrite, if any, goes to its item's checkpoint.
-pub fn evict(model: &[u32], st: &mut [u64], n: u64, b: u64, s: u64, p: u64)
-    requires sizes { Sizes model.now }
+pub fn evict(model: &Words<'_>, st: &mut [u64], n: u64, b: u64, s: u64, p: u64)
     requires overwriting { Overwriting (category model.now) n (items model.now) b s st.old }
     requires p_value { (p ≡ place n b s) × (p < n) }
     ensures { st.new ≡ evict (category model.now) n (items model.now) b s st.old }
@@ -43,7 +43,7 @@ pub fn evict(model: &[u32], st: &mut [u64], n: u64, b: u64, s: u64, p: u64)
         let time = observations::ring_time(st, n, p);
         let word = observations::ring_word(st, n, p);
         let item = value::item_of(word);
-        let checkpoint = observations::checkpoint_at(n, model::items(model));
+        let checkpoint = observations::checkpoint_at(n, model.items());
         set_newest(model, st, checkpoint, item, s - n, time, word);
     }
 }

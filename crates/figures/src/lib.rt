@@ -6,80 +6,80 @@ ghost use Rattle.writer.specs.Puts.{Put};
 
 use spec::{Level, Value};
 use value::low_word;
-use writer::{put_byte, put_bytes, put_decimal, put_digit, put_three, put_two};
+use writer::Output;
 
 // Thousandths without zeros at the end.
-fn put_part(out: &mut [u8], at: usize, p: u64) -> usize
-    ensures { Put out.old at (part_text p) out.new result }
+fn put_part(out: &mut Output, p: u64)
+    ensures { Put out.old (part_text p) out.new }
 {
     if p % 100 == 0 {
-        return put_digit(out, at, p / 100);
+        return out.put_fixed::<1>(p / 100);
     }
     if p % 10 == 0 {
-        return put_two(out, at, p / 10);
+        return out.put_fixed::<2>(p / 10);
     }
-    put_three(out, at, p)
+    out.put_fixed::<3>(p)
 }
 
 // A point and the thousandths, if there are any.
-fn put_point(out: &mut [u8], at: usize, p: u64) -> usize
-    ensures { Put out.old at (point_text p) out.new result }
+fn put_point(out: &mut Output, p: u64)
+    ensures { Put out.old (point_text p) out.new }
 {
     if p == 0 {
-        return at;
+        return;
     }
-    let q = put_byte(out, at, 46);
-    put_part(out, q, p)
+    out.put_byte(46);
+    put_part(out, p);
 }
 
 // n thousandths.
-fn put_unsigned(out: &mut [u8], at: usize, n: u64) -> usize
-    ensures { Put out.old at (unsigned_text n) out.new result }
+fn put_unsigned(out: &mut Output, n: u64)
+    ensures { Put out.old (unsigned_text n) out.new }
 {
-    let p = put_decimal(out, at, n / 1000);
-    put_point(out, p, n % 1000)
+    out.put_decimal(n / 1000);
+    put_point(out, n % 1000);
 }
 
 // A sample.
-fn put_sample(out: &mut [u8], at: usize, x: i32) -> usize
-    ensures { Put out.old at (sample_text x) out.new result }
+fn put_sample(out: &mut Output, x: i32)
+    ensures { Put out.old (sample_text x) out.new }
 {
     let low = low_word(x);
     if low < 2147483648 {
-        return put_unsigned(out, at, low);
+        return put_unsigned(out, low);
     }
-    let p = put_byte(out, at, 45);
-    put_unsigned(out, p, 4294967296 - low)
+    out.put_byte(45);
+    put_unsigned(out, 4294967296 - low);
 }
 
 // The word of a level.
-fn put_level(out: &mut [u8], at: usize, l: Level) -> usize
-    ensures { Put out.old at (level_word l) out.new result }
+fn put_level(out: &mut Output, l: Level)
+    ensures { Put out.old (level_word l) out.new }
 {
     match l {
-        Level::Normal => put_bytes(out, at, b"NORMAL"),
-        Level::Warning => put_bytes(out, at, b"WARNING"),
-        Level::Fault => put_bytes(out, at, b"FAULT"),
+        Level::Normal => out.put_bytes(b"NORMAL"),
+        Level::Warning => out.put_bytes(b"WARNING"),
+        Level::Fault => out.put_bytes(b"FAULT"),
     }
 }
 
 // A level's word, ':' and the code.
-fn put_state(out: &mut [u8], at: usize, l: Level, c: u32) -> usize
-    ensures { Put out.old at (value_text (Value.Condition l c)) out.new result }
+fn put_state(out: &mut Output, l: Level, c: u32)
+    ensures { Put out.old (value_text (Value.Condition l c)) out.new }
 {
-    let p = put_level(out, at, l);
-    let q = put_byte(out, p, 58);
-    put_decimal(out, q, c as u64)
+    put_level(out, l);
+    out.put_byte(58);
+    out.put_decimal(u64::from(c));
 }
 
 // A value.
-pub fn put_value(out: &mut [u8], at: usize, v: Value) -> usize
-    ensures { Put out.old at (value_text v) out.new result }
+pub fn put_value(out: &mut Output, v: Value)
+    ensures { Put out.old (value_text v) out.new }
 {
     match v {
-        Value::Unavailable => put_bytes(out, at, b"UNAVAILABLE"),
-        Value::Sample(x) => put_sample(out, at, x),
-        Value::Event(c) => put_decimal(out, at, c as u64),
-        Value::Condition(l, c) => put_state(out, at, l, c),
+        Value::Unavailable => out.put_bytes(b"UNAVAILABLE"),
+        Value::Sample(x) => put_sample(out, x),
+        Value::Event(c) => out.put_decimal(u64::from(c)),
+        Value::Condition(l, c) => put_state(out, l, c),
     }
 }

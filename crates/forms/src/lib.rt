@@ -7,17 +7,21 @@ ghost use Rattle.lines.specs.Lines.{whole_form, point_form, by_point, decimal_fo
 ghost use Rattle.lines.specs.Lines.{form_of};
 
 use lines::Form;
-use scan::{Number, equal, find, number_of};
+use scan::{equal, number_of, split_once};
 use spec::Level;
 
 // A number without a point.
-fn whole_form(minus: bool, w: &[u8]) -> Form
+#[tactic(auto, unfolding(scan::specs::Number::number_of))]
+fn whole_form(minus: bool, w: &[u8]) -> Option<Form>
     ensures { result ≡ whole_form minus w.now }
 {
-    match number_of(w, 10, 9999999999) {
-        Number::Is(n) => Form::Decimal(minus, false, n, 0),
-        Number::Not => Form::Unread,
-    }
+    let whole = number_of(w, 10, 9999999999)?;
+    Some(Form::Decimal {
+        minus,
+        point: false,
+        whole,
+        part: 0,
+    })
 }
 
 // Thousandths, from one to three digits behind a point.
@@ -26,95 +30,94 @@ fn scaled(n: u64, digits: usize) -> u64
     requires le_digits { 1 ≤ digits }
     ensures { result ≡ n * 10 ^ (3 - digits) }
 {
-    if digits == 1 {
-        return n * 100;
+    match digits {
+        1 => n * 100,
+        2 => n * 10,
+        _ => n,
     }
-    if digits == 2 {
-        return n * 10;
-    }
-    n
 }
 
 // A number with a point.
-fn point_form(minus: bool, w: &[u8], p: &[u8]) -> Form
+#[tactic(auto, unfolding(scan::specs::Number::number_of))]
+fn point_form(minus: bool, w: &[u8], p: &[u8]) -> Option<Form>
     ensures { result ≡ point_form minus w.now p.now }
 {
-    let Number::Is(n) = number_of(w, 10, 9999999999) else {
-        return Form::Unread;
-    };
-    let Number::Is(m) = number_of(p, 3, 999) else {
-        return Form::Unread;
-    };
-    Form::Decimal(minus, true, n, scaled(m, p.len()))
+    let whole = number_of(w, 10, 9999999999)?;
+    let part = scaled(number_of(p, 3, 999)?, p.len());
+    Some(Form::Decimal {
+        minus,
+        point: true,
+        whole,
+        part,
+    })
 }
 
 // A decimal behind its sign.
-fn unsigned_form(minus: bool, s: &[u8]) -> Form
+#[tactic(auto, using(crate::proofs::Laws::points))]
+fn unsigned_form(minus: bool, s: &[u8]) -> Option<Form>
     ensures { result ≡ by_point minus (split 46 s.now) }
 {
-    let i = find(s, 46, 46);
-    if s.len() <= i {
-        return whole_form(minus, s);
+    match split_once(s, b'.') {
+        None => whole_form(minus, s),
+        Some((w, p)) => point_form(minus, w, p),
     }
-    point_form(minus, &s[..i], &s[i + 1..])
 }
 
 // A decimal.
-fn decimal_form(s: &[u8]) -> Form
+#[tactic(auto, using(crate::proofs::Laws::signs))]
+fn decimal_form(s: &[u8]) -> Option<Form>
     ensures { result ≡ decimal_form s.now }
 {
-    if s.len() == 0 {
-        return Form::Unread;
+    match s.strip_prefix(b"-") {
+        Some(digits) => unsigned_form(true, digits),
+        None => unsigned_form(false, s),
     }
-    if s[0] == 45 {
-        return unsigned_form(true, &s[1..]);
-    }
-    unsigned_form(false, s)
 }
 
 // A level by its word, with its code.
-fn state_form(w: &[u8], code: u64) -> Form
+// By equal: a match on byte strings has a goal for each byte, and 20 for its last arm.
+#[tactic(auto, unfolding(lines::specs::Lines::state_form))]
+fn state_form(w: &[u8], code: u64) -> Option<Form>
     ensures { result ≡ state_form w.now code }
 {
-    if equal(w, b"NORMAL") {
-        return Form::State(Level::Normal, code);
-    }
-    if equal(w, b"WARNING") {
-        return Form::State(Level::Warning, code);
-    }
-    if equal(w, b"FAULT") {
-        return Form::State(Level::Fault, code);
-    }
-    Form::Unread
+    let level = if equal(w, b"NORMAL") {
+        Level::Normal
+    } else if equal(w, b"WARNING") {
+        Level::Warning
+    } else if equal(w, b"FAULT") {
+        Level::Fault
+    } else {
+        return None;
+    };
+    Some(Form::State(level, code))
 }
 
 // A value with ':'.
-fn coded_form(w: &[u8], c: &[u8]) -> Form
+#[tactic(auto, unfolding(scan::specs::Number::number_of))]
+fn coded_form(w: &[u8], c: &[u8]) -> Option<Form>
     ensures { result ≡ coded_form w.now c.now }
 {
-    match number_of(c, 10, 9999999999) {
-        Number::Is(n) => state_form(w, n),
-        Number::Not => Form::Unread,
-    }
+    state_form(w, number_of(c, 10, 9999999999)?)
 }
 
 // A value without ':'.
-fn plain_form(s: &[u8]) -> Form
+fn plain_form(s: &[u8]) -> Option<Form>
     ensures { result ≡ plain_form s.now }
 {
     if equal(s, b"UNAVAILABLE") {
-        return Form::Missing;
+        Some(Form::Missing)
+    } else {
+        decimal_form(s)
     }
-    decimal_form(s)
 }
 
 // A value.
-pub fn form_of(s: &[u8]) -> Form
+#[tactic(auto, unfolding(lines::specs::Lines::form_of), using(crate::proofs::Laws::colons))]
+pub fn form_of(s: &[u8]) -> Option<Form>
     ensures { result ≡ form_of s.now }
 {
-    let i = find(s, 58, 58);
-    if s.len() <= i {
-        return plain_form(s);
+    match split_once(s, b':') {
+        None => plain_form(s),
+        Some((w, c)) => coded_form(w, c),
     }
-    coded_form(&s[..i], &s[i + 1..])
 }

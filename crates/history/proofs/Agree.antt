@@ -16,7 +16,7 @@ use Rattle.spec.specs.Text.{Request, Reading, read_text}
 use Rattle.spec.specs.Text.Request.{sample, current, current_at, assets, all_assets}
 use Rattle.spec.specs.Text.Reading.{unread, asked}
 use Rattle.spec.specs.Path.{select}
-use Rattle.history.specs.Observations.{max_ring, base, last, store_words, latest_at, head_ok, add, item_row, is_condition}
+use Rattle.history.specs.Observations.{max_ring, last, store_words, latest_at, head_ok, add, item_row, is_condition}
 use Rattle.history.specs.Observations.{evict_ok, latest_ok, repeats_at, crowded_at, ring_ok, sample_rows, at_ok, at_rows}
 use Rattle.spec.specs.Assets.{max_body, used, asset_head_ok, asset_ok, id_ok, body_ok, cell_for, store_cells, length_at}
 use Rattle.spec.specs.Assets.{length_ok, body_start, body_place, part}
@@ -35,14 +35,9 @@ use Rattle.history.specs.Reference
 use Rattle.spec.specs.declared.Value.{Value}
 use Rattle.spec.specs.declared.Value.TheVariants.{Event}
 use Rattle.spec.specs.declared.Refusal.TheVariants.{Spent, TooMany, InvalidXpath, Late, Early}
-use Rattle.spec.specs.declared.Place.TheVariants.{At, Nothing}
-use Rattle.spec.specs.declared.ObserveAnswer.{ObserveAnswer}
-use Rattle.spec.specs.declared.ObserveAnswer.TheVariants.{Recorded, Refused as Unrecorded}
-use Rattle.spec.specs.declared.StoreAnswer.{StoreAnswer}
-use Rattle.spec.specs.declared.StoreAnswer.TheVariants.{Stored, Refused as Unstored}
-use Rattle.spec.specs.declared.Verdict.TheVariants.{Fine, Refused as Against}
-use Rattle.spec.specs.declared.Selection.{Selection}
-use Rattle.spec.specs.declared.Selection.TheVariants.{Items, NotFound}
+use Rattle.std.specs.Prelude.{Ok, Err, Option, Some, None}
+use Rattle.spec.specs.Answers.{Answer, ObserveAnswer}
+use Rattle.spec.specs.declared.Noted.TheVariants.{Recorded}
 use Rattle.spec.proofs.Words.{and_left, and_right, and_both, by_cond, leb-not, by-test}
 use Rattle.spec.proofs.Packing.{Coded, taken-coded}
 use Rattle.history.proofs.Compared.{compare-coded}
@@ -52,8 +47,8 @@ use Rattle.history.proofs.Recorded.{last_or-some, newest_or-append, newest_or-it
 use Rattle.history.proofs.Kept.{Rep, right, next, add-rep}
 use Rattle.history.proofs.Rows.{ring-rows, ring-ok, evict-ok, at_rows_lem, at_ok_lem, current-rows, current-ok, latest-ok}
 use Rattle.history.proofs.Rows.{first-row, same-is, crowded-is}
-use Rattle.history.proofs.Encoding.{Ok, AllOk, Stands, encode, find-is, find-all, store-cells, cell-is, length-at}
-use Rattle.history.proofs.Encoding.{length-ok, part-is, asset-heads}
+use Rattle.history.proofs.Encoding.{Storable, AllStorable, Stands, encode, find-is, find-all, store-cells, cell-is}
+use Rattle.history.proofs.Encoding.{length-at, length-ok, part-is, asset-heads}
 
 -- ---- the relation
 
@@ -69,7 +64,7 @@ pub record Good (model names : List ℕ) (p : State) (st : List ℕ) : Type 0 wh
   pub A-low : 0 < p.A
   pub A-high : p.A ≤ 128
   pub room : length p.T ≤ p.A
-  pub held : AllOk p.T
+  pub held : AllStorable p.T
 
 abbrev pub bytes : State → List ℕ
 bytes p = encode p.A p.T
@@ -116,7 +111,7 @@ unfolding in_range
 range-agree low high n reply r r' h = go (ltb n low) refl (ltb high n) refl
   where
     go : (a : Bool) → ltb n low ≡ a → (b : Bool) → ltb high n ≡ b
-        → unless (cond a (Against Late) (cond b (Against Early) Fine)) reply r
+        → unless (cond a (Err Late) (cond b (Err Early) (Ok tt))) reply r
         ≡ cond a (refuse Late reply) (cond b (refuse Early reply) r')
     go true e b f = refl
     go false e true f = refl
@@ -152,11 +147,11 @@ module _ (model names : List ℕ) (p : State) (st : List ℕ) (G : Good model na
   entry-right = rw last-is (evict-ok (category model) p.N (items model) p.B p.H st G.rep)
 
   -- 6 is the only refusal of a number
-  room-is : room_for (category model) (items model) st ≡ cond (spent p) (Against Spent) Fine
+  room-is : room_for (category model) (items model) st ≡ cond (spent p) (Err Spent) (Ok tt)
   unfolding room_for
   room-is =
       rw (G.rep.cap, G.rep.base, store-last, entry-right)
-      (ap (λ (t : Bool). cond t (Against Spent) Fine) (go (eqb (last_of p) 9223372036854775807) refl))
+      (ap (λ (t : Bool). cond t (Err Spent) (Ok tt)) (go (eqb (last_of p) 9223372036854775807) refl))
     where
       go : (t : Bool) → eqb (last_of p) 9223372036854775807 ≡ t → leb 9223372036854775807 (last_of p) ≡ t
       go true e = le-leb 9223372036854775807 (last_of p) (omega (arith, eqb-true (last_of p) 9223372036854775807 e))
@@ -169,7 +164,7 @@ module _ (model names : List ℕ) (p : State) (st : List ℕ) (G : Good model na
   -- an observation is added, and the assets become T'
   grown : (item time : ℕ) (v : Value) (T' : List Held) → item < items model → Coded v
       → (is_condition (category model) item ≡ true → crowded_standing (standing item p.H) v ≡ false) → spent p ≡ false
-      → length T' ≤ p.A → AllOk T'
+      → length T' ≤ p.A → AllStorable T'
       → Good model names (record { N = p.N; A = p.A; B = p.B; H = with_one p (suc (last_of p)) item time v; T = T' })
       (add (category model) p.N (items model) p.B (suc (last_of p)) item time (pack item v) st)
   grown item time v T' hi hv hc hs hA hT =
@@ -196,7 +191,7 @@ module _ (model names : List ℕ) (p : State) (st : List ℕ) (G : Good model na
       })
 
   -- only the assets change
-  restored : (T' : List Held) → length T' ≤ p.A → AllOk T' → Good model names (record { N = p.N; A = p.A; B = p.B; H = p.H; T = T' }) st
+  restored : (T' : List Held) → length T' ≤ p.A → AllStorable T' → Good model names (record { N = p.N; A = p.A; B = p.B; H = p.H; T = T' }) st
   restored T' hA hT =
       record {
         right = G.right;
@@ -279,8 +274,8 @@ module _ (model names : List ℕ) (p : State) (st : List ℕ) (G : Good model na
       → (is_condition (category model) item ≡ true → crowded_standing (standing item p.H) v ≡ false)
       → (t : Bool) → spent p ≡ t
       → ObserveAgree item time host v
-      (observe_by (cond t (Against Spent) Fine) (category model) (items model) st item (time_or time host) (pack item v))
-      (cond t (Unrecorded Spent) (Recorded (suc (last_of p))))
+      (observe_by (cond t (Err Spent) (Ok tt)) (category model) (items model) st item (time_or time host) (pack item v))
+      (cond t (Err Spent) (Ok (Recorded (suc (last_of p)))))
   record-agree item time host v h hv hc true e = (refl, G)
   record-agree item time host v h hv hc false e =
       rw (G.rep.cap, G.rep.base, store-last)
@@ -313,7 +308,7 @@ module _ (model names : List ℕ) (p : State) (st : List ℕ) (G : Good model na
 
   -- ---- store-asset
 
-  abbrev KeepAgree : List ℕ → List ℕ → ℕ → Kept → StoreAnswer → Type 0
+  abbrev KeepAgree : List ℕ → List ℕ → ℕ → Kept → Answer → Type 0
   KeepAgree id content host o a =
       (o.answer ≡ a)
       × Good model names (store_next a model p id content host) o.observations
@@ -323,7 +318,7 @@ module _ (model names : List ℕ) (p : State) (st : List ℕ) (G : Good model na
     asset : Held
     asset = record { id = id; content = content }
 
-    asset-ok : Ok asset
+    asset-ok : Storable asset
     unfolding asset_ok body_ok length_ok asset
     asset-ok =
         let b = and_right (id_ok id) _ ok in (
@@ -346,8 +341,8 @@ module _ (model names : List ℕ) (p : State) (st : List ℕ) (G : Good model na
 
     -- with an item of category 3
     change-agree : has_change model ≡ true → (t : Bool) → spent p ≡ t
-        → KeepAgree id content host (keep_by (cond t (Against Spent) Fine) model st (bytes p) id content host)
-        (cond t (Unstored Spent) (Stored (length (assets_after p id content) - 1)))
+        → KeepAgree id content host (keep_by (cond t (Err Spent) (Ok tt)) model st (bytes p) id content host)
+        (cond t (Err Spent) (Ok (length (assets_after p id content) - 1)))
     change-agree c true e = (refl, G, refl)
     change-agree c false e =
         rw (cell-of, c, G.rep.cap, G.rep.base, store-last) (
@@ -359,9 +354,9 @@ module _ (model names : List ℕ) (p : State) (st : List ℕ) (G : Good model na
 
     kept-agree : (c : Bool) → has_change model ≡ c
         → KeepAgree id content host
-        (cond c (keep_by (cond (spent p) (Against Spent) Fine) model st (bytes p) id content host)
-        (record { answer = Stored (cell_for id (bytes p)); observations = st; assets = store_cells id content (bytes p) }))
-        (cond (c && spent p) (Unstored Spent) (Stored (length (assets_after p id content) - 1)))
+        (cond c (keep_by (cond (spent p) (Err Spent) (Ok tt)) model st (bytes p) id content host)
+        (record { answer = Ok (cell_for id (bytes p)); observations = st; assets = store_cells id content (bytes p) }))
+        (cond (c && spent p) (Err Spent) (Ok (length (assets_after p id content) - 1)))
     kept-agree true e = change-agree e (spent p) refl
     kept-agree false e = rw (cell-of, e) (refl, restored (assets_after p id content) stands.1 stands.2, stands.0)
 
@@ -391,7 +386,7 @@ module _ (model names : List ℕ) (p : State) (st : List ℕ) (G : Good model na
       )
 
   sample-agree : (sel from count : ℕ) (reply : List ℕ)
-      → sample_reply (items model) st from count reply (Items sel) ≡ sample_for p sel (sample_start p from) (sample_end p (sample_start p from) count) reply
+      → sample_reply (items model) st from count reply (Some sel) ≡ sample_for p sel (sample_start p from) (sample_end p (sample_start p from) count) reply
   unfolding sample_reply sample_between sample_for
   sample-agree sel from count reply =
       rw (G.rep.cap, G.rep.base, store-last)
@@ -417,7 +412,7 @@ module _ (model names : List ℕ) (p : State) (st : List ℕ) (G : Good model na
       )
 
   at_agree : (sel number : ℕ) (reply : List ℕ)
-      → at_reply (category model) (items model) st number reply (Items sel)
+      → at_reply (category model) (items model) st number reply (Some sel)
       ≡ at_for (category model) (items model) p sel number reply
   unfolding at_reply current_up_to at_for
   at_agree sel number reply =
@@ -426,7 +421,7 @@ module _ (model names : List ℕ) (p : State) (st : List ℕ) (G : Good model na
       (λ lo hi. let g = found_rows sel number lo hi in rw (g.0, g.1, g.2)))
 
   current-agree : (sel : ℕ) (reply : List ℕ)
-      → current_reply (category model) (items model) st reply (Items sel)
+      → current_reply (category model) (items model) st reply (Some sel)
       ≡ current_for (category model) (items model) p sel reply
   unfolding current_reply current_for
   current-agree sel reply =
@@ -491,10 +486,10 @@ module _ (model names : List ℕ) (p : State) (st : List ℕ) (G : Good model na
   -- ---- a request, whatever its text
 
   -- 11 comes first of what follows the selection
-  selected-agree : (s : Selection) (reply : List ℕ) (f : Selection → Replied) (g : ℕ → Replied) → f NotFound ≡ refuse InvalidXpath reply
-      → ((sel : ℕ) → f (Items sel) ≡ g sel) → f s ≡ selected s reply g
-  selected-agree NotFound reply f g e h = e
-  selected-agree (Items sel) reply f g e h = h sel
+  selected-agree : (s : Option ℕ) (reply : List ℕ) (f : Option ℕ → Replied) (g : ℕ → Replied) → f None ≡ refuse InvalidXpath reply
+      → ((sel : ℕ) → f (Some sel) ≡ g sel) → f s ≡ selected s reply g
+  selected-agree None reply f g e h = e
+  selected-agree (Some sel) reply f g e h = h sel
 
   request-agree' : (reply : List ℕ) (q : Request) → answer_request model names st (bytes p) reply q ≡ reply_to model names p reply q
   unfolding answer_request reply_to sample_reply current_reply at_reply
@@ -530,7 +525,7 @@ module _ (model names : List ℕ) (p : State) (st : List ℕ) (G : Good model na
       i = place id p.T
 
       go : (t : Bool) → ltb i (length p.T) ≡ t
-          → part (bytes p) (cond (t && length_ok (length_at (bytes p) i)) (At (body_start (bytes p) i + 2) (length_at (bytes p) i)) Nothing)
+          → part (bytes p) (cond (t && length_ok (length_at (bytes p) i)) (Some (record { start = body_start (bytes p) i + 2; len = length_at (bytes p) i })) None)
           ≡ content_at p.T i
       go true e =
           let l : i < length p.T = ltb-true i (length p.T) e in

@@ -17,7 +17,7 @@ use Rattle.history.specs.Calls
 use Rattle.history.specs.Reference.{State, Begun, Observation, nothing, newest_or, size_wrong, unavailable, begin, begin_answer}
 use Rattle.history.specs.Reference.Begun.{not_begun, begun}
 use Rattle.history.specs.History.{Start, begins, stores_start}
-use Rattle.spec.specs.declared.Answer.TheVariants.{Done, Refused}
+use Rattle.std.specs.Prelude.{Ok, Err}
 use Rattle.spec.specs.declared.Refusal.{Refusal}
 use Rattle.spec.specs.declared.Refusal.TheVariants.{Model, Size}
 use Rattle.spec.specs.declared.Value.TheVariants.{Unavailable}
@@ -86,13 +86,13 @@ start-answers a = go (model_ok a.model a.names) refl
     yes : Calls.Started
     yes =
         record {
-          answer = Done 0;
+          answer = Ok 0;
           observations = start_store (category a.model) a.N m a.B a.host;
           assets = start_assets a.A;
         }
 
     no : Refusal → Calls.Started
-    no r = record { answer = Refused r; observations = a.observations; assets = a.assets }
+    no r = record { answer = Err r; observations = a.observations; assets = a.assets }
 
     out : Bool → Bool → Calls.Started
     out t u = cond t (cond u yes (no Size)) (no Model)

@@ -124,12 +124,12 @@ same-zeros (x ∷ xs) [] i (suc j) hx hy e = rw (ne_eqb x 0 hx.0)
 same-zeros (x ∷ xs) (y ∷ ys) i j hx hy e = rw (same-zeros xs ys i j hx.1 hy.1 (omega arith))
 
 -- what every asset in T is
-abbrev pub Ok : Held → Type 0
-Ok t = (id_ok t.id ≡ true) × (1 ≤ length t.content) × (length t.content ≤ max_body)
+abbrev pub Storable : Held → Type 0
+Storable t = (id_ok t.id ≡ true) × (1 ≤ length t.content) × (length t.content ≤ max_body)
 
-abbrev pub AllOk : List Held → Type 0
-AllOk [] = Unit {0}
-AllOk (t ∷ T) = Ok t × AllOk T
+abbrev pub AllStorable : List Held → Type 0
+AllStorable [] = Unit {0}
+AllStorable (t ∷ T) = Storable t × AllStorable T
 
 byte-nz : (x : ℕ) → id_byte x ≡ true → x ≢ 0
 unfolding id_byte text_byte
@@ -154,12 +154,12 @@ eq-cells : (x y : List ℕ) → id_ok x ≡ true → id_ok y ≡ true → same (
 unfolding zs
 eq-cells x y hx hy = same-zeros x y (32 - length x) (32 - length y) (id-nz x hx) (id-nz y hy) (omega (arith, id-le x hx, id-le y hy))
 
-wide-id : (T : List Held) → AllOk T → Wide id_of 32 T
+wide-id : (T : List Held) → AllStorable T → Wide id_of 32 T
 wide-id [] h = tt
 wide-id (t ∷ T) h =
     (length-append t.id (replicate (32 - length t.id) 0) ∙ omega (arith, length-replicate {A = ℕ} (32 - length t.id) 0, id-le t.id h.0.0), wide-id T h.1)
 
-wide-body : (T : List Held) → AllOk T → Wide body_for 512 T
+wide-body : (T : List Held) → AllStorable T → Wide body_for 512 T
 wide-body [] h = tt
 wide-body (t ∷ T) h = (
   length-append ((length t.content / 256) ∷ (length t.content % 256) ∷ t.content) (replicate (512 - suc (suc (length t.content))) 0)
@@ -177,7 +177,7 @@ cell_at f w b x T₁ T₂ P R hw hP =
     let e : P ++ (cells f (T₁ ++ (x ∷ T₂)) ++ R) ≡ (P ++ cells f T₁) ++ (f x ++ (cells f T₂ ++ R)) = simp (cells-append, append_assoc) in
     rw (e, drop_at (P ++ cells f T₁) (f x ++ (cells f T₂ ++ R)) (b + length T₁ * w) l) (take_at (f x) (cells f T₂ ++ R) w (wide-right f w T₁ (x ∷ T₂) hw).0)
 
-ok-right : (X Y : List Held) → AllOk (X ++ Y) → AllOk Y
+ok-right : (X Y : List Held) → AllStorable (X ++ Y) → AllStorable Y
 ok-right [] Y h = h
 ok-right (t ∷ X) Y h = ok-right X Y h.1
 
@@ -185,7 +185,7 @@ ok-right (t ∷ X) Y h = ok-right X Y h.1
 abbrev holds_id : List ℕ → List ℕ → ℕ → Bool
 holds_id bs id i = same (cell 32 ids_at i bs) (id_cell id)
 
-find-cell : (id : List ℕ) (T₂ T₁ : List Held) (P R : List ℕ) → id_ok id ≡ true → AllOk (T₁ ++ T₂) → length P ≡ 2
+find-cell : (id : List ℕ) (T₂ T₁ : List Held) (P R : List ℕ) → id_ok id ≡ true → AllStorable (T₁ ++ T₂) → length P ≡ 2
     → first_where (holds_id (P ++ (cells id_of (T₁ ++ T₂) ++ R)) id) (length T₂) (length T₁) ≡ length T₁ + place id T₂
 unfolding first_where place
 find-cell id [] T₁ P R ht h hP = sym (add-zero (length T₁))
@@ -193,7 +193,7 @@ find-cell id (x ∷ T₂) T₁ P R ht h hP =
     rw (cell_at id_of 32 2 x T₁ T₂ P R (wide-id (T₁ ++ (x ∷ T₂)) h) hP, eq-cells x.id id (ok-right T₁ (x ∷ T₂) h).0.0 ht)
     (let q : T₁ ++ (x ∷ []) ++ T₂ ≡ T₁ ++ (x ∷ T₂) = append_snoc T₁ x T₂ in
     let l : length (T₁ ++ (x ∷ [])) ≡ suc (length T₁) = omega (arith, length-append T₁ (x ∷ [])) in
-    go (same x.id id) (rw (q, l) at (find-cell id T₂ (T₁ ++ (x ∷ [])) P R ht (subst AllOk (sym q) h) hP)))
+    go (same x.id id) (rw (q, l) at (find-cell id T₂ (T₁ ++ (x ∷ [])) P R ht (subst AllStorable (sym q) h) hP)))
   where
     bs : List ℕ
     bs = P ++ (cells id_of (T₁ ++ (x ∷ T₂)) ++ R)
@@ -223,7 +223,7 @@ renews-last A t T h f w b P S hw hP =
     let q' : (A - length T) * w ≡ w + (A - suc (length T)) * w = rw q (omega (arith, suc-mul (A - suc (length T)) w)) in
     rw (l, q') (renew-last f w b ((A - suc (length T)) * w) t T P S hw hP)
 
-renew-both : (A out n : ℕ) (t : Held) (T T' : List Held) → Renews A out n t T T' → AllOk T → AllOk T' → n ≡ length T' → length T' ≤ A
+renew-both : (A out n : ℕ) (t : Held) (T T' : List Held) → Renews A out n t T T' → AllStorable T → AllStorable T' → n ≡ length T' → length T' ≤ A
     → set (renew 512 (2 + A * 32) out n (body_for t) (renew 32 2 out n (id_of t) (encode A T))) 1 n ≡ encode A T'
 unfolding zs encode
 renew-both A out n t T T' E h h' hn hA =
@@ -246,16 +246,16 @@ renew-both A out n t T T' E h h' hn hA =
     l2 : length P2 ≡ 2 + A * 32
     l2 = omega (arith, length-append (cells id_of T') (zs ((A - length T') * 32)), length-cells id_of 32 T' (wide-id T' h'), length-replicate {A = ℕ} ((A - length T') * 32) 0)
 
-ok-left : (X Y : List Held) → AllOk (X ++ Y) → AllOk X
+ok-left : (X Y : List Held) → AllStorable (X ++ Y) → AllStorable X
 ok-left [] Y h = tt
 ok-left (t ∷ X) Y h = (h.0, ok-left X Y h.1)
 
-ok_at : (T : List Held) (i : ℕ) → i < length T → AllOk T → Ok (get_or T i no_asset)
+ok_at : (T : List Held) (i : ℕ) → i < length T → AllStorable T → Storable (get_or T i no_asset)
 ok_at [] i l h = absurd (not-suc-le-zero l)
 ok_at (t ∷ T) zero l h = h.0
 ok_at (t ∷ T) (suc i) l h = ok_at T i (omega arith) h.1
 
-ok-append : (X Y : List Held) → AllOk X → AllOk Y → AllOk (X ++ Y)
+ok-append : (X Y : List Held) → AllStorable X → AllStorable Y → AllStorable (X ++ Y)
 ok-append [] Y x y = y
 ok-append (t ∷ X) Y x y = (x.0, ok-append X Y x.1 y)
 
@@ -286,18 +286,18 @@ after A out t T =
 
 -- the bytes stand for T, which fits and is right
 abbrev pub Stands : ℕ → List ℕ → List Held → Type 0
-Stands A bs T = (bs ≡ encode A T) × (length T ≤ A) × AllOk T
+Stands A bs T = (bs ≡ encode A T) × (length T ≤ A) × AllStorable T
 
 -- cell `out` of T is given up and t goes last
 abbrev renewed : ℕ → Held → List Held → List Held
 renewed out t T = without out T ++ (t ∷ [])
 
-after-inner : (A : ℕ) (x t : Held) (T₁ T₂ : List Held) → length (T₁ ++ (x ∷ T₂)) ≤ A → Ok t → AllOk (T₁ ++ (x ∷ T₂))
+after-inner : (A : ℕ) (x t : Held) (T₁ T₂ : List Held) → length (T₁ ++ (x ∷ T₂)) ≤ A → Storable t → AllStorable (T₁ ++ (x ∷ T₂))
     → Stands A (after A (length T₁) t (T₁ ++ (x ∷ T₂))) (T₁ ++ T₂ ++ (t ∷ []))
 after-inner A x t T₁ T₂ hA ht h =
     let l : length (T₁ ++ (x ∷ T₂)) ≡ suc (length T₁ + length T₂) = omega (arith, length-append T₁ (x ∷ T₂)) in
     let l' : suc (length T₁ + length T₂) ≡ length (T₁ ++ T₂ ++ (t ∷ [])) = omega (arith, length-append (T₁ ++ T₂) (t ∷ []), length-append T₁ T₂) in
-    let h' : AllOk (T₁ ++ T₂ ++ (t ∷ [])) = ok-append (T₁ ++ T₂) (t ∷ []) (ok-append T₁ T₂ (ok-left T₁ (x ∷ T₂) h) (ok-right T₁ (x ∷ T₂) h).1) (ht, tt) in
+    let h' : AllStorable (T₁ ++ T₂ ++ (t ∷ [])) = ok-append (T₁ ++ T₂) (t ∷ []) (ok-append T₁ T₂ (ok-left T₁ (x ∷ T₂) h) (ok-right T₁ (x ∷ T₂) h).1) (ht, tt) in
     let z : eqb (length T₁) (length (T₁ ++ (x ∷ T₂))) ≡ false = ne_eqb (length T₁) (length (T₁ ++ (x ∷ T₂))) (omega arith) in (
       rw z
           (renew-both A (length T₁) (length (T₁ ++ (x ∷ T₂))) t (T₁ ++ (x ∷ T₂)) (T₁ ++ T₂ ++ (t ∷ []))
@@ -306,13 +306,13 @@ after-inner A x t T₁ T₂ hA ht h =
       h',
     )
 
-after_last : (A : ℕ) (t : Held) (T : List Held) → length T < A → Ok t → AllOk T → Stands A (after A (length T) t T) (T ++ (t ∷ []))
+after_last : (A : ℕ) (t : Held) (T : List Held) → length T < A → Storable t → AllStorable T → Stands A (after A (length T) t T) (T ++ (t ∷ []))
 after_last A t T hA ht h =
     let l' : suc (length T) ≡ length (T ++ (t ∷ [])) = omega (arith, length-append T (t ∷ [])) in
-    let h' : AllOk (T ++ (t ∷ [])) = ok-append T (t ∷ []) h (ht, tt) in
+    let h' : AllStorable (T ++ (t ∷ [])) = ok-append T (t ∷ []) h (ht, tt) in
     (rw (eq-eqb (length T) (length T) refl) (renew-both A (length T) (suc (length T)) t T (T ++ (t ∷ [])) (renews-last A t T hA) h h' l' (omega arith)), omega arith, h')
 
-after_any : (A out : ℕ) (t : Held) (T : List Held) → length T ≤ A → Ok t → AllOk T → (out < length T) ⊎ ((out ≡ length T) × (length T < A))
+after_any : (A out : ℕ) (t : Held) (T : List Held) → length T ≤ A → Storable t → AllStorable T → (out < length T) ⊎ ((out ≡ length T) × (length T < A))
     → Stands A (after A out t T) (renewed out t T)
 after_any A out t T hT ht h (inl l) =
     let x : Held = get_or T out no_asset in
@@ -320,7 +320,7 @@ after_any A out t T hT ht h (inl l) =
     let e : length (take out T) ≡ out = length-take-le out T (omega arith) in
     subst (λ (k : ℕ). Stands A (after A k t T) (renewed out t T)) e
     (subst (λ (K : List Held). Stands A (after A (length (take out T)) t K) (renewed out t T)) (sym q)
-    (after-inner A x t (take out T) (drop (suc out) T) (subst (λ (K : List Held). length K ≤ A) q hT) ht (subst AllOk q h)))
+    (after-inner A x t (take out T) (drop (suc out) T) (subst (λ (K : List Held). length K ≤ A) q hT) ht (subst AllStorable q h)))
 after_any A out t T hT ht h (inr e) =
     let q : take (length T) T ++ drop (suc (length T)) T ++ (t ∷ []) ≡ T ++ (t ∷ []) =
     rw (take-length T, drop_of_length-le T {i = suc (length T)} (omega arith), append-nil T) in
@@ -328,7 +328,7 @@ after_any A out t T hT ht h (inr e) =
 
 -- ---- find
 
-find-right : (A : ℕ) (id : List ℕ) (T : List Held) → id_ok id ≡ true → AllOk T
+find-right : (A : ℕ) (id : List ℕ) (T : List Held) → id_ok id ≡ true → AllStorable T
     → first_where (holds_id (encode A T) id) (length T) 0 ≡ place id T
 unfolding zs encode
 find-right A id T ht h =
@@ -338,7 +338,7 @@ find-right A id T ht h =
     ∙ zero-add (place id T)
 
 -- an id that is none isn't in T
-place-wrong : (id : List ℕ) (T : List Held) → id_ok id ≡ false → AllOk T → place id T ≡ length T
+place-wrong : (id : List ℕ) (T : List Held) → id_ok id ≡ false → AllStorable T → place id T ≡ length T
 unfolding place
 place-wrong id [] e h = refl
 place-wrong id (t ∷ T) e h = go (same t.id id) refl (place-wrong id T e h.1)
@@ -355,7 +355,7 @@ encoded-capacity : (A : ℕ) (T : List Held) → capacity (encode A T) ≡ A
 unfolding encode
 encoded-capacity A T = refl
 
-pub find-is : (A : ℕ) (id : List ℕ) (T : List Held) → AllOk T → find (encode A T) id ≡ place id T
+pub find-is : (A : ℕ) (id : List ℕ) (T : List Held) → AllStorable T → find (encode A T) id ≡ place id T
 unfolding find
 find-is A id T h = rw (encoded-used A T) (go (id_ok id) refl)
   where
@@ -363,7 +363,7 @@ find-is A id T h = rw (encoded-used A T) (go (id_ok id) refl)
     go true e = find-right A id T e h
     go false e = sym (place-wrong id T e h)
 
-pub find-all : (A : ℕ) (ids : List (List ℕ)) (T : List Held) → AllOk T → find_all (encode A T) ids ≡ places_of T ids
+pub find-all : (A : ℕ) (ids : List (List ℕ)) (T : List Held) → AllStorable T → find_all (encode A T) ids ≡ places_of T ids
 unfolding find_all places_of
 find-all A [] T h = refl
 find-all A (id ∷ ids) T h = rw (find-is A id T h, find-all A ids T h)
@@ -381,7 +381,7 @@ room-is A id T = go (holds id T) (ltb (length T) A) refl
         rw (lt-leb A (length T) (ltb-true (length T) A e), take-length T, drop_of_length-le T {i = suc (length T)} (omega arith)) (sym (append-nil T))
     go false false e = rw (le-leb A (length T) (ltb-false (length T) A e))
 
-module _ (A : ℕ) (t : Held) (T : List Held) (hA : 0 < A) (hT : length T ≤ A) (ht : Ok t) (h : AllOk T) where
+module _ (A : ℕ) (t : Held) (T : List Held) (hA : 0 < A) (hT : length T ≤ A) (ht : Storable t) (h : AllStorable T) where
   out : ℕ
   out = given_up A (length T) (place t.id T)
 
@@ -419,7 +419,7 @@ module _ (A : ℕ) (t : Held) (T : List Held) (hA : 0 < A) (hT : length T ≤ A)
 get-cell : (w b i j : ℕ) (bs : List ℕ) → j < w → get_or bs (b + i * w + j) 0 ≡ get_or (cell w b i bs) j 0
 get-cell w b i j bs h = sym (get_or-take w (drop (b + i * w) bs) j 0 h ∙ get_or-drop (b + i * w) bs j 0)
 
-module _ (A : ℕ) (T : List Held) (i : ℕ) (l : i < length T) (hT : length T ≤ A) (h : AllOk T) where
+module _ (A : ℕ) (T : List Held) (i : ℕ) (l : i < length T) (hT : length T ≤ A) (h : AllStorable T) where
   body_at : cell 512 (bodies_at A) i (encode A T) ≡ body_for (get_or T i no_asset)
   unfolding zs encode
   body_at =
@@ -456,7 +456,7 @@ module _ (A : ℕ) (T : List Held) (i : ℕ) (l : i < length T) (hT : length T �
   pub length-ok : length_ok (length_at (encode A T) i) ≡ true
   unfolding length_ok
   length-ok =
-      let k : Ok (get_or T i no_asset) = ok_at T i l h in
+      let k : Storable (get_or T i no_asset) = ok_at T i l h in
       rw (length-at, le-leb 1 (length (content_at T i)) k.1, le-leb (length (content_at T i)) max_body k.2)
 
   -- the body's part of the store is the body
@@ -475,7 +475,7 @@ module _ (A : ℕ) (T : List Held) (i : ℕ) (l : i < length T) (hT : length T �
 
 -- ---- the head
 
-pub asset-heads : (A : ℕ) (T : List Held) → 0 < A → A ≤ 128 → length T ≤ A → AllOk T → asset_head_ok (encode A T) ≡ true
+pub asset-heads : (A : ℕ) (T : List Held) → 0 < A → A ≤ 128 → length T ≤ A → AllStorable T → asset_head_ok (encode A T) ≡ true
 unfolding asset_head_ok encode
 asset-heads A T hA hA' hT h =
     rw (le-leb 1 A hA, le-leb A 128 hA', le-leb (length T) A hT)

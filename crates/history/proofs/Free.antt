@@ -17,11 +17,9 @@ use Rattle.spec.specs.Answers.{refusal_number, answer_number, answer_count, obse
 use Rattle.history.specs.History.{Output}
 use Rattle.history.specs.History.Output.{started, observed, batched, stored, replied, returned}
 use Rattle.spec.specs.declared.Refusal.{Refusal}
-use Rattle.spec.specs.declared.Answer.TheVariants.{Done, Refused}
-use Rattle.spec.specs.declared.ObserveAnswer.{ObserveAnswer}
-use Rattle.spec.specs.declared.ObserveAnswer.TheVariants.{Recorded, Same, Refused as Unrecorded}
-use Rattle.spec.specs.declared.StoreAnswer.{StoreAnswer}
-use Rattle.spec.specs.declared.StoreAnswer.TheVariants.{Stored, Refused as Unstored}
+use Rattle.std.specs.Prelude.{Ok, Err}
+use Rattle.spec.specs.Answers.{Answer, ObserveAnswer}
+use Rattle.spec.specs.declared.Noted.TheVariants.{Recorded, Same}
 use Rattle.spec.proofs.Words.{and_both}
 
 abbrev pub number_free : ℕ → ℕ → Bool
@@ -66,31 +64,31 @@ module _ (k : ℕ) where
 
   -- an observe's answer that isn't k, and whose number is one
   abbrev pub Sound : ObserveAnswer → Type 0
-  Sound (Recorded n) = n ≤ max_number
-  Sound Same = Unit {0}
-  Sound (Unrecorded r) = RefusalFree r
+  Sound (Ok (Recorded n)) = n ≤ max_number
+  Sound (Ok Same) = Unit {0}
+  Sound (Err r) = RefusalFree r
 
   pub sound-word : (x : ObserveAnswer) → Sound x → word_free k (observe_word x) ≡ true
-  sound-word (Recorded n) h = low-word n h
-  sound-word Same h = low-word 0 (omega arith)
-  sound-word (Unrecorded r) h = refusal-word r h
+  sound-word (Ok (Recorded n)) h = low-word n h
+  sound-word (Ok Same) h = low-word 0 (omega arith)
+  sound-word (Err r) h = refusal-word r h
 
   -- the same of store-asset's, whose cell is a number too
-  abbrev pub SoundCell : StoreAnswer → Type 0
-  SoundCell (Stored c) = c ≤ max_number
-  SoundCell (Unstored r) = RefusalFree r
+  abbrev pub SoundCell : Answer → Type 0
+  SoundCell (Ok c) = c ≤ max_number
+  SoundCell (Err r) = RefusalFree r
 
-  pub sound-cell : (x : StoreAnswer) → SoundCell x → word_free k (store_word x) ≡ true
-  sound-cell (Stored c) h = low-word c h
-  sound-cell (Unstored r) h = refusal-word r h
+  pub sound-cell : (x : Answer) → SoundCell x → word_free k (store_word x) ≡ true
+  sound-cell (Ok c) h = low-word c h
+  sound-cell (Err r) h = refusal-word r h
 
   -- an accepted batch's words stand at the front of its buffer
   pub batched-free : (n : ℕ) (ws answers : List ℕ) → 0 < k → length ws ≡ n → all (word_free k) ws ≡ true
-      → output_free k (batched (Done n) (over ws answers)) ≡ true
+      → output_free k (batched (Ok n) (over ws answers)) ≡ true
   batched-free n ws answers pos l h =
       and_both _ _ (ap not (ne_eqb 0 k (λ e. omega arith))) (rw (take_at ws (drop (length ws) answers) n l) h)
 
   pub refused-free : (r : Refusal) (answers : List ℕ) → RefusalFree r
-      → output_free k (batched (Refused r) answers) ≡ true
+      → output_free k (batched (Err r) answers) ≡ true
   unfolding all
   refused-free r answers h = and_both _ _ h refl

@@ -8,8 +8,6 @@ use lib.ListN.{length}
 use Rattle.spec.specs.Model.{items}
 use Rattle.history.specs.Observations.{head_ok}
 use Rattle.spec.specs.Assets.{asset_head_ok}
-use Rattle.history.specs.Calls
-use Rattle.history.specs.Reference
 use Rattle.history.specs.Reference.{State, Observation, offers_next, store_answer, store_next, last_or}
 use Rattle.history.specs.Reference.Begun.{begun}
 use Rattle.history.specs.History.{Call, Typed, AllTyped, Stores, Start, Window, History, begins, stores_start}
@@ -19,9 +17,8 @@ use Rattle.history.specs.History.{reference_output, reference_next, reference_ru
 use Rattle.history.specs.History.{windows_of_call, windows_of, Meets, last_next, joined, matching_rows}
 use Rattle.history.specs.History.Call.{observe, batch, line, store_asset, request, body}
 use Rattle.history.specs.History.Output.{observed}
-use Rattle.spec.specs.declared.ObserveAnswer.{ObserveAnswer}
-use Rattle.spec.specs.declared.StoreAnswer.{StoreAnswer}
-use Rattle.spec.specs.declared.StoreAnswer.TheVariants.{Stored, Refused as Unstored}
+use Rattle.std.specs.Prelude.{Ok, Err}
+use Rattle.spec.specs.Answers.{Answer, ObserveAnswer}
 use Rattle.history.proofs.Recorded.{Numbered}
 use Rattle.history.proofs.Agree.{Good, bytes, last-is, observe-agree, store-agree, request-agree, body-agree}
 use Rattle.history.proofs.Agree.{right-head, right-assets}
@@ -105,9 +102,9 @@ module _ (model names : List ℕ) where
   base-next p (line text host) = offers-base model names (offers_of model names (line text host)) p
   base-next p (store_asset id content host) = go (store_answer model names p id content)
     where
-      go : (x : StoreAnswer) → (store_next x model p id content host).B ≡ p.B
-      go (Stored n) = refl
-      go (Unstored r) = refl
+      go : (x : Answer) → (store_next x model p id content host).B ≡ p.B
+      go (Ok n) = refl
+      go (Err r) = refl
   base-next p (request text reply) = refl
   base-next p (body id) = refl
 

@@ -2,22 +2,20 @@
 -- answered by 17, and a poll from one that hasn't by neither 17 nor 18.
 use mathlib.Core.Path.{◌≡◌, refl, sym, ap, ◌∙◌, subst}
 use mathlib.Core.Logic.{◌≢◌, ◌⊎◌, inl, inr}
-use mathlib.Core.Bool.{true, false, false≢true}
+use mathlib.Core.Bool.{true, false≢true}
 use Prim.Native.Nat.{ℕ, zero, suc, ◌+◌, ◌^◌, ◌≤◌, ◌<◌}
 use native.Mathlib.Nat.{not-suc-le-zero}
 use native.Mathlib.Omega.{arith}
 use mathlib.Core.List.{List, [], ◌∷◌}
-use mathlib.Core.Option.{Option, none, some, none-ne-some, some-injective}
 use lib.Dec.{leb, ltb, lit<}
-use lib.IntN.{pos}
-use lib.ListN.{length, get_or, take, get_elem?, length-append}
+use lib.ListN.{length, get_or, take, length-append}
 use borrow.Author.Tests.{le-ltb, ne_eqb}
 use Rattle.spec.specs.Text.{Request, Reading, read_text}
 use Rattle.spec.specs.Text.Request.{sample, current, current_at, assets, all_assets}
 use Rattle.spec.specs.Text.Reading.{unread, asked}
 use Rattle.spec.specs.Path.{select}
 use Rattle.spec.specs.Reply.{Replied, refuse, observation_words, written, observation_reply}
-use Rattle.spec.specs.Answers.{answer_number}
+use Rattle.spec.specs.Answers.{Answer, answer_number}
 use Rattle.history.specs.Observations.{last, Head}
 use Rattle.history.specs.Calls.{first, in_range, start_of}
 use Rattle.history.specs.Reference
@@ -29,11 +27,7 @@ use Rattle.history.specs.History.{reference_run, reference_after}
 use Rattle.history.specs.History.Call.{request}
 use Rattle.history.specs.Polls.{Asks, Gave, Polls, Told, gives_next, state_before, path_or, checked_or}
 use Rattle.spec.specs.declared.Refusal.{Refusal}
-use Rattle.spec.specs.declared.Answer.{Answer}
-use Rattle.spec.specs.declared.Answer.TheVariants.{Done, Refused}
-use Rattle.spec.specs.declared.Selection.{Selection}
-use Rattle.spec.specs.declared.Selection.TheVariants.{Items, NotFound}
-use Rattle.spec.specs.declared.Verdict.TheVariants.{Fine}
+use Rattle.std.specs.Prelude.{Ok, Err, Option, Some, None, slice_get}
 use Rattle.spec.proofs.Words.{by_cond}
 use Rattle.history.proofs.Requests.{selected-cases, sample-cases, at-cases}
 use Rattle.spec.proofs.Print.{print, print-reads, plain-short}
@@ -49,12 +43,12 @@ typed-take [] (suc i) t = tt
 typed-take (c ∷ cs) (suc i) t = (t.0, typed-take cs i t.1)
 
 module _ (model names : List ℕ) where
-  run_at : (cs : List Call) (p : State) (i : ℕ) (c : Call) → get_elem? cs i ≡ some c
-      → get_elem? (reference_run model names p cs) i
-      ≡ some (reference_output model names (reference_after model names p (take i cs)) c)
+  run_at : (cs : List Call) (p : State) (i : ℕ) (c : Call) → slice_get cs i ≡ Some c
+      → slice_get (reference_run model names p cs) i
+      ≡ Some (reference_output model names (reference_after model names p (take i cs)) c)
   unfolding reference_run reference_after
-  run_at [] p i c e = absurd (none-ne-some c e)
-  run_at (d ∷ cs) p zero c e = ap (λ (x : Call). some (reference_output model names p x)) (some-injective d c e)
+  run_at [] p i c e = cc
+  run_at (d ∷ cs) p zero c e = let q : d ≡ c = cc in rw q
   run_at (d ∷ cs) p (suc i) c e = run_at cs (reference_next model names p d) i c e
 
 -- what was recorded before call i was so before call j
@@ -70,14 +64,14 @@ later-between a (c ∷ cs) p (suc i) (suc j) h =
 
 -- ---- the next number that a state gives
 
-refused-done : (r : Refusal) (k : ℕ) → Refused r ≡ Done k → ⊥
+refused-done : (r : Refusal) (k : ℕ) → Err r ≡ Ok k → ⊥
 refused-done r k e = let z : ◌≡◌ {A = ℕ} 0 1 = (cc) in omega arith
 
 module _ (p : State) where
   -- an accepted reply's next number is a number of p, or the one behind them
   abbrev Next : Replied → Type 0
   Next r =
-      (k : ℕ) → r.answer ≡ Done k → (p.B ≤ get_or r.reply 3 0) × (get_or r.reply 3 0 ≤ suc (last_of p))
+      (k : ℕ) → r.answer ≡ Ok k → (p.B ≤ get_or r.reply 3 0) × (get_or r.reply 3 0 ≤ suc (last_of p))
 
   refuse-next : (r : Refusal) (reply : List ℕ) → Next (refuse r reply)
   refuse-next r reply k e = absurd (refused-done r k e)
@@ -180,14 +174,14 @@ module _ (a : Start) (p : State) (accepted : begins a ≡ begun p) (cs : List Ca
     unfolding Reference.reply
     asks-is =
         let r = run_at a.model a.names cs p i (request text s.buffer) s.call in
-        let o = ap (λ (os : _). get_elem? os i) (calls-agree a p accepted cs typed) in
-        let e = rw (good i).right at (some-injective _ _ (sym s.output ∙ o ∙ r)) in
+        let o = ap (λ (os : _). slice_get os i) (calls-agree a p accepted cs typed) in
+        let e = rw (good i).right at (sym s.output ∙ o ∙ r) in
         (cc, cc)
 
   -- a next number that was given is a number, and last + 1 at most
   next-given : (i n : ℕ) → Gave a cs i n → (0 < n) × (n ≤ suc (last_of (before i)))
   next-given i n g =
-      let e = asks-is i g.text (Done g.k) g.words g.asks in
+      let e = asks-is i g.text (Ok g.k) g.words g.asks in
       let l = reading-next (before i) a.model a.names g.asks.buffer
       (omega (arith, last-at i, base-is i)) (read_text g.text) g.gives g.k (sym e.0) in
       let w = ap (λ (ws : List ℕ). get_or ws 3 0) e.1 in
@@ -235,9 +229,9 @@ by_three : (P : ℕ → Type 0) (a : Start) (s : State) (path : Option (List ℕ
 by_three P a s path count n x y z =
     by_cond P (ltb s.N count) _ _ (λ h. x) (λ h. go (select a.model a.names path))
   where
-    go : (w : Selection) → P (path_or w n)
-    go NotFound = y
-    go (Items sel) = z
+    go : (w : Option ℕ) → P (path_or w n)
+    go None = y
+    go (Some sel) = z
 
 abbrev Neither : ℕ → Type 0
 Neither m = (m ≢ 17) × (m ≢ 18)
@@ -274,19 +268,19 @@ module _ (a : Start) (p : State) (accepted : begins a ≡ begun p) (cs : List Ca
 
   -- of the plainest poll, `/sample?from=n`, nothing is tested before its number
   pub late-plain : (i j n : ℕ) (x : Answer) (words : List ℕ) → i < j → Gave a cs i n
-      → Asks a cs j (print (sample none n 0)) x words → n < first_of (state_before a p cs j) → answer_number x ≡ 17
+      → Asks a cs j (print (sample None n 0)) x words → n < first_of (state_before a p cs j) → answer_number x ≡ 17
   unfolding select
   late-plain i j n x words h g q l =
       let G = good a p accepted cs typed j in
       let top : n < 2 ^ 63 = omega (arith, last-is _ _ _ _ G, G.top) in
-      let r = print-reads (sample none n 0) (record { fitting = (tt, top, lit< tt); short = plain-short n top }) in
+      let r = print-reads (sample None n 0) (record { fitting = (tt, top, lit< tt); short = plain-short n top }) in
       rw (le-ltb (state_before a p cs j).N 0 (omega arith)) at
       (polls.late i j n x h g
-      (record { text = _; words = words; path = none; count = 0; asks = q; from = r }) l)
+      (record { text = _; words = words; path = None; count = 0; asks = q; from = r }) l)
 
 -- `from` 0 or absent is never late nor early, whatever the store, if its head is right
 pub first-in-range : (m : ℕ) (st : List ℕ) → Head m st
-    → in_range (first st) (suc (last st)) (start_of (first st) 0) ≡ Fine
+    → in_range (first st) (suc (last st)) (start_of (first st) 0) ≡ Ok tt
 unfolding in_range
 first-in-range m st h =
     rw (

@@ -5,10 +5,10 @@ use mathlib.Core.Bool.{Bool, true, ◌&&◌, not}
 use Prim.Native.Nat.{ℕ, suc, ◌-◌, ◌≤◌}
 use native.Mathlib.Omega.{arith}
 use mathlib.Core.List.{List, [], ◌∷◌, map}
-use mathlib.Core.Option.{Option, none, some}
 use lib.Dec.{leb, ltb, eqb}
 use lib.ListN.{length, take, drop, length-append, length-take, length-drop, length-map}
 use borrow.Author.Tests.{eqb-false}
+use Rattle.std.specs.Prelude.{Result, Ok, Err}
 use Rattle.spec.specs.Bytes.{all, split}
 use Rattle.spec.specs.Value.{takes}
 use Rattle.spec.specs.Model.{items, category, has_change, model_ok}
@@ -20,7 +20,7 @@ use Rattle.spec.specs.Text.Word.{sample_word, current_word, asset_word, assets_w
 use Rattle.spec.specs.Text.Request.{sample, current, current_at, assets, all_assets}
 use Rattle.spec.specs.Text.Reading.{unread, asked}
 use Rattle.spec.specs.Path.{select}
-use Rattle.spec.specs.Answers.{refusal_number, answer_number, observe_word, store_word}
+use Rattle.spec.specs.Answers.{Answer, ObserveAnswer, refusal_number, answer_number, observe_word, store_word}
 use Rattle.history.specs.Observations.{max_number}
 use Rattle.spec.specs.Reply.{Replied, over, observation_words, asset_words, written, observation_reply, asset_reply}
 use Rattle.history.specs.Reference.{State, Offer, Held, same_value, crowded_value, spent, last_of, place, holds}
@@ -36,12 +36,12 @@ use Rattle.history.specs.History.Call.{observe, batch, line, store_asset, reques
 use Rattle.history.specs.History.Output.{batched}
 use Rattle.lines.specs.Lines.{read_line, value_for}
 use Rattle.lines.specs.declared.Line.{Line}
-use Rattle.lines.specs.declared.Line.TheVariants.{Malformed, BadStamp, Reads}
+use Rattle.lines.specs.declared.LineError.{LineError}
+use Rattle.lines.specs.declared.LineError.TheVariants.{Malformed, BadStamp}
 use Rattle.spec.specs.declared.Record.{Record}
 use Rattle.spec.specs.declared.Value.{Value}
-use Rattle.spec.specs.declared.Answer.{Answer}
-use Rattle.spec.specs.declared.ObserveAnswer.{ObserveAnswer}
-use Rattle.spec.specs.declared.ObserveAnswer.TheVariants.{Recorded, Same, Refused as Unrecorded}
+use Rattle.std.specs.Prelude.{Ok, Err, Option, Some, None}
+use Rattle.spec.specs.declared.Noted.TheVariants.{Recorded, Same}
 use Rattle.spec.proofs.Words.{by_cond, and_both}
 use Rattle.history.proofs.Free.{number_free, word_free, output_free, Free, AllFree, Sound, sound-word, SoundCell}
 use Rattle.history.proofs.Free.{sound-cell, batched-free}
@@ -75,8 +75,8 @@ current-free given =
     (λ h. refl)
 
 parameters-free : (f : List (Option (List ℕ)) → Reading) → ((g : List (Option (List ℕ))) → F (f g)) → (o : Option (List (Option (List ℕ)))) → F (by_parameters f o)
-parameters-free f h none = refl
-parameters-free f h (some g) = h g
+parameters-free f h None = refl
+parameters-free f h (Some g) = h g
 
 word-free : (w : Word) (s : List ℕ) → F (read_word w s)
 unfolding read_word asset_request
@@ -149,9 +149,9 @@ module _ (model names : List ℕ) where
   low-offer p l o = go (observe_answer model names p o.item o.value) (observe-sound p l o.item o.value)
     where
       go : (x : ObserveAnswer) → Sound 2 x → Low (observe_next x p o.item o.time o.host o.value)
-      go (Recorded n) h = rw (last_or-append p.H 0 _) (h, l.1)
-      go Same h = l
-      go (Unrecorded r) h = l
+      go (Ok (Recorded n)) h = rw (last_or-append p.H 0 _) (h, l.1)
+      go (Ok Same) h = l
+      go (Err r) h = l
 
   words-free : (os : List Offer) (p : State) → Low p
       → all (word_free 2) (map observe_word (offers_answers model names p os)) ≡ true
@@ -190,10 +190,10 @@ module _ (model names : List ℕ) where
       sound-word 2 (line_answer model names p text)
       (by_cond (Sound 2) (not (model_ok model names)) _ _ (λ h. refl) (λ h. go (read_line text)))
     where
-      go : (r : Line) → Sound 2 (reading_answer r model names p)
-      go Malformed = refl
-      go BadStamp = refl
-      go (Reads time item form) = observe-sound p l item (value_for (category model item) form)
+      go : (r : Result Line LineError) → Sound 2 (reading_answer r model names p)
+      go (Err Malformed) = refl
+      go (Err BadStamp) = refl
+      go (Ok r) = observe-sound p l r.item (value_for (category model r.item) r.form)
 
   -- the cell of a new asset is at most how many there were
   cell-low : (p : State) (id content : List ℕ) → length (assets_after p id content) - 1 ≤ length p.T

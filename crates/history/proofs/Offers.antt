@@ -8,16 +8,14 @@ use lib.Dec.{leb, ltb}
 use lib.ListN.{length}
 use Rattle.spec.specs.Value.{decode}
 use Rattle.spec.specs.Reply.{over}
-use Rattle.spec.specs.Answers.{observe_word}
+use Rattle.spec.specs.Answers.{Answer, ObserveAnswer, observe_word}
 use Rattle.history.specs.Calls.{Answered, Batched, observe_all, max_batch, admitted, batch_by, observe_batch}
 use Rattle.history.specs.Reference.{State, Offer, observe_answer, observe_next, offer_next, offers_answers, offers_next}
 use Rattle.history.specs.Reference.{batch_answer, offer_of, batch_offers}
 use Rattle.spec.specs.declared.Record.{Record}
 use Rattle.spec.specs.declared.Value.{Value}
-use Rattle.spec.specs.declared.Answer.{Answer}
-use Rattle.spec.specs.declared.Answer.TheVariants.{Done, Refused}
-use Rattle.spec.specs.declared.ObserveAnswer.{ObserveAnswer}
-use Rattle.spec.specs.declared.ObserveAnswer.TheVariants.{Recorded, Same, Refused as Unrecorded}
+use Rattle.std.specs.Prelude.{Ok, Err}
+use Rattle.spec.specs.declared.Noted.TheVariants.{Recorded, Same}
 use Rattle.spec.proofs.Words.{ltb-not}
 use Rattle.spec.proofs.Packing.{decode-fits}
 use Rattle.history.proofs.Agree.{Good, bytes, observe-agree, right-head, other_test}
@@ -26,15 +24,15 @@ use Rattle.history.proofs.Agree.{Good, bytes, observe-agree, right-head, other_t
 
 observe-base : (x : ObserveAnswer) (p : State) (item time host : ℕ) (v : Value)
     → (observe_next x p item time host v).B ≡ p.B
-observe-base (Recorded n) p item time host v = refl
-observe-base Same p item time host v = refl
-observe-base (Unrecorded r) p item time host v = refl
+observe-base (Ok (Recorded n)) p item time host v = refl
+observe-base (Ok Same) p item time host v = refl
+observe-base (Err r) p item time host v = refl
 
 observe-assets : (x : ObserveAnswer) (p : State) (item time host : ℕ) (v : Value)
     → bytes p ≡ bytes (observe_next x p item time host v)
-observe-assets (Recorded n) p item time host v = refl
-observe-assets Same p item time host v = refl
-observe-assets (Unrecorded r) p item time host v = refl
+observe-assets (Ok (Recorded n)) p item time host v = refl
+observe-assets (Ok Same) p item time host v = refl
+observe-assets (Err r) p item time host v = refl
 
 module _ (model names : List ℕ) where
   pub offers-base : (os : List Offer) (p : State) → (offers_next model names p os).B ≡ p.B
@@ -88,10 +86,10 @@ module _ (model names : List ℕ) where
     by_answer : (rs : List Record) (host : ℕ) (answers : List ℕ) (x : Answer)
         → BatchAgree rs host answers x (batch_by x (observe_all model names st host rs) st answers)
     unfolding offers_answers offers_next
-    by_answer rs host answers (Done n) =
+    by_answer rs host answers (Ok n) =
         let q = all-agree host rs p st G in
         (refl, rw q.0, q.1)
-    by_answer rs host answers (Refused r) = (refl, refl, G)
+    by_answer rs host answers (Err r) = (refl, refl, G)
 
     pub batch-agree : (rs : List Record) (host : ℕ) (answers : List ℕ)
         → BatchAgree rs host answers (batch_answer model names (length rs) (length answers))

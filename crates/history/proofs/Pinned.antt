@@ -6,12 +6,13 @@ use mathlib.Core.Path.{◌≡◌, refl}
 use mathlib.Core.Bool.{true, false}
 use mathlib.Core.List.{List, [], ◌∷◌, ◌++◌, map}
 use lib.ListN.{replicate}
+use Rattle.std.specs.Prelude.{Err}
 use Rattle.spec.specs.Bytes.{pad}
 use Rattle.spec.specs.Answers.{answer_number, observe_word}
-use Rattle.lines.specs.declared.Line.TheVariants.{Malformed, BadStamp}
+use Rattle.lines.specs.declared.LineError.TheVariants.{Malformed, BadStamp}
 use Rattle.spec.specs.declared.Value.TheVariants.{Unavailable}
 use Rattle.spec.specs.declared.Refusal.TheVariants.{Late, Early}
-use Rattle.spec.specs.declared.Verdict.TheVariants.{Fine, Refused}
+use Rattle.std.specs.Prelude.{Ok, Err}
 use Rattle.spec.proofs.Opened.{opened}
 use Rattle.history.specs.Observations.{latest_ok}
 use Rattle.history.specs.Calls
@@ -64,7 +65,7 @@ starts-tested = (refl, refl)
 
 -- of the numbers 2 to 5, and of the reference model's sample and current with `at` by their answers
 pub ranges-tested :
-    (map (Calls.in_range 2 5) (1 ∷ 2 ∷ 5 ∷ 6 ∷ []) ≡ Refused Late ∷ Fine ∷ Fine ∷ Refused Early ∷ [])
+    (map (Calls.in_range 2 5) (1 ∷ 2 ∷ 5 ∷ 6 ∷ []) ≡ Err Late ∷ Ok tt ∷ Ok tt ∷ Err Early ∷ [])
     × (map (λ f. answer_number (Reference.sample_for (lastly 3 4) 0 f f (replicate 4 7)).answer) (1 ∷ 2 ∷ 5 ∷ 6 ∷ [])
     ≡ 17 ∷ 0 ∷ 0 ∷ 18 ∷ [])
     × (map (λ n. answer_number (Reference.at_for (λ i. 0) 1 (lastly 3 4) 0 n (replicate 4 7)).answer)
@@ -92,8 +93,8 @@ forms-asked = refl
 -- ---- read-line: 20, 21 (document 02, Req 06)
 
 pub lines-told :
-    (map (λ l. observe_word (Calls.observe_reading l [] [] 0).answer) (Malformed ∷ BadStamp ∷ [])
+    (map (λ l. observe_word (Calls.observe_reading l [] [] 0).answer) (Err Malformed ∷ Err BadStamp ∷ [])
     ≡ 9223372036854775828 ∷ 9223372036854775829 ∷ [])
-    × (map (λ l. observe_word (Reference.reading_answer l [] [] (lastly 1 1))) (Malformed ∷ BadStamp ∷ [])
+    × (map (λ l. observe_word (Reference.reading_answer l [] [] (lastly 1 1))) (Err Malformed ∷ Err BadStamp ∷ [])
     ≡ 9223372036854775828 ∷ 9223372036854775829 ∷ [])
 lines-told = (refl, refl)

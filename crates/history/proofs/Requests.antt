@@ -4,7 +4,6 @@ use mathlib.Core.Path.{◌≡◌, refl}
 use mathlib.Core.Bool.{true, false, cond}
 use Prim.Native.Nat.{ℕ, suc, ◌≤◌, ◌<◌}
 use mathlib.Core.List.{List, map}
-use mathlib.Core.Option.{Option}
 use lib.Dec.{ltb}
 use borrow.Author.Tests.{ltb-true, ltb-false}
 use Rattle.spec.specs.Model.{items, category}
@@ -15,16 +14,15 @@ use Rattle.history.specs.Standing.{entries_rows}
 use Rattle.history.specs.Reference.{State, last_of, first_of, within, matching, triple, sample_start}
 use Rattle.history.specs.Reference.{sample_end, sample_for, at_for, selected, reply_to}
 use Rattle.spec.specs.declared.Refusal.TheVariants.{TooMany, InvalidXpath, Late, Early}
-use Rattle.spec.specs.declared.Selection.{Selection}
-use Rattle.spec.specs.declared.Selection.TheVariants.{Items, NotFound}
+use Rattle.std.specs.Prelude.{Option, Some, None}
 use Rattle.spec.proofs.Words.{by_cond}
 
 module _ (P : Replied → Type 0) (reply : List ℕ) where
   -- 11
-  pub selected-cases : (s : Selection) (f : ℕ → Replied) → (s ≡ NotFound → P (refuse InvalidXpath reply))
-      → ((sel : ℕ) → s ≡ Items sel → P (f sel)) → P (selected s reply f)
-  selected-cases NotFound f none some = none refl
-  selected-cases (Items sel) f none some = some sel refl
+  pub selected-cases : (s : Option ℕ) (f : ℕ → Replied) → (s ≡ None → P (refuse InvalidXpath reply))
+      → ((sel : ℕ) → s ≡ Some sel → P (f sel)) → P (selected s reply f)
+  selected-cases None f none some = none refl
+  selected-cases (Some sel) f none some = some sel refl
 
   -- 17, 18
   range-cases : (low high n : ℕ) (r : Replied) → (n < low → P (refuse Late reply))
@@ -39,12 +37,12 @@ module _ (P : Replied → Type 0) (reply : List ℕ) where
     -- a sample: 10, 11, 17, 18, or the rows from f up to e
     pub sample-cases : (from count : ℕ)
         → (ltb p.N count ≡ true → P (refuse TooMany reply))
-        → (ltb p.N count ≡ false → select model names path ≡ NotFound → P (refuse InvalidXpath reply))
-        → ((sel : ℕ) → ltb p.N count ≡ false → select model names path ≡ Items sel
+        → (ltb p.N count ≡ false → select model names path ≡ None → P (refuse InvalidXpath reply))
+        → ((sel : ℕ) → ltb p.N count ≡ false → select model names path ≡ Some sel
         → sample_start p from < first_of p → P (refuse Late reply))
-        → ((sel : ℕ) → ltb p.N count ≡ false → select model names path ≡ Items sel
+        → ((sel : ℕ) → ltb p.N count ≡ false → select model names path ≡ Some sel
         → suc (last_of p) < sample_start p from → P (refuse Early reply))
-        → ((sel : ℕ) → ltb p.N count ≡ false → select model names path ≡ Items sel
+        → ((sel : ℕ) → ltb p.N count ≡ false → select model names path ≡ Some sel
         → first_of p ≤ sample_start p from → sample_start p from ≤ suc (last_of p)
         → let f = sample_start p from in
         let e = sample_end p f count in

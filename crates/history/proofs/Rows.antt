@@ -16,7 +16,7 @@ use Rattle.history.specs.Reference.{Observation, nothing, newest, triple, keep, 
 use Rattle.spec.specs.Blocks.{table_rows, padded}
 use Rattle.spec.specs.Entries.{step, used_rows, repeats_in, crowded, form_ok}
 use Rattle.history.specs.Standing.{standing, found, shown, entries_of, entries_rows, same_standing, crowded_standing}
-use Rattle.history.specs.Observations.{entry, item_at, numbered, newest_in, ring_ok, sample_rows, latest_at}
+use Rattle.history.specs.Observations.{entry, item_at, newest_in, ring_ok, sample_rows, latest_at}
 use Rattle.history.specs.Observations.{checkpoint_at, item_rows, item_row, is_condition, stepped, overwritten, evict_ok}
 use Rattle.history.specs.Observations.{entries_in, if_used, latest_rows, held_entries, snapshot_rows, current_rows}
 use Rattle.history.specs.Observations.{at_rows, current_ok, at_ok}

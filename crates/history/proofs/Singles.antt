@@ -6,16 +6,14 @@ use mathlib.Core.List.{List, [], ◌∷◌, ◌++◌, map}
 use lib.ListN.{length}
 use Rattle.spec.specs.Value.{decode}
 use Rattle.spec.specs.Reply.{over}
-use Rattle.spec.specs.Answers.{observe_word}
+use Rattle.spec.specs.Answers.{Answer, ObserveAnswer, observe_word}
 use Rattle.history.specs.Calls.{Batched, observe_all, admitted, batch_by, observe_batch}
 use Rattle.history.specs.Calls
 use Rattle.history.specs.History.{Call, Output, Stores, stores_next, stores_run, stores_after, singles, BatchSingles}
 use Rattle.history.specs.History.Call.{batch}
 use Rattle.history.specs.History.Output.{observed, batched}
 use Rattle.spec.specs.declared.Record.{Record}
-use Rattle.spec.specs.declared.Answer.{Answer}
-use Rattle.spec.specs.declared.Answer.TheVariants.{Done, Refused}
-use Rattle.spec.specs.declared.ObserveAnswer.{ObserveAnswer}
+use Rattle.std.specs.Prelude.{Ok, Err}
 use Rattle.history.proofs.Admission.{by-admission}
 
 module _ (model names : List ℕ) where
@@ -80,18 +78,18 @@ module _ (model names : List ℕ) where
   -- ---- an accepted batch
 
   -- its answer is the number of its records
-  admitted-all : (st : List ℕ) (n k j : ℕ) → admitted model names st n k ≡ Done j → admitted model names st n k ≡ Done n
+  admitted-all : (st : List ℕ) (n k j : ℕ) → admitted model names st n k ≡ Ok j → admitted model names st n k ≡ Ok n
   admitted-all st n k j =
-      by-admission model names st n k (λ (x : Answer). x ≡ Done j → x ≡ Done n) (λ r e. cc) (λ a b c d e. refl)
+      by-admission model names st n k (λ (x : Answer). x ≡ Ok j → x ≡ Ok n) (λ r e. cc) (λ a b c d e. refl)
 
   answered-by : (x : Answer) (q : Calls.Answered) (st answers : List ℕ) → (batch_by x q st answers).answer ≡ x
-  answered-by (Done n) q st answers = refl
-  answered-by (Refused r) q st answers = refl
+  answered-by (Ok n) q st answers = refl
+  answered-by (Err r) q st answers = refl
 
   accepted-is : (st : List ℕ) (rs : List Record) (host : ℕ) (answers : List ℕ) (j : ℕ)
-      → (observe_batch model names st rs host answers).answer ≡ Done j
+      → (observe_batch model names st rs host answers).answer ≡ Ok j
       → observe_batch model names st rs host answers
-      ≡ batch_by (Done (length rs)) (observe_all model names st host rs) st answers
+      ≡ batch_by (Ok (length rs)) (observe_all model names st host rs) st answers
   unfolding observe_batch
   accepted-is st rs host answers j e =
       let x = admitted model names st (length rs) (length answers) in
@@ -101,7 +99,7 @@ module _ (model names : List ℕ) where
 
   pub batch-singles : (s : Stores) (cs : List Call) (rs : List Record) (host : ℕ) (answers : List ℕ) (ds : List Call)
       (j : ℕ)
-      → (observe_batch model names (stores_after model names s cs).observations rs host answers).answer ≡ Done j
+      → (observe_batch model names (stores_after model names s cs).observations rs host answers).answer ≡ Ok j
       → BatchSingles model names s cs rs host answers ds
   unfolding stores_run stores_after
   batch-singles s cs rs host answers ds j accepted =
@@ -130,14 +128,14 @@ module _ (model names : List ℕ) where
       ones = single_answers host rs t.observations
 
       now : observe_batch model names t.observations rs host answers
-          ≡ batch_by (Done (length rs)) (observe_all model names t.observations host rs) t.observations answers
+          ≡ batch_by (Ok (length rs)) (observe_all model names t.observations host rs) t.observations answers
       now = accepted-is t.observations rs host answers j accepted
 
       next : stores_next model names t (batch rs host answers) ≡ left
       next = ap (λ (o : Batched). record { observations = o.observations; assets = t.assets }) now
 
       told : List ℕ → Stores → List (List Output)
-      told words u = (batched (Done (length rs)) (over words answers) ∷ []) ∷ run u ds
+      told words u = (batched (Ok (length rs)) (over words answers) ∷ []) ∷ run u ds
 
       run-batch : run t (batch rs host answers ∷ ds) ≡ told (map observe_word ones) left
       run-batch =

@@ -7,19 +7,21 @@ use native.Mathlib.Omega.{arith}
 use mathlib.Core.List.{List, [], ◌∷◌}
 use lib.Dec.{leb, eqb}
 use lib.ListN.{length}
+use Rattle.std.specs.Prelude.{Result, Ok, Err}
 use Rattle.spec.specs.Bytes.{all}
 use Rattle.spec.specs.Value.{decode}
 use Rattle.spec.specs.Model.{items, category, has_change, model_ok}
 use Rattle.history.specs.Observations.{max_number, head_ok}
 use Rattle.spec.specs.Assets.{used, asset_head_ok, asset_ok, out_for, cell_for}
-use Rattle.spec.specs.Answers.{refusal_number, answer_number, observe_word, store_word}
+use Rattle.spec.specs.Answers.{Answer, Verdict, refusal_number, answer_number, observe_word, store_word}
 use Rattle.history.specs.Calls.{Observed, Kept, time_or, room_for, observe_by, observe, observe_all, admitted}
 use Rattle.history.specs.Calls.{batch_by, observe_batch, observe_item, observe_reading, observe_line, keep_by, keep_asset, store_asset, request}
 use Rattle.history.specs.History.{Call, Stores, Start, stores_start, stores_output}
 use Rattle.history.specs.History.Output.{started, batched}
 use Rattle.lines.specs.Lines.{read_line, value_for}
 use Rattle.lines.specs.declared.Line.{Line}
-use Rattle.lines.specs.declared.Line.TheVariants.{Malformed, BadStamp, Reads}
+use Rattle.lines.specs.declared.LineError.{LineError}
+use Rattle.lines.specs.declared.LineError.TheVariants.{Malformed, BadStamp}
 use Rattle.spec.specs.declared.Record.{Record}
 use Rattle.spec.specs.declared.Value.{Value}
 use Rattle.spec.specs.declared.Refusal.{Refusal}
@@ -27,10 +29,7 @@ use Rattle.spec.specs.declared.Refusal.TheVariants.{Model, Store, Size, Item, Ki
 use Rattle.spec.specs.declared.Refusal.TheVariants.{InvalidRequest, Unsupported, TooMany, InvalidXpath}
 use Rattle.spec.specs.declared.Refusal.TheVariants.{AssetNotFound, Asset, Space, Batch, Late, Early, Crowded}
 use Rattle.spec.specs.declared.Refusal.TheVariants.{Line as NoLine, Stamp as NoStamp}
-use Rattle.spec.specs.declared.Answer.{Answer}
-use Rattle.spec.specs.declared.Answer.TheVariants.{Done, Refused}
-use Rattle.spec.specs.declared.Verdict.{Verdict}
-use Rattle.spec.specs.declared.Verdict.TheVariants.{Fine, Refused as Against}
+use Rattle.std.specs.Prelude.{Ok, Err}
 use Rattle.spec.proofs.Words.{by_cond, and_right, and_both}
 use Rattle.history.proofs.Free.{number_free, word_free, output_free, Free, Sound, sound-word, SoundCell, sound-cell}
 use Rattle.history.proofs.Free.{batched-free}
@@ -62,15 +61,15 @@ unused NoLine = refl
 unused NoStamp = refl
 
 answer-free : (x : Answer) → number_free 12 (answer_number x) ≡ true
-answer-free (Done k) = refl
-answer-free (Refused r) = unused r
+answer-free (Ok k) = refl
+answer-free (Err r) = unused r
 
 -- ---- each call
 
 by-sound : (cat : ℕ → ℕ) (m : ℕ) (st : List ℕ) (item time word : ℕ) (v : Verdict) → room_for cat m st ≡ v
     → Sound 12 (observe_by v cat m st item time word).answer
-by-sound cat m st item time word Fine e = (room-for cat m st e).0
-by-sound cat m st item time word (Against r) e = unused r
+by-sound cat m st item time word (Ok tt) e = (room-for cat m st e).0
+by-sound cat m st item time word (Err r) e = unused r
 
 item-free : (model st : List ℕ) (item time : ℕ) (v : Value) → Sound 12 (observe_item model st item time v).answer
 item-free model st item time v =
@@ -98,10 +97,11 @@ line-free model names st text host =
     (λ a. by_cond P (head_ok (items model) st) _ _ (λ b. go (read_line text)) (λ b. refl))
     (λ a. refl))
   where
-    go : (r : Line) → Sound 12 (observe_reading r model st host).answer
-    go Malformed = refl
-    go BadStamp = refl
-    go (Reads time item form) = item-free model st item (time_or time host) (value_for (category model item) form)
+    go : (r : Result Line LineError) → Sound 12 (observe_reading r model st host).answer
+    go (Err Malformed) = refl
+    go (Err BadStamp) = refl
+    go (Ok l) =
+        item-free model st l.item (time_or l.time host) (value_for (category model l.item) l.form)
 
 module _ (model names : List ℕ) (host : ℕ) where
   words-free : (rs : List Record) (st : List ℕ) → all (word_free 12) (observe_all model names st host rs).words ≡ true
@@ -160,8 +160,8 @@ store-free model names st bs id content host =
     (λ a. refl))
   where
     keep-sound : cell_for id bs ≤ max_number → (v : Verdict) → SoundCell 12 (keep_by v model st bs id content host).answer
-    keep-sound l Fine = l
-    keep-sound l (Against r) = unused r
+    keep-sound l (Ok tt) = l
+    keep-sound l (Err r) = unused r
 
 -- ---- the theorem: start's answer, and the output of every other call
 

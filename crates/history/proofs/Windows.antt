@@ -6,7 +6,6 @@ use Prim.Native.Nat.{ℕ, zero, suc, ◌+◌, ◌-◌, ◌≤◌}
 use native.Mathlib.Nat.{not-suc-le-zero}
 use native.Mathlib.Omega.{arith}
 use mathlib.Core.List.{List, [], ◌∷◌, ◌++◌, map, append_assoc, append-nil}
-use mathlib.Core.Option.{Option}
 use lib.Dec.{leb, eqb}
 use lib.ListN.{length, drop}
 use lib.Seq.{slice, take-append-le, drop_at}
@@ -26,14 +25,9 @@ use Rattle.history.specs.History.{windows_of_call, Meets, last_next, joined, set
 use Rattle.history.specs.History.{offers_of, reference_output, reference_next, reference_after}
 use Rattle.history.specs.History.Call.{observe, batch, line, store_asset, request, body}
 use Rattle.spec.specs.declared.Refusal.TheVariants.{Space}
-use Rattle.spec.specs.declared.Answer.{Answer}
-use Rattle.spec.specs.declared.Answer.TheVariants.{Done, Refused}
-use Rattle.spec.specs.declared.ObserveAnswer.{ObserveAnswer}
-use Rattle.spec.specs.declared.ObserveAnswer.TheVariants.{Recorded, Same, Refused as Unrecorded}
-use Rattle.spec.specs.declared.StoreAnswer.{StoreAnswer}
-use Rattle.spec.specs.declared.StoreAnswer.TheVariants.{Stored, Refused as Unstored}
-use Rattle.spec.specs.declared.Selection.{Selection}
-use Rattle.spec.specs.declared.Selection.TheVariants.{Items}
+use Rattle.std.specs.Prelude.{Ok, Err, Option, Some}
+use Rattle.spec.specs.Answers.{Answer, ObserveAnswer}
+use Rattle.spec.specs.declared.Noted.TheVariants.{Recorded, Same}
 use Rattle.history.proofs.Recorded.{Numbered, keep_append, within-slice}
 use Rattle.spec.proofs.Reply.{length-numbers}
 use Rattle.history.proofs.Requests.{sample-cases}
@@ -122,7 +116,7 @@ module _ (a : Start) where
       ws = observation_words first last e (map triple os)
 
       out : Bool → Replied
-      out t = cond t (record { answer = Done (length (map triple os)); reply = over ws reply }) (refuse Space reply)
+      out t = cond t (record { answer = Ok (length (map triple os)); reply = over ws reply }) (refuse Space reply)
 
       go : (t : Bool) → AllTrue (H ++ X) (window_of_answer (out t).answer (asked (sample path from count)) (out t).reply)
       go false = tt
@@ -145,7 +139,7 @@ module _ (a : Start) where
       (sample-cases Goal reply a.model a.names p path from count
       (λ c. tt) (λ c s. tt) (λ sel c s h. tt) (λ sel c s h. tt)
       (λ sel c s lo hi. reply-true path (first_of p) (last_of p) from count e p.B p.H X reply
-      (omega arith) (omega (arith, l)) n n' (rows (Items sel)) (ap rows (sym s))))
+      (omega arith) (omega (arith, l)) n n' (rows (Some sel)) (ap rows (sym s))))
     where
       f : ℕ
       f = sample_start p from
@@ -153,7 +147,7 @@ module _ (a : Start) where
       e : ℕ
       e = sample_end p f count
 
-      rows : Selection → Replied
+      rows : Option ℕ → Replied
       rows s = observation_reply (first_of p) (last_of p) e (map triple (matching (set_selected s) f e p.H)) reply
 
       Goal : Replied → Type 0
@@ -174,9 +168,9 @@ module _ (a : Start) where
   later-offer p o = go (observe_answer a.model a.names p o.item o.value)
     where
       go : (x : ObserveAnswer) → Later p.H (observe_next x p o.item o.time o.host o.value).H
-      go (Recorded n) = (_, refl)
-      go Same = later-self p.H
-      go (Unrecorded r) = later-self p.H
+      go (Ok (Recorded n)) = (_, refl)
+      go (Ok Same) = later-self p.H
+      go (Err r) = later-self p.H
 
   later-offers : (os : List Offer) (p : State) → Later p.H (offers_next a.model a.names p os).H
   unfolding offers_next
@@ -192,10 +186,10 @@ module _ (a : Start) where
   later-next p (line text host) = later-offers (offers_of a.model a.names (line text host)) p
   later-next p (store_asset id content host) = go (store_answer a.model a.names p id content) (has_change a.model) refl
     where
-      go : (x : StoreAnswer) (t : Bool) → has_change a.model ≡ t → Later p.H (store_next x a.model p id content host).H
-      go (Stored n) true e = rw e (_, refl)
-      go (Stored n) false e = rw e (later-self p.H)
-      go (Unstored r) t e = later-self p.H
+      go : (x : Answer) (t : Bool) → has_change a.model ≡ t → Later p.H (store_next x a.model p id content host).H
+      go (Ok n) true e = rw e (_, refl)
+      go (Ok n) false e = rw e (later-self p.H)
+      go (Err r) t e = later-self p.H
   later-next p (request text reply) = later-self p.H
   later-next p (body id) = later-self p.H
 
@@ -208,8 +202,8 @@ module _ (a : Start) where
 
   -- what one call delivers is true of every later H
   quiet : (H : List Observation) (x : Answer) (q : Reading) (reply : List ℕ) → AllTrue H (window_of_reading q reply) → AllTrue H (window_of_answer x q reply)
-  quiet H (Done k) q reply h = h
-  quiet H (Refused r) q reply h = tt
+  quiet H (Ok k) q reply h = h
+  quiet H (Err r) q reply h = tt
 
   pub call-true : (p : State) (c : Call) (X : List Observation) → model_ok a.model a.names ≡ true → Numbered p.B p.H
       → suc (last_of p) ≡ p.B + length p.H → Numbered p.B (p.H ++ X)

@@ -1,26 +1,20 @@
 -- Demand 3, the history rule, as one statement: document 01, "The paper machine", and document 02, Req 01 and Req 06. A
 -- start and a list of the other calls; the outputs of the stores' calls and of the reference model; one client's windows.
-use Rattle.std.specs.Prelude.{ℕ, suc, ◌+◌, ◌≡◌, Bool, cond, List, [], ◌∷◌, ◌++◌, map, eqb, length, get_or}
-use Rattle.std.proofs.Math.Option.{Option}
+use Rattle.std.specs.Prelude.{ℕ, suc, ◌≡◌, Bool, cond, List, [], ◌∷◌, ◌++◌, map, eqb, length, get_or}
+use Rattle.std.specs.Prelude.{Ok, Err, Option, Some, None}
 use Rattle.spec.specs.Value.{Fits, decode}
 use Rattle.spec.specs.Text.{Request, Reading, read_text}
 use Rattle.spec.specs.Text.Request.{sample, current, current_at, assets, all_assets}
 use Rattle.spec.specs.Text.Reading.{unread, asked}
 use Rattle.spec.specs.Path.{select}
 use Rattle.spec.specs.Reply.{over, rows_of}
-use Rattle.spec.specs.Answers.{observe_word}
+use Rattle.spec.specs.Answers.{Answer, ObserveAnswer, observe_word}
 use Rattle.lines.specs.Lines.{read_line}
 use Rattle.history.specs.Calls
 use Rattle.history.specs.Reference
 use Rattle.history.specs.Reference.{State, Begun, Observation, Offer, triple, matching}
 use Rattle.spec.specs.declared.Record.{Record}
 use Rattle.spec.specs.declared.Value.{Value}
-use Rattle.spec.specs.declared.Answer.{Answer}
-use Rattle.spec.specs.declared.Answer.TheVariants.{Done, Refused}
-use Rattle.spec.specs.declared.ObserveAnswer.{ObserveAnswer}
-use Rattle.spec.specs.declared.StoreAnswer.{StoreAnswer}
-use Rattle.spec.specs.declared.Selection.{Selection}
-use Rattle.spec.specs.declared.Selection.TheVariants.{Items, NotFound}
 
 -- ---- calls and what they give
 
@@ -38,7 +32,7 @@ pub data Output : Type 0 where
   started : Answer → Output
   observed : ObserveAnswer → Output
   batched : Answer → List ℕ → Output
-  stored : StoreAnswer → Output
+  stored : Answer → Output
   replied : Answer → List ℕ → Output
   returned : List ℕ → Output
 
@@ -212,8 +206,8 @@ window_of_reading (unread r) reply = []
 window_of_reading (asked q) reply = window_of_request q reply
 
 abbrev pub window_of_answer : Answer → Reading → List ℕ → List Window
-window_of_answer (Done k) q reply = window_of_reading q reply
-window_of_answer (Refused r) q reply = []
+window_of_answer (Ok k) q reply = window_of_reading q reply
+window_of_answer (Err r) q reply = []
 
 abbrev pub window_of_output : List ℕ → Output → List Window
 window_of_output text (started a) = []
@@ -257,9 +251,9 @@ joined [] = []
 joined (w ∷ ws) = w.rows ++ joined ws
 
 -- what a path selects, as a set; none where it is refused
-abbrev pub set_selected : Selection → ℕ
-set_selected (Items selection) = selection
-set_selected NotFound = 0
+abbrev pub set_selected : Option ℕ → ℕ
+set_selected (Some selection) = selection
+set_selected None = 0
 
 abbrev pub selection : Start → Option (List ℕ) → ℕ
 selection a path = set_selected (select a.model a.names path)
@@ -301,7 +295,7 @@ pub record BatchSingles (model names : List ℕ) (s : Stores) (cs : List Call) (
   pub calls_before : before ≡ stores_run model names s cs
   pub one_each : length single ≡ length records
   pub outputs : stores_run model names s (cs ++ (batch records host answers ∷ ds))
-      ≡ before ++ ((batched (Done (length records)) (over (map observe_word single) answers) ∷ []) ∷ behind)
+      ≡ before ++ ((batched (Ok (length records)) (over (map observe_word single) answers) ∷ []) ∷ behind)
   pub single_outputs : stores_run model names s (cs ++ (singles host records ++ ds))
       ≡ before ++ (map (λ x. observed x ∷ []) single ++ behind)
   pub stores : stores_after model names s (cs ++ (batch records host answers ∷ ds))

@@ -1,27 +1,22 @@
 -- A client that polls from its next number: document 02, Req 04, as a statement about every list of calls behind a
 -- start. The calls are counted from 0.
 use Rattle.std.specs.Prelude.{ℕ, ◌≤◌, ◌<◌, ◌≡◌, ◌⊎◌, Bool, true, false, cond, List, [], ◌∷◌, ltb, get_or, take}
-use Rattle.std.proofs.Math.Option.{Option, some}
-use Rattle.std.proofs.Math.ListN.{get_elem?}
+use Rattle.std.specs.Prelude.{Ok, Option, Some, None, slice_get}
 use Rattle.spec.specs.Text.{Reading, read_text}
 use Rattle.spec.specs.Text.Request.{sample, current, current_at, assets, all_assets}
 use Rattle.spec.specs.Text.Reading.{unread, asked}
 use Rattle.spec.specs.Path.{select}
-use Rattle.spec.specs.Answers.{answer_number}
+use Rattle.spec.specs.Answers.{Answer, answer_number}
 use Rattle.history.specs.Reference.{State, first_of}
 use Rattle.history.specs.History.{Call, Start, call_outputs, reference_after}
 use Rattle.history.specs.History.Call.{request}
 use Rattle.history.specs.History.Output.{replied}
-use Rattle.spec.specs.declared.Answer.{Answer}
-use Rattle.spec.specs.declared.Answer.TheVariants.{Done}
-use Rattle.spec.specs.declared.Selection.{Selection}
-use Rattle.spec.specs.declared.Selection.TheVariants.{Items, NotFound}
 
 -- call i of cs is a request with this text; it is answered x, and `words` is its buffer afterwards
 pub record Asks (a : Start) (cs : List Call) (i : ℕ) (text : List ℕ) (x : Answer) (words : List ℕ) : Type 0 where
   pub buffer : List ℕ
-  pub call : get_elem? cs i ≡ some (request text buffer)
-  pub output : get_elem? (call_outputs a cs) i ≡ some (replied x words ∷ [])
+  pub call : slice_get cs i ≡ Some (request text buffer)
+  pub output : slice_get (call_outputs a cs) i ≡ Some (replied x words ∷ [])
 
 -- a sample, and a current with `at` or without: an accepted one gives a next number
 abbrev pub gives_next : Reading → Bool
@@ -37,7 +32,7 @@ pub record Gave (a : Start) (cs : List Call) (i n : ℕ) : Type 0 where
   pub text : List ℕ
   pub k : ℕ
   pub words : List ℕ
-  pub asks : Asks a cs i text (Done k) words
+  pub asks : Asks a cs i text (Ok k) words
   pub gives : gives_next (read_text text) ≡ true
   pub next : get_or words 3 0 ≡ n
 
@@ -55,9 +50,9 @@ abbrev pub state_before : Start → State → List Call → ℕ → State
 state_before a p cs j = reference_after a.model a.names p (take j cs)
 
 -- what comes before a sample's number is looked at: 10 by its count, 11 by its path; n where both pass
-abbrev pub path_or : Selection → ℕ → ℕ
-path_or NotFound n = 11
-path_or (Items selection) n = n
+abbrev pub path_or : Option ℕ → ℕ → ℕ
+path_or None n = 11
+path_or (Some selection) n = n
 
 abbrev pub checked_or : Start → State → Option (List ℕ) → ℕ → ℕ → ℕ
 checked_or a s path count n = cond (ltb s.N count) 10 (path_or (select a.model a.names path) n)

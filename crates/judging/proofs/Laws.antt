@@ -11,14 +11,15 @@ use Rattle.spec.specs.Value.{pack}
 use Rattle.spec.specs.declared.Value.TheVariants.{Unavailable}
 use Rattle.spec.specs.Entries.{active, normal, code_field, used_rows, form_ok, repeats_in, crowded}
 use Rattle.spec.proofs.Words.{by-test}
-use Rattle.marks.specs.Marks.{key_in, key_of, place_of, eight_at}
-use Rattle.marks.proofs.Laws.{first-at}
+use Rattle.marks.specs.Marks.{key_in, key_of, place_of}
 use Rattle.marks.proofs.Keys.{place-max}
 use Rattle.marks.proofs.Repeats.{raised-crowded, raised-new, raised-there, idle-fits, idle-first}
 use Rattle.marks.proofs.Repeats.{normal-none, normal-free, normal-there, all-active, all-idle}
 use Rattle.judging.specs.Findings.{repeated_if, raised_judged, cleared_judged, judged}
 use Rattle.judging.specs.declared.Judged.{Judged}
-use Rattle.judging.specs.declared.Judged.TheVariants.{Broken, Repeated, Crowded, New}
+use Rattle.judging.specs.declared.Judged.TheVariants.{Repeated, New}
+use Rattle.std.specs.Prelude.{Ok, Err}
+use Rattle.spec.specs.declared.Refusal.TheVariants.{Store, Crowded}
 use Rattle.entries.proofs.Filling.{FilledBy, by-marked, by-eight, by-formed}
 use Rattle.entries.proofs.Marks.{used-at}
 
@@ -35,19 +36,19 @@ module _ (ms : List ℕ) (key : ℕ) {j : ℕ} (e : j ≡ place_of key ms) where
   cleared_by h z q = q ∙ rw (← e, ne_eqb j 8 h, z)
 
   module _ (rs : List (List ℕ)) (word : ℕ) where
-    pub raised-none : j ≡ 8 → Crowded ≡ raised_judged rs ms key word
+    pub raised-none : j ≡ 8 → Err Crowded ≡ raised_judged rs ms key word
     unfolding raised_judged
     raised-none h = rw (← e, h)
 
     module _ (h : j ≡ 8 → ⊥) where
-      pub raised-free : get_or ms j 0 ≡ 0 → New ≡ raised_judged rs ms key word
+      pub raised-free : get_or ms j 0 ≡ 0 → Ok New ≡ raised_judged rs ms key word
       unfolding raised_judged
       raised-free z = rw (← e, ne_eqb j 8 h, z)
 
       module _ (z : get_or ms j 0 ≡ 0 → ⊥) {number time there : ℕ} (r : get_or rs j [] ≡ number ∷ time ∷ there ∷ []) where
-        pub raised_by : {found : Judged} → found ≡ repeated_if (eqb there word) → found ≡ raised_judged rs ms key word
+        pub raised_by : {found : Judged} → found ≡ repeated_if (eqb there word) → Ok found ≡ raised_judged rs ms key word
         unfolding raised_judged
-        raised_by q = q ∙ rw (← e, ne_eqb j 8 h, ne_eqb (get_or ms j 0) 0 z, r)
+        raised_by q = ap (λ (x : Judged). Ok x) q ∙ rw (← e, ne_eqb j 8 h, ne_eqb (get_or ms j 0) 0 z, r)
 
 -- ---- the branches are what is found
 
@@ -56,11 +57,11 @@ module _ (own : ℕ) (rs : List (List ℕ)) where
   unfolding form_ok
   form-one = rw (le-leb 0 (length (used_rows rs)) (omega arith))
 
-  pub judged-broken : (word : ℕ) → form_ok own 0 rs ≡ false → Broken ≡ judged own rs word
+  pub judged-broken : (word : ℕ) → form_ok own 0 rs ≡ false → Err Store ≡ judged own rs word
   unfolding judged
   judged-broken word f = rw (form-one, f, and-false)
 
-  pub judged-none : (word : ℕ) → length (used_rows rs) ≡ 0 → Broken ≡ judged own rs word
+  pub judged-none : (word : ℕ) → length (used_rows rs) ≡ 0 → Err Store ≡ judged own rs word
   unfolding judged
   judged-none word z = rw (form-one, z)
 
@@ -71,16 +72,22 @@ module _ {own : ℕ} {rs : List (List ℕ)} {marks : List ℕ} {n : ℕ} (by : F
   es = used_rows rs
 
   abbrev ms : List ℕ
-  ms = eight_at marks 0
+  ms = marks
 
   some : 1 ≤ length es
   some = omega (arith, by.many, used)
 
   -- Same, 19 or neither, by the used rows
   judged-by : {same full : Bool} → repeats_in own es word ≡ same → crowded own es word ≡ full
-      → judged own rs word ≡ cond same Repeated (cond full Crowded New)
+      → judged own rs word ≡ cond same (Ok Repeated) (cond full (Err Crowded) (Ok New))
   unfolding judged
   judged-by a b = rw (form-one own rs, by.form, le-leb 1 (length es) some, a, b)
+
+  -- Same or neither, by a test
+  judged-test : (same : Bool) → repeats_in own es word ≡ same → crowded own es word ≡ false
+      → judged own rs word ≡ Ok (repeated_if same)
+  judged-test true a b = judged-by a b
+  judged-test false a b = judged-by a b
 
   pub judged-raised : active own word ≡ true → {key : ℕ} → key ≡ key_of own word
       → raised_judged rs ms key word ≡ judged own rs word
@@ -100,7 +107,7 @@ module _ {own : ℕ} {rs : List (List ℕ)} {marks : List ℕ} {n : ℕ} (by : F
       rw (e, z) (sym (judged-by p.0 p.1)))
       (λ z.
       let p = raised-there own es ms word (by-formed by) (by-marked by) a (eqb-false (get_or ms j 0) 0 z) in
-      rw (e, z) (sym (judged-by (rw (used-at rs j p.0) at p.1) p.2)))))
+      rw (e, z) (sym (judged-test _ (rw (used-at rs j p.0) at p.1) p.2)))))
 
   module _ (idle : active own word ≡ false) where
     fits : crowded own es word ≡ false
@@ -109,20 +116,20 @@ module _ {own : ℕ} {rs : List (List ℕ)} {marks : List ℕ} {n : ℕ} (by : F
     -- the first row is read
     module _ {number time there : ℕ} (r : get_or rs 0 [] ≡ number ∷ time ∷ there ∷ []) where
       pub judged-first : normal word ≡ false → {found : Judged} → found ≡ repeated_if (eqb there word)
-          → found ≡ judged own rs word
+          → Ok found ≡ judged own rs word
       judged-first n e =
           let p = idle-first own es ms word (by-formed by) (by-marked by) some idle n in
-          e ∙ sym (judged-by (rw (used-at rs 0 some, r) at p) fits)
+          ap (λ (x : Judged). Ok x) e ∙ sym (judged-test _ (rw (used-at rs 0 some, r) at p) fits)
 
       pub judged-idle : normal word ≡ true → code_field word ≡ 0 → key_in (get_or marks 0 0) ≡ 0
           → {found : Judged} → found ≡ repeated_if (not (eqb there (pack own Unavailable)))
-          → found ≡ judged own rs word
+          → Ok found ≡ judged own rs word
       judged-idle n c k e =
-          let p = all-idle own es ms word (by-formed by) (by-marked by) some n c (ap key_in (first-at marks 0) ∙ k) in
-          e ∙ sym (judged-by (rw (used-at rs 0 some, r) at p) fits)
+          let p = all-idle own es ms word (by-formed by) (by-marked by) some n c k in
+          ap (λ (x : Judged). Ok x) e ∙ sym (judged-test _ (rw (used-at rs 0 some, r) at p) fits)
 
     pub judged-cleared : normal word ≡ true → (code_field word ≡ 0 → ⊥) → {key : ℕ} → key ≡ suc (code_field word)
-        → cleared_judged ms key ≡ judged own rs word
+        → Ok (cleared_judged ms key) ≡ judged own rs word
     unfolding cleared_judged
     judged-cleared n c k =
         let j : ℕ = place_of (suc (code_field word)) ms in
@@ -141,7 +148,6 @@ module _ {own : ℕ} {rs : List (List ℕ)} {marks : List ℕ} {n : ℕ} (by : F
         rw (e, z) (sym (judged-by p fits)))))
 
     pub judged-all : normal word ≡ true → code_field word ≡ 0 → (key_in (get_or marks 0 0) ≡ 0 → ⊥)
-        → New ≡ judged own rs word
+        → Ok New ≡ judged own rs word
     judged-all n c k =
-        let h : key_in (get_or ms 0 0) ≡ 0 → ⊥ = λ y. k (ap key_in (sym (first-at marks 0)) ∙ y) in
-        sym (judged-by (all-active own es ms word (by-formed by) (by-marked by) n c h) fits)
+        sym (judged-by (all-active own es ms word (by-formed by) (by-marked by) n c k) fits)

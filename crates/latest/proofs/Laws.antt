@@ -4,6 +4,7 @@ use mathlib.Core.Path.{◌≡◌, refl, sym, ap, ◌∙◌}
 use mathlib.Core.Logic.{◌≢◌}
 use mathlib.Core.Bool.{Bool, true, false, cond, ◌&&◌, ◌||◌, not, and-false}
 use mathlib.Core.List.{List, [], ◌∷◌}
+use Rattle.std.specs.Prelude.{min, Some, None}
 use native.Mathlib.Numerals.{add-one}
 use native.Mathlib.Omega.{arith}
 use lib.Count.{ones}
@@ -23,9 +24,7 @@ use Rattle.history.proofs.Pass.{current-count}
 use Rattle.entries.proofs.Filling.{rows-many}
 use Rattle.entries.proofs.Marks.{used-max}
 use Rattle.entries.specs.Forms.{Table, filled}
-use Rattle.entries.specs.declared.Filled.TheVariants.{Used, Broken as Unformed}
 use Rattle.rows.specs.Rows.{rows_at, rows_into}
-use Rattle.rows.specs.declared.Counted.TheVariants.{Count, Broken}
 use Rattle.rows.proofs.Writing.{rows_more}
 use Rattle.rows.proofs.Flat.{Left, left-start, FlatWriting, flat_start, flat-room, flat-more, flat-skip, flat-end}
 use Rattle.rows.proofs.Laws.{count-is, broken-is}
@@ -63,11 +62,11 @@ no_rows [] e = refl
 no_rows (r ∷ rs) e = absurd (omega arith)
 
 -- behind as many turns as there are entries, or rows left
-pub used_over : (st : List ℕ) (t w x j k d c most : ℕ) → (most < 8 → most ≡ k - d) → most ≤ j → c ≡ d + j
+pub used_over : (st : List ℕ) (t w x j k d c : ℕ) → min 8 (k - d) ≤ j → c ≡ d + j
     → c + length (used_from st t w x j) ≤ k → used_from st t w x j ≡ []
-used_over st t w x j k d c most h b e f =
-    by-test (leb 8 most) (λ i. used-end st t w x j (omega (arith, leb-true 8 most i)))
-    (λ i. no_rows _ (omega (arith, h (omega (arith, leb-false 8 most i)))))
+used_over st t w x j k d c b e f =
+    by-test (leb 8 j) (λ i. used-end st t w x j (leb-true 8 j i))
+    (λ i. let g = leb-false 8 j i in no_rows _ (omega arith))
 
 latest-few : (cat : ℕ → ℕ) (N m : ℕ) (st : List ℕ) (i : ℕ) → length (latest_rows cat N m st i) ≤ 8
 latest-few cat N m st i =
@@ -107,23 +106,23 @@ few-extra cat m st selection =
 
 -- ---- what a count of an item's entries says of their form
 
-filled-by : (t : Bool) (x n : ℕ) → Used x ≡ cond t (Used n) Unformed → (t ≡ true) × (x ≡ n)
+filled-by : (t : Bool) (x n : ℕ) → Some x ≡ cond t (Some n) None → (t ≡ true) × (x ≡ n)
 filled-by true x n e = (refl, cc)
-filled-by false x n e = absurd (let z : ◌≡◌ {A = ℕ} 0 1 = (cc) in omega arith)
+filled-by false x n e = cc
 
-unformed-by : (t : Bool) (n : ℕ) → Unformed ≡ cond t (Used n) Unformed → t ≡ false
-unformed-by true n e = absurd (let z : ◌≡◌ {A = ℕ} 0 1 = (cc) in omega arith)
-unformed-by false n e = refl
+none-by : (t : Bool) (n : ℕ) → None ≡ cond t (Some n) None → t ≡ false
+none-by true n e = cc
+none-by false n e = refl
 
 module _ (own : ℕ) (rs : List (List ℕ)) where
-  form-no : Unformed ≡ filled own rs → form_ok own 1 rs ≡ false
+  form-no : None ≡ filled own rs → form_ok own 1 rs ≡ false
   unfolding filled form_ok
   form-no e =
       let z = le-leb 0 (length (used_rows rs)) (omega arith) in
-      let f = rw z at (unformed-by (form_ok own 0 rs) _ e) in
+      let f = rw z at (none-by (form_ok own 0 rs) _ e) in
       rw f (and-false (leb 1 (length (used_rows rs))))
 
-  module _ {x : ℕ} (e : Used x ≡ filled own rs) where
+  module _ {x : ℕ} (e : Some x ≡ filled own rs) where
     form-used : x ≡ length (used_rows rs)
     unfolding filled
     form-used = (filled-by (form_ok own 0 rs) x _ e).1
@@ -199,7 +198,7 @@ module _ {cat : ℕ → ℕ} {m : ℕ} {st : List ℕ} {selection c i : ℕ} (v 
         rows = omega (arith, step h, e, g);
       }
 
-  broken : i < m → formed cat m st selection i ≡ false → Broken ≡ extra_in cat m st selection
+  broken : i < m → formed cat m st selection i ≡ false → None ≡ extra_in cat m st selection
   unfolding extra_in
   broken h f = let e = every-no (formed cat m st selection) _ i m v.ok h f in rw (← e)
 
@@ -213,7 +212,7 @@ module _ {cat : ℕ → ℕ} {m : ℕ} {st : List ℕ} {selection c i : ℕ} (v 
       let z = ne_eqb (cat i) 2 e in
       next {x = 0} h (rw (s, z)) (rw (s, z)) (omega arith)
 
-  pub beyond-end : m ≤ i → Count c ≡ extra_in cat m st selection
+  pub beyond-end : m ≤ i → Some c ≡ extra_in cat m st selection
   unfolding extra_in
   beyond-end h =
       let e = every-end (formed cat m st selection) _ i m v.ok h in
@@ -235,11 +234,11 @@ module _ {cat : ℕ → ℕ} {m : ℕ} {st : List ℕ} {selection c i a n t : �
   by_form : (b : Bool) → form_ok i 1 (eight st t a i) ≡ b → formed cat m st selection i ≡ b
   by_form b f = rw (v.selected, eq-eqb (cat i) 2 v.condition, ← eight_is st i v.many v.ring v.table) f
 
-  pub beyond-unformed : Unformed ≡ filled i (eight st t a i) → Broken ≡ extra_in cat m st selection
+  pub beyond-unformed : None ≡ filled i (eight st t a i) → None ≡ extra_in cat m st selection
   beyond-unformed f = broken v.now v.below (by_form false (form-no i (eight st t a i) f))
 
-  module _ {x : ℕ} (f : Used x ≡ filled i (eight st t a i)) where
-    pub beyond-empty : x ≡ 0 → Broken ≡ extra_in cat m st selection
+  module _ {x : ℕ} (f : Some x ≡ filled i (eight st t a i)) where
+    pub beyond-empty : x ≡ 0 → None ≡ extra_in cat m st selection
     beyond-empty z = broken v.now v.below (by_form false (form-empty i (eight st t a i) f z))
 
     pub beyond-more : (x ≡ 0 → ⊥) → Beyond cat m st selection (c + (x - 1)) (i + 1)
@@ -251,11 +250,11 @@ module _ {cat : ℕ → ℕ} {m : ℕ} {st : List ℕ} {selection c i a n t : �
 -- ---- what a count says
 
 module _ (cat : ℕ → ℕ) (m : ℕ) (st : List ℕ) (selection : ℕ) where
-  pub extra-broken : Broken ≡ extra_in cat m st selection → current_ok cat (ring_size st) m st selection ≡ false
+  pub extra-broken : None ≡ extra_in cat m st selection → current_ok cat (ring_size st) m st selection ≡ false
   unfolding extra_in
   extra-broken e = broken-is _ _ e
 
-  module _ {c : ℕ} (e : Count c ≡ extra_in cat m st selection) where
+  module _ {c : ℕ} (e : Some c ≡ extra_in cat m st selection) where
     counts : (current_ok cat (ring_size st) m st selection ≡ true) × (c ≡ all_extra cat m st selection)
     unfolding extra_in
     counts = count-is _ c _ e

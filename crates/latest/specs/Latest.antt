@@ -1,16 +1,14 @@
 -- How many rows current has beyond one for each selected item.
-use Rattle.std.specs.Prelude.{ℕ, cond, List, [], ◌∷◌}
+use Rattle.std.specs.Prelude.{ℕ, cond, Option, Some, None, List, [], ◌∷◌}
 use Rattle.spec.specs.Words.{bit}
 use Rattle.spec.specs.Blocks.{flat_rows, extra_rows}
 use Rattle.history.specs.Observations.{ring_size, latest_at, item_row, latest_rows, current_ok}
-use Rattle.rows.specs.declared.Counted.{Counted}
-use Rattle.rows.specs.declared.Counted.TheVariants.{Count, Broken}
 
--- the condition items' used entries beyond the first; Broken where a form is
-unfoldable pub extra_in : (ℕ → ℕ) → ℕ → List ℕ → ℕ → Counted
+-- the condition items' used entries beyond the first; none is given where a form is broken
+unfoldable pub extra_in : (ℕ → ℕ) → ℕ → List ℕ → ℕ → Option ℕ
 extra_in cat m st selection =
     let N = ring_size st in
-    cond (current_ok cat N m st selection) (Count (extra_rows (bit selection) (latest_rows cat N m st) m 0)) Broken
+    cond (current_ok cat N m st selection) (Some (extra_rows (bit selection) (latest_rows cat N m st) m 0)) None
 
 -- the first latest entry of an item, and those of the selected items
 abbrev pub first_row : List ℕ → ℕ → ℕ → List (List ℕ)

@@ -4,48 +4,38 @@
 ghost use Rattle.std.specs.Prelude.{◌≡◌, true, ◌+◌, ◌*◌, ◌^◌, ◌≤◌, ◌<◌, length};
 ghost use Rattle.spec.specs.Blocks.{table_rows};
 ghost use Rattle.spec.specs.Entries.{used_rows};
-ghost use Rattle.spec.specs.Model.{Sizes, max_items, items, category};
-ghost use Rattle.history.specs.Observations.{Head, ring_size, current_rows, current_ok};
+ghost use Rattle.spec.specs.Model.{items, category};
+ghost use Rattle.history.specs.Observations.{ring_size, item_count, current_rows, current_ok};
 ghost use Rattle.entries.specs.Forms.{Table};
 ghost use Rattle.rows.specs.Rows.{rows_at, rows_into};
 ghost use Rattle.latest.specs.Latest.{extra_in, first_rows};
 
-use entries::Filled;
-use rows::Counted;
+use model::Words;
+use observations::Store;
 
-// How many rows the selected condition items have beyond the first of each; Broken where the entries of one are not in
+// How many rows the selected condition items have beyond the first of each; None where the entries of one are not in
 // their written form, or none is used.
-pub fn extra(model: &[u32], st: &[u64], selection: u64) -> Counted
-    requires sizes { Sizes model.now }
-    requires head { Head (items model.now) st.now }
+pub fn extra(model: &Words<'_>, st: &Store<'_>, selection: u64) -> Option<u64>
+    requires agree { item_count st.now ≡ items model.now }
     ensures { let model = model.entry.now in
         result ≡ extra_in (category model) (items model) st.now selection }
 {
-    let m = model::items(model);
-    let t = observations::latest_at(observations::ring_size(st, m));
+    let words = st.slice();
+    let m = model.items();
+    let t = st.latest_at();
     let mut extra: u64 = 0;
-    let mut i: u64 = 0;
-    while i < m {
-        if selection::has(selection, i) && model::category(model, i) == spec::CONDITION {
-            let Filled::Used(n) = entries::count(st, spec::ENTRIES * m, t, spec::ENTRIES * i, i)
-            else {
-                return Counted::Broken;
+    for i in 0..m {
+        if selection::has(selection, i) && model.category(i) == spec::CONDITION {
+            let Some(n) = entries::count(words, spec::ENTRIES * m, t, spec::ENTRIES * i, i) else {
+                return None;
             };
             if n == 0 {
-                return Counted::Broken;
+                return None;
             }
             extra += n - 1;
         }
-        i += 1;
     }
-    Counted::Count(extra)
-}
-
-// The lesser of two.
-fn fewer(a: u64, b: u64) -> u64
-    ensures { (result ≤ a) × (result < a → result ≡ b) }
-{
-    if b < a { b } else { a }
+    Some(extra)
 }
 
 // The used ones of eight entries, the rows from row x on of the table of w rows at word t, where `done` of the k rows
@@ -58,17 +48,15 @@ fn write_entries(st: &[u64], w: u64, t: u64, x: u64, done: u64, k: u64, out: &mu
         ≡ rows_at out.old done (k + 2 * done) (used_rows (table_rows st.now t w 8 x)) }
 {
     // a number of turns that the compiler doesn't know keeps it from writing the loop out eight times
-    let most = fewer(spec::ENTRIES, k - done);
+    let most = spec::ENTRIES.min(k - done);
     let mut c = done;
-    let mut j: u64 = 0;
-    while j < most {
+    for j in 0..most {
         let row = observations::row_at(st, w, t, x + j);
         if row.number == 0 {
             return c;
         }
-        rows::write_row(out, c, k + 2 * c, row.number, row.time, row.packed);
+        rows::write_row(out, c, k + 2 * c, row);
         c += 1;
-        j += 1;
     }
     c
 }
@@ -80,33 +68,30 @@ fn write_first(st: &[u64], w: u64, t: u64, x: u64, done: u64, k: u64, out: &mut 
     ensures { out.new ≡ rows_at out.old done (k + 2 * done) (table_rows st.now t w 1 x) }
 {
     let row = observations::row_at(st, w, t, x);
-    rows::write_row(out, done, k + 2 * done, row.number, row.time, row.packed);
+    rows::write_row(out, done, k + 2 * done, row);
 }
 
 // The first entry of each selected item, where these are the k rows.
-fn write_firsts(st: &[u64], m: u64, selection: u64, k: u64, out: &mut [u64])
-    requires head { Head m st.now }
-    requires m_le_max_items { m ≤ max_items }
-    requires k_value { (k ≡ length (first_rows st.now m selection)) × (3 * k ≤ length out.old) }
-    ensures { out.new ≡ rows_into out.old k (first_rows st.now m selection) }
+fn write_firsts(st: &Store<'_>, selection: u64, k: u64, out: &mut [u64])
+    requires k_value { (k ≡ length (first_rows st.now (item_count st.now) selection)) × (3 * k ≤ length out.old) }
+    ensures { out.new ≡ rows_into out.old k (first_rows st.now (item_count st.now) selection) }
 {
+    let words = st.slice();
+    let m = st.items();
     let w = spec::ENTRIES * m;
-    let t = observations::latest_at(observations::ring_size(st, m));
+    let t = st.latest_at();
     let mut c: u64 = 0;
-    let mut i: u64 = 0;
-    while i < m {
+    for i in 0..m {
         if selection::has(selection, i) {
-            write_first(st, w, t, spec::ENTRIES * i, c, k, out);
+            write_first(words, w, t, spec::ENTRIES * i, c, k, out);
             c += 1;
         }
-        i += 1;
     }
 }
 
 // The rows of the selected items' latest entries, which are k: of each as many as it has.
-fn write_each(model: &[u32], st: &[u64], selection: u64, k: u64, out: &mut [u64])
-    requires sizes { Sizes model.now }
-    requires head { Head (items model.now) st.now }
+fn write_each(model: &Words<'_>, st: &Store<'_>, selection: u64, k: u64, out: &mut [u64])
+    requires agree { item_count st.now ≡ items model.now }
     requires k_value { k ≡ length
         (current_rows (category model.now) (ring_size st.now) (items model.now) st.now selection) }
     requires k_in_bounds { 3 * k ≤ length out.old }
@@ -115,29 +100,27 @@ fn write_each(model: &[u32], st: &[u64], selection: u64, k: u64, out: &mut [u64]
         let rows = current_rows cat (ring_size st.now) m st.now selection in
         out.new ≡ rows_into out.old k rows }
 {
-    let m = model::items(model);
+    let words = st.slice();
+    let m = model.items();
     let w = spec::ENTRIES * m;
-    let t = observations::latest_at(observations::ring_size(st, m));
+    let t = st.latest_at();
     let mut c: u64 = 0;
-    let mut i: u64 = 0;
-    while i < m {
+    for i in 0..m {
         if selection::has(selection, i) {
-            if model::category(model, i) == spec::CONDITION {
-                c = write_entries(st, w, t, spec::ENTRIES * i, c, k, out);
+            if model.category(i) == spec::CONDITION {
+                c = write_entries(words, w, t, spec::ENTRIES * i, c, k, out);
             } else {
-                write_first(st, w, t, spec::ENTRIES * i, c, k, out);
+                write_first(words, w, t, spec::ENTRIES * i, c, k, out);
                 c += 1;
             }
         }
-        i += 1;
     }
 }
 
 // Current: the rows of the selected items' latest entries, which are k. Most often there is one to an item, whatever
 // its category.
-pub fn write_latest(model: &[u32], st: &[u64], selection: u64, k: u64, out: &mut [u64])
-    requires sizes { Sizes model.now }
-    requires head { Head (items model.now) st.now }
+pub fn write_latest(model: &Words<'_>, st: &Store<'_>, selection: u64, k: u64, out: &mut [u64])
+    requires agree { item_count st.now ≡ items model.now }
     requires fact { let cat = category model.now in
         let m = items model.now in
         (selection < 2 ^ m) × (current_ok cat (ring_size st.now) m st.now selection ≡ true) }
@@ -150,7 +133,7 @@ pub fn write_latest(model: &[u32], st: &[u64], selection: u64, k: u64, out: &mut
         out.new ≡ rows_into out.old k rows }
 {
     if k == selection::count(selection) {
-        write_firsts(st, model::items(model), selection, k, out);
+        write_firsts(st, selection, k, out);
     } else {
         write_each(model, st, selection, k, out);
     }

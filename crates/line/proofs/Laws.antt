@@ -1,38 +1,27 @@
 -- Lines by what the scans answer.
-use Prim.Native.Nat.{ℕ, suc, ◌+◌, ◌-◌, ◌≤◌, ◌<◌}
+use Prim.Native.Nat.{ℕ, suc, ◌≤◌}
 use mathlib.Core.Path.{◌≡◌, refl, sym, ap, ◌∙◌}
-use mathlib.Core.Bool.{Bool, true, false, cond, and-false, true≢false}
-use mathlib.Core.List.{List, [], ◌∷◌, ◌++◌}
+use mathlib.Core.Bool.{Bool, true, false, cond, ◌||◌, true≢false}
+use mathlib.Core.List.{List, [], ◌∷◌}
 use native.Mathlib.Omega.{arith}
 use lib.Dec.{eqb}
-use lib.ListN.{length, take, drop, length-drop}
-use lib.Seq.{take_all}
-use borrow.Author.Tests.{le-leb, lt-leb, eq-eqb, ne_eqb}
-use Rattle.spec.specs.Bytes.{digit, before, split, value_from}
+use lib.ListN.{length}
+use borrow.Author.Tests.{eq-eqb, ne_eqb}
+use Rattle.std.specs.List.{list_any}
+use Rattle.std.specs.Prelude.{Ok, Err}
+use Rattle.spec.specs.Bytes.{digit, split, join_first}
 use Rattle.lines.specs.Stamps.{real_date, time_of, formed, stamp_form, date_in, stamp_text}
-use Rattle.lines.specs.Lines.{numeral, stamp_formed, is_read, dated_line, line_in, by_bar, read_line, form_of, stamp_part}
-use Rattle.lines.specs.declared.Date.{Date}
-use Rattle.lines.specs.declared.Form.{Form}
-use Rattle.lines.specs.declared.Line.{Line}
-use Rattle.lines.specs.declared.Line.TheVariants.{Malformed, BadStamp, Reads}
-use Rattle.spec.specs.declared.Answer.TheVariants.{Done, Refused}
-use Rattle.spec.specs.declared.Refusal.TheVariants.{Space}
-use Rattle.writer.specs.Puts.{stop, Put}
-use Rattle.writer.proofs.Laws.{sets-out}
-use Rattle.line.specs.Written.{text_after, bytes_of}
+use Rattle.lines.specs.Lines.{line_in, by_bar, form_of, stamp_part}
+use Rattle.lines.specs.declared.LineError.TheVariants.{Malformed, BadStamp}
+use Rattle.line.specs.Times.{time_read}
 use Rattle.spec.proofs.Words.{and_right}
 use Rattle.spec.proofs.Bytes.{parts-pos}
-use Rattle.spec.proofs.Cuts.{cut-none, cut-first}
 
 -- ---- stamps
 
-pub empty-formed : (s : List ℕ) → length s ≡ 0 → true ≡ stamp_formed s
-empty-formed [] h = refl
-empty-formed (x ∷ s) h = absurd (omega arith)
-
-pub some-formed : (s : List ℕ) → (length s ≡ 0 → ⊥) → formed stamp_form s ≡ stamp_formed s
-some-formed [] h = absurd (h refl)
-some-formed (x ∷ s) h = refl
+pub no_bytes : (s : List ℕ) → length s ≡ 0 → time_read s ≡ Ok 0
+no_bytes [] h = refl
+no_bytes (x ∷ s) h = absurd (omega arith)
 
 formed-same : (f s : List ℕ) → formed f s ≡ true → length s ≡ length f
 unfolding formed
@@ -42,92 +31,71 @@ formed-same (y ∷ f) [] h = absurd (true≢false (sym h))
 formed-same (y ∷ f) (x ∷ s) h =
     ap suc (formed-same f s (and_right (cond (eqb y 100) (digit x) (eqb x y)) (formed f s) h))
 
-pub formed-24 : (s : List ℕ) → (length s ≡ 0 → ⊥) → stamp_formed s ≡ true → length s ≡ 24
-formed-24 s n h = formed-same stamp_form s (some-formed s n ∙ h)
+pub formed-24 : (s : List ℕ) → formed stamp_form s ≡ true → length s ≡ 24
+formed-24 s h = formed-same stamp_form s h
 
-pub dated-empty : (s : List ℕ) (n : ℕ) (f : Form) → length s ≡ 0 → Reads 0 n f ≡ dated_line s n f
-dated-empty [] n f h = refl
-dated-empty (x ∷ s) n f h = absurd (omega arith)
+pub some-bytes : (s : List ℕ) → (length s ≡ 0 → ⊥) → time_read s
+    ≡ cond (formed stamp_form s) (cond (real_date (date_in s)) (Ok (time_of (date_in s))) (Err BadStamp)) (Err Malformed)
+some-bytes [] h = absurd (h refl)
+some-bytes (x ∷ s) h = refl
 
-module _ (s : List ℕ) (n : ℕ) (f : Form) (d : Date) (b : Bool) (some : length s ≡ 0 → ⊥)
-    (e : d ≡ date_in s) (k : b ≡ real_date d) where
-  pub dated-bad : b ≡ false → BadStamp ≡ dated_line s n f
-  dated-bad h = go s some (ap real_date (sym e) ∙ sym k ∙ h)
-    where
-      go : (s : List ℕ) → (length s ≡ 0 → ⊥) → real_date (date_in s) ≡ false
-          → BadStamp ≡ dated_line s n f
-      go [] m r = absurd (m refl)
-      go (x ∷ s) m r = rw r
-
-  pub dated-good : b ≡ true → (t : ℕ) → t ≡ time_of d → Reads t n f ≡ dated_line s n f
-  dated-good h t u = go s some (ap real_date (sym e) ∙ sym k ∙ h) (u ∙ ap time_of e)
-    where
-      go : (s : List ℕ) → (length s ≡ 0 → ⊥) → real_date (date_in s) ≡ true → t ≡ time_of (date_in s)
-          → Reads t n f ≡ dated_line s n f
-      go [] m r v = absurd (m refl)
-      go (x ∷ s) m r v = rw (r, v)
+pub ruleset stamps = (no_bytes, formed-24, some-bytes)
 
 -- ---- the parts of a line
 
-module _ (stamp item : List ℕ) (f : Form) where
-  pub no-stamp : stamp_formed stamp ≡ false → Malformed ≡ line_in stamp item f
-  unfolding line_in
-  no-stamp h = rw h
+pub one_part : (a : List ℕ) → by_bar (a ∷ []) ≡ Err Malformed
+unfolding by_bar
+one_part a = refl
 
-  pub no_item : numeral item ≡ false → Malformed ≡ line_in stamp item f
-  unfolding line_in
-  no_item h = rw (h, and-false (stamp_formed stamp))
+pub two_parts : (a b : List ℕ) → by_bar (a ∷ b ∷ []) ≡ Err Malformed
+unfolding by_bar
+two_parts a b = refl
 
-  pub no-form : is_read f ≡ false → Malformed ≡ line_in stamp item f
-  unfolding line_in
-  no-form h = rw (h, and-false (numeral item), and-false (stamp_formed stamp))
+-- a text without a bar is one part
+no_bar : (c : List ℕ) → list_any (λ x. eqb x 124) c ≡ false → split 124 c ≡ c ∷ []
+unfolding split join_first
+no_bar [] h = refl
+no_bar (x ∷ c) h = go (eqb x 124) (no_bar c) h
+  where
+    go : (t : Bool) → (list_any (λ x. eqb x 124) c ≡ false → split 124 c ≡ c ∷ [])
+        → t || list_any (λ x. eqb x 124) c ≡ false
+        → cond t ([] ∷ split 124 c) (join_first x (split 124 c)) ≡ (x ∷ c) ∷ []
+    go true ih h = absurd (true≢false h)
+    go false ih h = rw (ih h)
 
-  pub all_there : (n : ℕ) → stamp_formed stamp ≡ true → numeral item ≡ true → n ≡ value_from 0 item
-      → is_read f ≡ true → dated_line stamp n f ≡ line_in stamp item f
-  unfolding line_in
-  all_there n h k e r = rw (h, k, r, e)
+pub three_parts : (a b c : List ℕ) → list_any (λ x. eqb x 124) c ≡ false
+    → by_bar (a ∷ b ∷ split 124 c) ≡ line_in a b (form_of c)
+unfolding by_bar
+three_parts a b c h = rw (no_bar c h)
 
--- cut at the first '|' as the code does
-cut_at : (s : List ℕ) (i : ℕ) → i ≡ before 124 124 s → i < length s
-    → split 124 s ≡ take i s ∷ split 124 (take (length s - (i + 1)) (drop (i + 1) s))
-cut_at s i e h =
-    let t = take_all (length s - (i + 1)) (drop (i + 1) s) (omega (arith, length-drop (i + 1) s)) in
-    rw (cut-first 124 s (omega arith), ← e, t)
+-- and one with a bar at least two
+joined : (x : ℕ) (ps : List (List ℕ)) → 2 ≤ length ps → 2 ≤ length (join_first x ps)
+unfolding join_first
+joined x [] m = absurd (omega arith)
+joined x (p ∷ ps) m = m
 
-pub no-bar : (s : List ℕ) (a : ℕ) → a ≡ before 124 124 s → length s ≤ a → Malformed ≡ read_line s
-unfolding read_line by_bar
-no-bar s a e h = rw (cut-none 124 s (omega arith))
+several : (c : List ℕ) → list_any (λ x. eqb x 124) c ≡ true → 2 ≤ length (split 124 c)
+unfolding split
+several [] h = absurd (true≢false (sym h))
+several (x ∷ c) h = go (eqb x 124) (several c) h
+  where
+    go : (t : Bool) → (list_any (λ x. eqb x 124) c ≡ true → 2 ≤ length (split 124 c))
+        → t || list_any (λ x. eqb x 124) c ≡ true
+        → 2 ≤ length (cond t ([] ∷ split 124 c) (join_first x (split 124 c)))
+    go true ih h = omega (arith, parts-pos 124 c)
+    go false ih h = joined x (split 124 c) (ih h)
 
-module _ (s : List ℕ) (a : ℕ) (e : a ≡ before 124 124 s) (h : a < length s)
-    (rest : List ℕ) (q : rest ≡ take (length s - (a + 1)) (drop (a + 1) s)) (b : ℕ) (f : b ≡ before 124 124 rest) where
-  first-cut : split 124 s ≡ take a s ∷ split 124 rest
-  first-cut = cut_at s a e h ∙ rw q
+pub more_parts : (a b c : List ℕ) → list_any (λ x. eqb x 124) c ≡ true
+    → by_bar (a ∷ b ∷ split 124 c) ≡ Err Malformed
+unfolding by_bar
+more_parts a b c h = go (split 124 c) (several c h)
+  where
+    go : (ps : List (List ℕ)) → 2 ≤ length ps → by_bar (a ∷ b ∷ ps) ≡ Err Malformed
+    go [] m = absurd (omega arith)
+    go (p ∷ []) m = absurd (omega arith)
+    go (p ∷ q ∷ ps) m = refl
 
-  pub one-bar : length rest ≤ b → Malformed ≡ read_line s
-  unfolding read_line by_bar
-  one-bar k = rw (first-cut, cut-none 124 rest (omega arith))
-
-  module _ (k : b < length rest) (value : List ℕ) (p : value ≡ take (length rest - (b + 1)) (drop (b + 1) rest))
-      (c : ℕ) (g : c ≡ before 124 124 value) where
-    second-cut : split 124 s ≡ take a s ∷ take b rest ∷ split 124 value
-    second-cut = first-cut ∙ rw (cut_at rest b f k, p)
-
-    pub three-bars : c < length value → Malformed ≡ read_line s
-    unfolding read_line by_bar
-    three-bars l = rw (second-cut, cut_at value c g l) (go (split 124 tail) (parts-pos 124 tail))
-      where
-        tail : List ℕ
-        tail = take (length value - (c + 1)) (drop (c + 1) value)
-
-        go : (ps : List (List ℕ)) → 1 ≤ length ps
-            → Malformed ≡ by_bar (take a s ∷ take b rest ∷ take c value ∷ ps)
-        go [] m = absurd (omega arith)
-        go (x ∷ ps) m = refl
-
-    pub two-bars : length value ≤ c → (r : Line) (v : Form) → v ≡ form_of value
-        → r ≡ line_in (take a s) (take b rest) v → r ≡ read_line s
-    unfolding read_line by_bar
-    two-bars l r v w x = x ∙ rw (second-cut, cut-none 124 value (omega arith), w)
+pub ruleset bars = (one_part, two_parts, three_parts, more_parts)
 
 -- ---- the writer's stamp
 
@@ -138,28 +106,3 @@ no-time t e = rw (eq-eqb t 0 e)
 pub some-time : (t : ℕ) → (t ≡ 0 → ⊥) → stamp_part t ≡ stamp_text t
 unfolding stamp_part
 some-time t n = rw (ne_eqb t 0 n)
-
--- ---- two passes
-
--- the first pass puts nothing, x, and its place is the line's length as far as places go
-module _ (line text x : List ℕ) (n : ℕ) (a : Put [] 0 line x n) where
-  nothing : x ≡ []
-  nothing = a.stands ∙ sets-out [] 0 line (omega arith)
-
-  pub too_short : length (x ++ text) < n
-      → (x ++ text ≡ text_after line text) × (Refused Space ≡ bytes_of line text)
-  unfolding text_after bytes_of
-  too_short h =
-      let k : length text < n = rw nothing at h in
-      let f = lt-leb (length line) (length text) (omega (arith, a.place)) in
-      (rw (nothing, f), rw f)
-
-  pub fitting : length text < stop → n ≤ length (x ++ text) → (exit : List ℕ) (m : ℕ)
-      → Put (x ++ text) 0 line exit m
-      → (exit ≡ text_after line text) × (Done m ≡ bytes_of line text)
-  unfolding text_after bytes_of
-  fitting r h exit m p =
-      let k : n ≤ length text = rw nothing at h in
-      let f = le-leb (length line) (length text) (omega (arith, a.place)) in
-      let q : m ≡ length line = omega (arith, a.place, p.place) in
-      (rw f (rw nothing at p.stands), rw (f, q))

@@ -3,69 +3,38 @@
 #![tactic(auto)]
 
 ghost use Rattle.std.specs.Prelude.{◌≡◌};
-ghost use Rattle.spec.specs.Model.{Sizes, items, category};
-ghost use Rattle.lines.specs.Lines.{value_for};
+ghost use Rattle.spec.specs.Model.{items};
 ghost use Rattle.history.specs.Observations.{Head};
-ghost use Rattle.history.specs.Calls.{observe_item, observe_reading, observe_line};
+ghost use Rattle.history.specs.Calls.{observe_reading, observe_line};
 
-use lines::{Form, Line};
-use short_way::LEFT;
+use lines::{Line, LineError};
+use model::Words;
 use spec::{ObserveAnswer, Refusal};
 
-// An observation of an item, its value by the form that a line has it in: as observing does it of a word. It is written
-// out here, since the compiler joins observing's own into the walk over a batch only while nobody else calls it.
-fn observe_form(
-    model: &[u32],
-    observations: &mut [u64],
-    item: u64,
-    time: u64,
-    form: Form,
-) -> ObserveAnswer
-    requires sizes { Sizes model.now }
-    requires head { Head (items model.now) observations.old }
-    ensures { let model = model.entry.now in
-        let x = observe_item model observations.old item time (value_for (category model item) form) in
-        (result ≡ x.answer) × (observations.new ≡ x.observations) }
-{
-    if model::items(model) <= item {
-        return ObserveAnswer::Refused(Refusal::Item);
-    }
-    let category = model::category(model, item);
-    let word = line_value::word_for(category, form);
-    if !value::takes_word(category, word) {
-        return ObserveAnswer::Refused(Refusal::Kind);
-    }
-    let packed = value::pack_word(item, word);
-    let short = short_way::observe_short(model, observations, category, item, time, packed);
-    if short != LEFT {
-        return short_way::short_answer(short);
-    }
-    long_way::observe_long(model, observations, category, item, time, packed)
-}
-
 // What a line says, observed behind the checks of model and head.
+#[tactic(auto, using(crate::proofs::Laws::refused))]
 fn observe_reading(
-    model: &[u32],
+    model: &Words<'_>,
     observations: &mut [u64],
-    reading: Line,
+    reading: Result<Line, LineError>,
     host: u64,
 ) -> ObserveAnswer
-    requires sizes { Sizes model.now }
     requires head { Head (items model.now) observations.old }
     ensures { let x = observe_reading reading model.now observations.old host in
         (result ≡ x.answer) × (observations.new ≡ x.observations) }
 {
-    match reading {
-        Line::Malformed => ObserveAnswer::Refused(Refusal::Line),
-        Line::BadStamp => ObserveAnswer::Refused(Refusal::Stamp),
-        Line::Reads(time, item, form) => {
-            let t = observing::time_or(time, host);
-            observe_form(model, observations, item, t, form)
-        }
+    let line = reading?;
+    if model.items() <= line.item {
+        return Err(Refusal::Item);
     }
+    let category = model.category(line.item);
+    let value = line_value::value_for(category, line.form).ok_or(Refusal::Kind)?;
+    let time = observing::time_or(line.time, host);
+    observing::observe_item(model, observations, line.item, time, value)
 }
 
 // An adapter line: the number of its observation, Same where nothing is added, or the refusal.
+#[tactic(auto, unfolding(history::specs::Calls::observe_line))]
 pub fn read_line(
     model: &[u32],
     names: &[u8],
@@ -77,13 +46,10 @@ pub fn read_line(
         line.now host in
         (result ≡ x.answer) × (observations.new ≡ x.observations) }
 {
-    if !model::model_ok(model, names) {
-        return ObserveAnswer::Refused(Refusal::Model);
-    }
-    let m = model::items(model);
-    if !observations::head_ok(observations, m) {
-        return ObserveAnswer::Refused(Refusal::Store);
+    let words = model::checked(model, names)?;
+    if !observations::head_ok(observations, words.items()) {
+        return Err(Refusal::Store);
     }
     let reading = line::read_line(line);
-    observe_reading(model, observations, reading, host)
+    observe_reading(&words, observations, reading, host)
 }

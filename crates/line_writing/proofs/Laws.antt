@@ -1,23 +1,17 @@
 -- The tests ahead of a line's text, one law to each way out, and the text behind them.
 use Prim.Native.Nat.{ℕ, ◌<◌, ◌≤◌}
-use mathlib.Core.Path.{◌≡◌, refl}
+use mathlib.Core.Path.{◌≡◌}
 use mathlib.Core.Bool.{Bool, true, false}
 use mathlib.Core.List.{List}
-use native.Mathlib.Nat.{zero-add}
-use native.Mathlib.Omega.{arith}
-use lib.Dec.{leb}
 use lib.ListN.{length}
-use lib.Seq.{sets-eq}
-use borrow.Author.Tests.{lt-ltb, le-ltb, leb-true, le-leb, lt-leb}
+use borrow.Author.Tests.{lt-ltb, le-ltb, le-leb, lt-leb}
 use Rattle.spec.specs.Value.{takes}
 use Rattle.spec.specs.Model.{items, category, model_ok}
-use Rattle.spec.specs.Reply.{Gives, refuse, written}
+use Rattle.spec.specs.Reply.{refuse, written}
 use Rattle.lines.specs.Stamps.{max_time}
 use Rattle.lines.specs.Lines.{line_of}
 use Rattle.history.specs.Calls.{write_line}
-use Rattle.line.specs.Written.{text_after, bytes_of}
 use Rattle.spec.specs.declared.Value.{Value}
-use Rattle.spec.specs.declared.Answer.{Answer}
 use Rattle.spec.specs.declared.Refusal.TheVariants.{Item, Kind, Stamp}
 use Rattle.spec.proofs.Words.{told}
 
@@ -43,18 +37,3 @@ module _ (model names : List ℕ) (item time : ℕ) (v : Value) (text : List ℕ
         → write_line model names item time v text ≡ written (length (line_of item time v)) (line_of item time v) text
     unfolding write_line
     passed f g = rw (ok, ← em, lt-ltb _ _ h, kind-told f, le-leb _ _ g)
-
--- whole, or not at all
-pub written_is : (line text : List ℕ) {r : Answer} {out : List ℕ}
-    → (out ≡ text_after line text) × (r ≡ bytes_of line text) → Gives r out (written (length line) line text)
-unfolding written text_after bytes_of
-written_is line text {r} {out} g = go (leb (length line) (length text)) refl
-  where
-    go : (b : Bool) → leb (length line) (length text) ≡ b → Gives r out (written (length line) line text)
-    go true e =
-        rw (g.0, g.1, e) (
-          refl,
-          rw (zero-add (length line))
-              at (sets-eq line text 0 (omega (arith, leb-true (length line) (length text) e))),
-        )
-    go false e = rw (g.0, g.1, e) (refl, refl)

@@ -6,9 +6,7 @@ ghost use Rattle.spec.specs.Reply.{Gives};
 ghost use Rattle.history.specs.Calls.{write_line};
 
 use spec::{Answer, Refusal, Value};
-
-// The last millisecond of 2099.
-const MAX_TIME: u64 = 4102444799999;
+use stamp::MAX_TIME;
 
 // The line of an observation: how many bytes it has, or the refusal.
 pub fn write_line(
@@ -22,17 +20,15 @@ pub fn write_line(
     ensures { Gives result text.new
         (write_line model.now names.now item time value text.old) }
 {
-    if !model::model_ok(model, names) {
-        return Answer::Refused(Refusal::Model);
+    let words = model::checked(model, names)?;
+    if words.items() <= item {
+        return Err(Refusal::Item);
     }
-    if model::items(model) <= item {
-        return Answer::Refused(Refusal::Item);
-    }
-    if !value::takes(model::category(model, item), value) {
-        return Answer::Refused(Refusal::Kind);
+    if !value::takes(words.category(item), value) {
+        return Err(Refusal::Kind);
     }
     if MAX_TIME < time {
-        return Answer::Refused(Refusal::Stamp);
+        return Err(Refusal::Stamp);
     }
     line::write_line(text, item, time, value)
 }

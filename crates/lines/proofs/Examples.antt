@@ -6,6 +6,7 @@ use mathlib.Core.Bool.{Bool, true, false}
 use mathlib.Core.List.{List, [], ◌∷◌, map}
 use lib.IntN.{pos, negsuc}
 use lib.ListN.{length, replicate}
+use Rattle.std.specs.Prelude.{Result, Err}
 use Rattle.spec.specs.Bytes.{bytes, all, same, join_first, split, digit, digits, value_from, is_number}
 use Rattle.spec.specs.Value.{no_value, takes}
 use Rattle.spec.specs.declared.Level.TheVariants.{Normal, Warning, Fault}
@@ -14,12 +15,13 @@ use Rattle.spec.specs.declared.Value.TheVariants.{Unavailable, Sample, Event, Co
 use Rattle.lines.specs.Digits.{fixed}
 use Rattle.lines.specs.Stamps.{month_length, month_start, real_date, day_number, time_of, cycle_month, cycle_day}
 use Rattle.lines.specs.Stamps.{cycle_age, date_of, formed, date_in, date_text, max_time}
-use Rattle.lines.specs.Lines.{by_point, decimal_form, state_form, by_colon, form_of, line_in, by_bar, read_line}
-use Rattle.lines.specs.Lines.{value_for}
+use Rattle.lines.specs.Lines.{by_point, decimal_form, state_form, by_colon, form_of, line_in, by_bar, read_line, reads}
+use Rattle.lines.specs.Lines.{value_for, value_read}
 use Rattle.lines.specs.Lines.{part_text, point_text, value_text, stamp_part, line_of}
 use Rattle.lines.specs.declared.Form.TheVariants.{Missing, Decimal, State}
 use Rattle.lines.specs.declared.Line.{Line}
-use Rattle.lines.specs.declared.Line.TheVariants.{Malformed, BadStamp, Reads}
+use Rattle.lines.specs.declared.LineError.{LineError}
+use Rattle.lines.specs.declared.LineError.TheVariants.{Malformed, BadStamp}
 
 -- ---- what they compute with
 
@@ -40,31 +42,31 @@ opened = tt
 -- ---- lines read
 
 -- each of the lines reads so
-abbrev Read : Line → List (List ℕ) → Type 0
+abbrev Read : Result Line LineError → List (List ℕ) → Type 0
 Read r ls = map read_line ls ≡ replicate (length ls) r
 
 -- each kind of value, with and without a stamp; item and numbers of ten digits, an item number that no u32 holds
 pub lines-read :
-    Read (Reads 0 1 Missing) (bytes "|1|UNAVAILABLE" ∷ bytes "|0000000001|UNAVAILABLE" ∷ [])
-    × Read (Reads 1795249800250 7 (Decimal false true 21 500)) (bytes "2026-11-21T08:30:00.250Z|7|21.5" ∷ [])
-    × Read (Reads 0 1 (Decimal false false 5 0)) (bytes "|1|5" ∷ bytes "|1|0000000005" ∷ [])
-    × Read (Reads 0 1 (Decimal false true 5 50)) (bytes "|1|5.05" ∷ bytes "|1|5.050" ∷ [])
-    × Read (Reads 0 1 (Decimal true true 0 500)) (bytes "|1|-0.5" ∷ bytes "|1|-0.50" ∷ bytes "|01|-00.500"
+    Read (reads 0 1 Missing) (bytes "|1|UNAVAILABLE" ∷ bytes "|0000000001|UNAVAILABLE" ∷ [])
+    × Read (reads 1795249800250 7 (Decimal false true 21 500)) (bytes "2026-11-21T08:30:00.250Z|7|21.5" ∷ [])
+    × Read (reads 0 1 (Decimal false false 5 0)) (bytes "|1|5" ∷ bytes "|1|0000000005" ∷ [])
+    × Read (reads 0 1 (Decimal false true 5 50)) (bytes "|1|5.05" ∷ bytes "|1|5.050" ∷ [])
+    × Read (reads 0 1 (Decimal true true 0 500)) (bytes "|1|-0.5" ∷ bytes "|1|-0.50" ∷ bytes "|01|-00.500"
     ∷ [])
-    × Read (Reads 0 1 (Decimal true false 0 0)) (bytes "|1|-0" ∷ [])
-    × Read (Reads 0 1 (Decimal false true 1 500)) (bytes "|1|0000000001.5" ∷ [])
-    × Read (Reads 0 1 (Decimal false true 1234567890 500)) (bytes "|1|1234567890.5" ∷ [])
-    × Read (Reads 0 1 (Decimal false true 9999999999 999)) (bytes "|1|9999999999.999" ∷ [])
-    × Read (Reads 0 4294967296 (Decimal false false 0 0)) (bytes "|4294967296|0" ∷ [])
-    × Read (Reads 0 9999999999 (State Normal 7)) (bytes "|9999999999|NORMAL:7" ∷ [])
-    × Read (Reads 0 2 (State Warning 0)) (bytes "|2|WARNING:0000000000" ∷ [])
-    × Read (Reads 0 2 (State Fault 9999999999)) (bytes "|2|FAULT:9999999999" ∷ [])
+    × Read (reads 0 1 (Decimal true false 0 0)) (bytes "|1|-0" ∷ [])
+    × Read (reads 0 1 (Decimal false true 1 500)) (bytes "|1|0000000001.5" ∷ [])
+    × Read (reads 0 1 (Decimal false true 1234567890 500)) (bytes "|1|1234567890.5" ∷ [])
+    × Read (reads 0 1 (Decimal false true 9999999999 999)) (bytes "|1|9999999999.999" ∷ [])
+    × Read (reads 0 4294967296 (Decimal false false 0 0)) (bytes "|4294967296|0" ∷ [])
+    × Read (reads 0 9999999999 (State Normal 7)) (bytes "|9999999999|NORMAL:7" ∷ [])
+    × Read (reads 0 2 (State Warning 0)) (bytes "|2|WARNING:0000000000" ∷ [])
+    × Read (reads 0 2 (State Fault 9999999999)) (bytes "|2|FAULT:9999999999" ∷ [])
 unfolding opened
 lines-read = (refl, refl, refl, refl, refl, refl, refl, refl, refl, refl, refl, refl, refl)
 
 -- wrong forms of a value: point, sign, digits, words, codes, bytes at the end
 pub values-malformed :
-    Read Malformed
+    Read (Err Malformed)
     (bytes "|1|" ∷ bytes "|1|-" ∷ bytes "|1|+5" ∷ bytes "|1|--5" ∷ bytes "|1|5." ∷ bytes "|1|.5"
     ∷ bytes "|1|-.5"
     ∷ bytes "|1|1.2.3" ∷ bytes "|1|5.0000" ∷ bytes "|1|5.-1" ∷ bytes "|1|00000000005"
@@ -80,7 +82,7 @@ values-malformed = refl
 
 -- wrong forms of the item, and of the line
 pub items-malformed :
-    Read Malformed
+    Read (Err Malformed)
     (bytes "||5" ∷ bytes "|-1|5" ∷ bytes "|1.0|5" ∷ bytes "| 1|5" ∷ bytes "|00000000001|5" ∷ bytes ""
     ∷ bytes "|1"
     ∷ bytes "1" ∷ bytes "||" ∷ bytes "|1|5|" ∷ bytes "|1|5|6" ∷ bytes "||1|5" ∷ [])
@@ -91,19 +93,19 @@ items-malformed = refl
 
 -- first and last millisecond, leap days, the end of a day; no stamp is time 0
 pub stamps-read :
-    Read (Reads 0 1 Missing) (bytes "1970-01-01T00:00:00.000Z|1|UNAVAILABLE" ∷ bytes "|1|UNAVAILABLE" ∷ [])
-    × Read (Reads 1 1 Missing) (bytes "1970-01-01T00:00:00.001Z|1|UNAVAILABLE" ∷ [])
-    × Read (Reads 4102444799999 1 Missing) (bytes "2099-12-31T23:59:59.999Z|1|UNAVAILABLE" ∷ [])
-    × Read (Reads 68169600000 1 Missing) (bytes "1972-02-29T00:00:00.000Z|1|UNAVAILABLE" ∷ [])
-    × Read (Reads 951782400000 1 Missing) (bytes "2000-02-29T00:00:00.000Z|1|UNAVAILABLE" ∷ [])
-    × Read (Reads 1709251199999 1 Missing) (bytes "2024-02-29T23:59:59.999Z|1|UNAVAILABLE" ∷ [])
-    × Read (Reads 3981312000000 1 Missing) (bytes "2096-02-29T00:00:00.000Z|1|UNAVAILABLE" ∷ [])
+    Read (reads 0 1 Missing) (bytes "1970-01-01T00:00:00.000Z|1|UNAVAILABLE" ∷ bytes "|1|UNAVAILABLE" ∷ [])
+    × Read (reads 1 1 Missing) (bytes "1970-01-01T00:00:00.001Z|1|UNAVAILABLE" ∷ [])
+    × Read (reads 4102444799999 1 Missing) (bytes "2099-12-31T23:59:59.999Z|1|UNAVAILABLE" ∷ [])
+    × Read (reads 68169600000 1 Missing) (bytes "1972-02-29T00:00:00.000Z|1|UNAVAILABLE" ∷ [])
+    × Read (reads 951782400000 1 Missing) (bytes "2000-02-29T00:00:00.000Z|1|UNAVAILABLE" ∷ [])
+    × Read (reads 1709251199999 1 Missing) (bytes "2024-02-29T23:59:59.999Z|1|UNAVAILABLE" ∷ [])
+    × Read (reads 3981312000000 1 Missing) (bytes "2096-02-29T00:00:00.000Z|1|UNAVAILABLE" ∷ [])
 unfolding opened
 stamps-read = (refl, refl, refl, refl, refl, refl, refl)
 
 -- of the right form, but no date or time of day of 1970 to 2099
 pub stamps-impossible :
-    Read BadStamp
+    Read (Err BadStamp)
     (bytes "1969-12-31T23:59:59.999Z|1|0" ∷ bytes "2100-01-01T00:00:00.000Z|1|0"
     ∷ bytes "0000-01-01T00:00:00.000Z|1|0" ∷ bytes "9999-12-31T23:59:59.999Z|1|0"
     ∷ bytes "2099-02-29T00:00:00.000Z|1|0" ∷ bytes "2023-02-29T00:00:00.000Z|1|0"
@@ -116,7 +118,7 @@ stamps-impossible = refl
 
 -- not of the form, which goes before an impossible date
 pub stamps-malformed :
-    Read Malformed
+    Read (Err Malformed)
     (bytes "                        |1|0" ∷ bytes " |1|0" ∷ bytes "2024-01-01T00:00:00Z|1|0"
     ∷ bytes "2024-01-01T00:00:00.00Z|1|0" ∷ bytes "2024-01-01T00:00:00.0000Z|1|0"
     ∷ bytes "2024-01-01T00:00:00.000|1|0" ∷ bytes "2024-01-01T00:00:00.000+|1|0"
@@ -158,7 +160,7 @@ month-lengths = (refl, refl, refl, refl, refl, refl, refl, refl, refl)
 
 -- the text's value for an item of the category
 abbrev Value-of : ℕ → Value → List (List ℕ) → Type 0
-Value-of category v ss = map (λ s. value_for category (form_of s)) ss ≡ replicate (length ss) v
+Value-of category v ss = map (λ s. value_read category (form_of s)) ss ≡ replicate (length ss) v
 
 -- samples to the bounds of 32 bits, codes, native codes
 pub values-given :
@@ -190,7 +192,7 @@ values-too-large = (refl, refl, refl)
 
 -- whether an item of the category takes each of the texts
 abbrev Taken : Bool → ℕ → List (List ℕ) → Type 0
-Taken b category ss = map (λ s. takes category (value_for category (form_of s))) ss ≡ replicate (length ss) b
+Taken b category ss = map (λ s. takes category (value_read category (form_of s))) ss ≡ replicate (length ss) b
 
 -- of another category's form, or too large for the kind
 pub values-refused :

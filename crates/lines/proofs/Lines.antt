@@ -5,6 +5,7 @@ use mathlib.Core.Path.{◌≡◌, refl, sym, ap, ◌∙◌}
 use mathlib.Core.Bool.{Bool, true, false, cond, ◌&&◌, not, and-eq-true_iff, true≢false}
 use mathlib.Core.List.{List, [], ◌∷◌, ◌++◌, append-nil}
 use native.Mathlib.Omega.{arith}
+use Rattle.std.specs.Prelude.{Option, Some, None, Result, Ok, Err}
 use lib.Dec.{leb, ltb, eqb}
 use lib.IntN.{ℤ, pos, negsuc}
 use lib.ListN.{length}
@@ -15,7 +16,7 @@ use Rattle.lines.specs.Digits.{fixed}
 use Rattle.spec.specs.Value.{no_value, takes, FitsSample, Fits}
 use Rattle.lines.specs.Stamps.{formed, stamp_form, date_in, real_date, time_of, date_of, date_text, max_time}
 use Rattle.lines.specs.Lines.{numeral, fraction, thousandths, by_point, decimal_form, level_word, state_form}
-use Rattle.lines.specs.Lines.{by_colon, form_of, line_in, by_bar, read_line, is_read, stamp_formed, stamp_real}
+use Rattle.lines.specs.Lines.{by_colon, form_of, line_in, by_bar, read_line, reads, stamp_formed, stamp_real}
 use Rattle.lines.specs.Lines.{time_in, sample_for, event_for, value_for, part_text, point_text, unsigned_text}
 use Rattle.lines.specs.Lines.{sample_text}
 use Rattle.lines.specs.Lines.{value_text, stamp_part, line_of}
@@ -24,9 +25,11 @@ use Rattle.spec.specs.declared.Level.TheVariants.{Normal, Warning, Fault}
 use Rattle.spec.specs.declared.Value.{Value}
 use Rattle.spec.specs.declared.Value.TheVariants.{Unavailable, Sample, Event, Condition}
 use Rattle.lines.specs.declared.Form.{Form}
-use Rattle.lines.specs.declared.Form.TheVariants.{Unread, Missing, Decimal, State}
-use Rattle.lines.specs.declared.Line.TheVariants.{Malformed, BadStamp, Reads}
-use Rattle.spec.proofs.Words.{and_left, and_right, every-at}
+use Rattle.lines.specs.declared.Form.TheVariants.{Missing, Decimal, State}
+use Rattle.lines.specs.declared.Line.{Line}
+use Rattle.lines.specs.declared.LineError.{LineError}
+use Rattle.lines.specs.declared.LineError.TheVariants.{Malformed, BadStamp}
+use Rattle.spec.proofs.Words.{and_right, every-at}
 use Rattle.spec.proofs.Packing.{Coded, taken-coded, cond-fits, no-value-fits}
 use Rattle.spec.proofs.Bytes.{Lacks, all_append, all-imp, split-last, split-more, same-ne}
 use Rattle.spec.proofs.Digits.{Spells, decimal-spells, spelled, digit-other, digits-lack}
@@ -80,7 +83,6 @@ event-fits minus point n =
 
 pub value-fits : (category : ℕ) (f : Form) → Fits (value_for category f)
 unfolding value_for
-value-fits category Unread = no-value-fits
 value-fits category Missing = tt
 value-fits category (Decimal minus point whole part) =
     cond-fits (eqb category 0) (sample_for minus (whole * 1000 + part)) (event_for minus point whole)
@@ -123,13 +125,13 @@ part-digits n h k = each_part (λ n. all digit (part_text n)) refl n h k
 
 -- behind the sign: the whole part, and the thousandths if there are any
 module _ (minus : Bool) (n : ℕ) (h : n / 1000 < 10 ^ 10) where
-  figures : by_point minus (split 46 (unsigned_text n)) ≡ Decimal minus (pointed n) (n / 1000) (n % 1000)
+  figures : by_point minus (split 46 (unsigned_text n)) ≡ Some (Decimal minus (pointed n) (n / 1000) (n % 1000))
   unfolding by_point point_text digit
   figures = go (eqb (n % 1000) 0) refl
     where
       go : (t : Bool) → eqb (n % 1000) 0 ≡ t
           → by_point minus (split 46 (decimal (n / 1000) ++ cond t [] (46 ∷ part_text (n % 1000))))
-          ≡ Decimal minus (not t) (n / 1000) (n % 1000)
+          ≡ Some (Decimal minus (not t) (n / 1000) (n % 1000))
       go true e =
           rw (
             append-nil (decimal (n / 1000)),
@@ -201,7 +203,7 @@ number-form s h k =
     (eqb x 85))) e) in
     rw (split-last 58 s h, same-ne s (bytes "UNAVAILABLE") other)
 
-sample-form : (x : ℤ) → FitsSample x → decimal_form (sample_text x) ≡ form_for (Sample x)
+sample-form : (x : ℤ) → FitsSample x → decimal_form (sample_text x) ≡ Some (form_for (Sample x))
 unfolding decimal_form
 sample-form (pos n) h =
     let l : n / 1000 < 10 ^ 10 = omega arith in
@@ -209,7 +211,7 @@ sample-form (pos n) h =
     unsigned-first (decimal (n / 1000)) (point_text (n % 1000)) s.some-digit s.classed ∙ figures false n l
 sample-form (negsuc n) h = figures true (suc n) (omega arith)
 
-event-form : (c : ℕ) → c < 10 ^ 10 → decimal_form (decimal c) ≡ Decimal false false c 0
+event-form : (c : ℕ) → c < 10 ^ 10 → decimal_form (decimal c) ≡ Some (Decimal false false c 0)
 unfolding by_point digit
 event-form c h =
     let s = numeral-of c h in
@@ -223,14 +225,14 @@ level-lacks Normal = refl
 level-lacks Warning = refl
 level-lacks Fault = refl
 
-state-form : (l : Level) (c : ℕ) → state_form (level_word l) c ≡ State l c
+state-form : (l : Level) (c : ℕ) → state_form (level_word l) c ≡ Some (State l c)
 unfolding state_form same
 state-form Normal c = refl
 state-form Warning c = refl
 state-form Fault c = refl
 
 -- a value's text reads to its form
-pub text-form : (v : Value) → Coded v → form_of (value_text v) ≡ form_for v
+pub text-form : (v : Value) → Coded v → form_of (value_text v) ≡ Some (form_for v)
 unfolding value_text form_of by_colon split join_first same digit
 text-form Unavailable h = refl
 text-form (Sample x) h =
@@ -257,13 +259,6 @@ value-lacks (Event c) h = numeral-lacks 124 c refl (omega arith)
 value-lacks (Condition Normal c) h = numeral-lacks 124 c refl (omega arith)
 value-lacks (Condition Warning c) h = numeral-lacks 124 c refl (omega arith)
 value-lacks (Condition Fault c) h = numeral-lacks 124 c refl (omega arith)
-
-form-read : (v : Value) → is_read (form_for v) ≡ true
-form-read Unavailable = refl
-form-read (Sample (pos n)) = refl
-form-read (Sample (negsuc n)) = refl
-form-read (Event c) = refl
-form-read (Condition l c) = refl
 
 -- ---- lines
 
@@ -303,7 +298,7 @@ part-stamp t h = go (eqb t 0) refl
 
 -- the line of an item, time and value reads to them, the value by its form
 pub line_reads : (item time : ℕ) (v : Value) → item < 10 ^ 10 → time ≤ max_time → Coded v
-    → read_line (line_of item time v) ≡ Reads time item (form_for v)
+    → read_line (line_of item time v) ≡ reads time item (form_for v)
 unfolding read_line line_of by_bar line_in digit
 line_reads item time v hi ht hv =
     let s = part-stamp time ht in
@@ -314,7 +309,6 @@ line_reads item time v hi ht hv =
       text-form v hv,
       s.shape,
       is-numeral item hi,
-      form-read v,
       s.real,
       s.time,
       (numeral-of item hi).value,
@@ -322,7 +316,7 @@ line_reads item time v hi ht hv =
 
 -- 06.9: and the form is the value, for an item of the category
 pub record LineBack (category item time : ℕ) (v : Value) (form : Form) : Type 0 where
-  pub line : read_line (line_of item time v) ≡ Reads time item form
+  pub line : read_line (line_of item time v) ≡ reads time item form
   pub value : value_for category form ≡ v
 
 -- what an item takes suits its category
@@ -340,6 +334,9 @@ line-back category item time v hi ht h f =
     let c = taken-coded category v h f in
     record { line = line_reads item time v hi ht c; value = value-back category v (taken-suits category v h) c }
 
+same-line : {a b : Line} → ◌≡◌ {A = Result Line LineError} (Ok a) (Ok b) → a ≡ b
+same-line e = cc
+
 -- so two observations have two lines: from one line follow item and time, and of one category the value
 pub lines-differ : (category category' item item' time time' : ℕ) (v v' : Value) → item < 10 ^ 10
     → item' < 10 ^ 10 → time ≤ max_time → time' ≤ max_time
@@ -349,10 +346,12 @@ pub lines-differ : (category category' item item' time time' : ℕ) (v v' : Valu
 lines-differ category category' item item' time time' v v' hi hi' ht ht' h h' f f' e =
     let a = line-back category item time v hi ht h f in
     let b = line-back category' item' time' v' hi' ht' h' f' in
-    let l : Reads time item (form_for v) ≡ Reads time' item' (form_for v') =
-    sym a.line ∙ ap read_line e ∙ b.line in
-    let g : form_for v ≡ form_for v' = cc in
-    ((cc), (cc), λ k. sym a.value ∙ ap (value_for category) g ∙ rw (← k) at b.value)
+    let l = same-line (sym a.line ∙ ap read_line e ∙ b.line) in
+    let g = ap (λ (l : Line). l.form) l in (
+      ap (λ (l : Line). l.item) l,
+      ap (λ (l : Line). l.time) l,
+      λ k. sym a.value ∙ ap (value_for category) g ∙ rw (← k) at b.value,
+    )
 
 -- ---- what any line that reads gives
 
@@ -373,36 +372,35 @@ numeral-max s h =
     omega arith
 
 module _ (time item : ℕ) (f : Form) where
-  malformed : Malformed ≡ Reads time item f → Bounded time item
-  malformed e = let z : ◌≡◌ {A = ℕ} 0 1 = cc in absurd (omega arith)
+  not-read : (x : LineError) → Err x ≡ reads time item f → Bounded time item
+  not-read x e = let z : ◌≡◌ {A = ℕ} 0 1 = cc in absurd (omega arith)
 
-  bad-stamp : BadStamp ≡ Reads time item f → Bounded time item
-  bad-stamp e = let z : ◌≡◌ {A = ℕ} 0 1 = cc in absurd (omega arith)
-
-  parts-bounded : (a b : List ℕ) (g : Form) → line_in a b g ≡ Reads time item f → Bounded time item
+  parts-bounded : (a b : List ℕ) (g : Option Form) → line_in a b g ≡ reads time item f → Bounded time item
   unfolding line_in
-  parts-bounded a b g = go (stamp_formed a && (numeral b && is_read g)) refl (stamp_real a) refl
+  parts-bounded a b None e = not-read Malformed e
+  parts-bounded a b (Some g) e = go (stamp_formed a && numeral b) refl (stamp_real a) refl e
     where
-      go : (t : Bool) → stamp_formed a && (numeral b && is_read g) ≡ t → (r : Bool) → stamp_real a ≡ r
-          → cond t (cond r (Reads (time_in a) (value_from 0 b) g) BadStamp) Malformed ≡ Reads time item f
+      go : (t : Bool) → stamp_formed a && numeral b ≡ t → (r : Bool) → stamp_real a ≡ r
+          → cond t (cond r (reads (time_in a) (value_from 0 b) g) (Err BadStamp)) (Err Malformed) ≡ reads time item f
           → Bounded time item
-      go false p r q e = malformed e
-      go true p false q e = bad-stamp e
+      go false p r q e = not-read Malformed e
+      go true p false q e = not-read BadStamp e
       go true p true q e =
-          let n = and_left (numeral b) _ (and_right (stamp_formed a) _ p) in
-          let x : time_in a ≡ time = cc in
-          let y : value_from 0 b ≡ item = cc in
+          let n = and_right (stamp_formed a) (numeral b) p in
+          let l = same-line e in
+          let x : time_in a ≡ time = ap (λ (l : Line). l.time) l in
+          let y : value_from 0 b ≡ item = ap (λ (l : Line). l.item) l in
           record { time-to = omega (arith, stamp-max a q); item-to = omega (arith, numeral-max b n) }
 
-  bars-bounded : (ps : List (List ℕ)) → by_bar ps ≡ Reads time item f → Bounded time item
+  bars-bounded : (ps : List (List ℕ)) → by_bar ps ≡ reads time item f → Bounded time item
   unfolding by_bar
-  bars-bounded [] e = malformed e
-  bars-bounded (a ∷ []) e = malformed e
-  bars-bounded (a ∷ b ∷ []) e = malformed e
+  bars-bounded [] e = not-read Malformed e
+  bars-bounded (a ∷ []) e = not-read Malformed e
+  bars-bounded (a ∷ b ∷ []) e = not-read Malformed e
   bars-bounded (a ∷ b ∷ c ∷ []) e = parts-bounded a b (form_of c) e
-  bars-bounded (a ∷ b ∷ c ∷ d ∷ ps) e = malformed e
+  bars-bounded (a ∷ b ∷ c ∷ d ∷ ps) e = not-read Malformed e
 
-pub reads-bounded : (s : List ℕ) (time item : ℕ) (f : Form) → read_line s ≡ Reads time item f
+pub reads-bounded : (s : List ℕ) (time item : ℕ) (f : Form) → read_line s ≡ reads time item f
     → Bounded time item
 unfolding read_line
 reads-bounded s time item f e = bars-bounded time item f (split 124 s) e

@@ -5,6 +5,7 @@ use mathlib.Core.Bool.{Bool, true, false, ◌&&◌, true≢false}
 use mathlib.Core.List.{List, [], ◌∷◌, ◌++◌, append-nil, append_assoc}
 use native.Mathlib.Nat.{pow-suc, add-suc, suc-add, add-zero, zero-add, mul-one, le_of_suc-le-suc}
 use native.Mathlib.Omega.{arith}
+use Rattle.std.specs.Prelude.{Option, Some, None, Result, Ok, Err}
 use lib.Arith.{digits_div, digits_mod}
 use lib.Dec.{leb, ltb, eqb}
 use lib.ListN.{length, take, drop, replicate, length-append, take-append-drop}
@@ -15,16 +16,16 @@ use Rattle.spec.specs.Value.{native_ok, takes, no_value}
 use Rattle.lines.specs.Digits.{fixed}
 use Rattle.lines.specs.Stamps.{formed, stamp_form, field, date_in, date_text}
 use Rattle.lines.specs.Lines.{numeral, fraction, thousandths, by_point, decimal_form, level_word, state_form}
-use Rattle.lines.specs.Lines.{plain_form, by_colon, form_of, line_in, by_bar, read_line, is_read, stamp_formed}
-use Rattle.lines.specs.Lines.{stamp_real, time_in, sample_for, event_for, value_for, part_text, point_text}
+use Rattle.lines.specs.Lines.{plain_form, by_colon, form_of, line_in, by_bar, read_line, reads, stamp_formed}
+use Rattle.lines.specs.Lines.{stamp_real, time_in, sample_for, event_for, value_for, value_read, part_text, point_text}
 use Rattle.lines.specs.Lines.{unsigned_text, value_text, stamp_part, line_of}
 use Rattle.spec.specs.declared.Level.{Level}
 use Rattle.spec.specs.declared.Level.TheVariants.{Normal, Warning, Fault}
 use Rattle.spec.specs.declared.Value.{Value}
 use Rattle.lines.specs.declared.Form.{Form}
-use Rattle.lines.specs.declared.Form.TheVariants.{Unread, Decimal, State}
+use Rattle.lines.specs.declared.Form.TheVariants.{Decimal, State}
 use Rattle.lines.specs.declared.Line.{Line}
-use Rattle.lines.specs.declared.Line.TheVariants.{Malformed, BadStamp, Reads}
+use Rattle.lines.specs.declared.LineError.{LineError}
 use Rattle.spec.proofs.Words.{and_left, and_right, by_cond}
 use Rattle.spec.proofs.Bytes.{join, join-split, same_true}
 use Rattle.spec.proofs.Digits.{Spells, tenth}
@@ -222,8 +223,8 @@ unsigned-short w t l h k = rw (digits_div w l, digits_mod w l) (joined h k)
 abbrev ValueShort : ℕ → List ℕ → Value → Type 0
 ValueShort category s v = takes category v ≡ true → NoLonger (value_text v) s
 
-abbrev FormShort : ℕ → List ℕ → Form → Type 0
-FormShort category s f = ValueShort category s (value_for category f)
+abbrev FormShort : ℕ → List ℕ → Option Form → Type 0
+FormShort category s f = ValueShort category s (value_read category f)
 
 abbrev signed : Bool → List ℕ → List ℕ
 signed true s = 45 ∷ s
@@ -251,15 +252,14 @@ module _ (category : ℕ) where
 
   decimal-short : (minus point : Bool) (w t : ℕ) (s : List ℕ) → NoLonger (unsigned_text (w * 1000 + t)) s
       → (point ≡ false → NoLonger (decimal w) s)
-      → FormShort category (signed minus s) (Decimal minus point w t)
+      → FormShort category (signed minus s) (Some (Decimal minus point w t))
   unfolding value_for
   decimal-short minus point w t s h k =
       by_cond (ValueShort category (signed minus s)) (eqb category 0) _ _
       (λ e. sample-short minus (w * 1000 + t) s h)
       (λ e. event-short minus point w s k)
 
-  unread-short : (s : List ℕ) → FormShort category s Unread
-  unfolding value_for
+  unread-short : (s : List ℕ) → FormShort category s None
   unread-short s = refused
 
   -- the parts between points
@@ -308,7 +308,7 @@ module _ (category : ℕ) where
 
   -- a level's word, ':' and digits
   level-short : (l : Level) (w : List ℕ) {c : List ℕ} (n : ℕ) → same w (level_word l) ≡ true → NoLonger (decimal n) c
-      → FormShort category (w ++ 58 ∷ c) (State l n)
+      → FormShort category (w ++ 58 ∷ c) (Some (State l n))
   unfolding value_for value_text
   level-short l w {c} n e h =
       by_cond (ValueShort category (w ++ 58 ∷ c)) (ltb n (2 ^ 24)) _ _
@@ -419,27 +419,31 @@ stamp-short (x ∷ s) f r =
 
 -- ---- lines
 
-abbrev LineShort : ℕ → List ℕ → Line → Type 0
-LineShort category s Malformed = Unit {0}
-LineShort category s BadStamp = Unit {0}
-LineShort category s (Reads time item f) =
-    takes category (value_for category f) ≡ true → NoLonger (line_of item time (value_for category f)) s
+abbrev LineShort : ℕ → List ℕ → Result Line LineError → Type 0
+LineShort category s (Err e) = Unit {0}
+LineShort category s (Ok l) =
+    let v = value_for category l.form in takes category v ≡ true → NoLonger (line_of l.item l.time v) s
 
 module _ (category : ℕ) where
+  parts-short : (a b c : List ℕ) (f : Option Form) → FormShort category c f
+      → LineShort category (a ++ 124 ∷ (b ++ 124 ∷ c)) (line_in a b f)
+  unfolding line_in line_of
+  parts-short a b c None h = tt
+  parts-short a b c (Some f) h =
+      let choose = by_cond (LineShort category (a ++ 124 ∷ (b ++ 124 ∷ c))) in
+      choose (stamp_formed a && numeral b) _ _
+      (λ e. choose (stamp_real a) _ _
+      (λ r k. joined (stamp-short a (and_left (stamp_formed a) _ e) r)
+      (behind 124 (joined (numeral-short b (and_right (stamp_formed a) _ e)) (behind 124 (h k)))))
+      (λ r. tt))
+      (λ e. tt)
+
   bars-short : (ps : List (List ℕ)) → LineShort category (join 124 ps) (by_bar ps)
-  unfolding by_bar join line_in line_of
+  unfolding by_bar join
   bars-short [] = tt
   bars-short (a ∷ []) = tt
   bars-short (a ∷ b ∷ []) = tt
-  bars-short (a ∷ b ∷ c ∷ []) =
-      let choose = by_cond (LineShort category (a ++ 124 ∷ (b ++ 124 ∷ c))) in
-      choose (stamp_formed a && (numeral b && is_read (form_of c))) _ _
-      (λ e. choose (stamp_real a) _ _
-      (λ r k. joined (stamp-short a (and_left (stamp_formed a) _ e) r)
-      (behind 124 (joined (numeral-short b (and_left (numeral b) _ (and_right (stamp_formed a) _ e)))
-      (behind 124 (value-short category c k)))))
-      (λ r. tt))
-      (λ e. tt)
+  bars-short (a ∷ b ∷ c ∷ []) = parts-short a b c (form_of c) (value-short category c)
   bars-short (a ∷ b ∷ c ∷ d ∷ ps) = tt
 
   line-short : (s : List ℕ) → LineShort category s (read_line s)
@@ -450,11 +454,11 @@ module _ (category : ℕ) where
 
 -- s reads to a time, an item and a value that the category takes
 module _ (category item time : ℕ) (v : Value) (s : List ℕ) (form : Form) (taken : takes category v ≡ true)
-    (reads : read_line s ≡ Reads time item form) (value : value_for category form ≡ v) where
+    (reads-to : read_line s ≡ reads time item form) (value : value_for category form ≡ v) where
   line-least : NoLonger (line_of item time v) s
   line-least =
       subst (λ (u : Value). takes category u ≡ true → NoLonger (line_of item time u) s) value
-      (subst (LineShort category s) reads (line-short category s)) taken
+      (subst (LineShort category s) reads-to (line-short category s)) taken
 
   -- 06.8: the writer's line is no longer than s
   pub shortest : length (line_of item time v) ≤ length s

@@ -2,3 +2,4 @@
 pub mod Digits
 pub mod Stamps
 pub mod Lines
+pub mod Refusals

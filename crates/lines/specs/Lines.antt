@@ -1,5 +1,5 @@
 -- Adapter lines, `stamp|item|value`, read and written: document 02, Req 06.
-use Rattle.std.specs.Prelude.{ℕ, zero, suc, ◌+◌, ◌-◌, ◌*◌, ◌/◌, ◌%◌, ◌^◌, Bool, true, false, cond, ◌&&◌, not, List, [], ◌∷◌, ◌++◌, ltb, eqb, ℤ, pos, negsuc, length}
+use Rattle.std.specs.Prelude.{ℕ, zero, suc, ◌+◌, ◌-◌, ◌*◌, ◌/◌, ◌%◌, ◌^◌, Bool, true, false, cond, ◌&&◌, not, List, [], ◌∷◌, ◌++◌, ltb, eqb, ℤ, pos, negsuc, length, Option, Some, None, Result, Ok, Err}
 use Rattle.spec.specs.Bytes.{bytes, same, split, value_from, decimal, is_number}
 use Rattle.spec.specs.Value.{no_value}
 use Rattle.lines.specs.Digits.{fixed}
@@ -9,9 +9,10 @@ use Rattle.spec.specs.declared.Level.TheVariants.{Normal, Warning, Fault}
 use Rattle.spec.specs.declared.Value.{Value}
 use Rattle.spec.specs.declared.Value.TheVariants.{Unavailable, Sample, Event, Condition}
 use Rattle.lines.specs.declared.Form.{Form}
-use Rattle.lines.specs.declared.Form.TheVariants.{Unread, Missing, Decimal, State}
+use Rattle.lines.specs.declared.Form.TheVariants.{Missing, Decimal, State}
 use Rattle.lines.specs.declared.Line.{Line}
-use Rattle.lines.specs.declared.Line.TheVariants.{Malformed, BadStamp, Reads}
+use Rattle.lines.specs.declared.LineError.{LineError}
+use Rattle.lines.specs.declared.LineError.TheVariants.{Malformed, BadStamp}
 
 -- ---- the forms of a value
 
@@ -26,21 +27,21 @@ fraction s = is_number 3 999 s
 abbrev pub thousandths : List ℕ → ℕ
 thousandths s = value_from 0 s * 10 ^ (3 - length s)
 
-abbrev pub whole_form : Bool → List ℕ → Form
-whole_form minus w = cond (numeral w) (Decimal minus false (value_from 0 w) 0) Unread
+abbrev pub whole_form : Bool → List ℕ → Option Form
+whole_form minus w = cond (numeral w) (Some (Decimal minus false (value_from 0 w) 0)) None
 
-abbrev pub point_form : Bool → List ℕ → List ℕ → Form
-point_form minus w p = cond (numeral w && fraction p) (Decimal minus true (value_from 0 w) (thousandths p)) Unread
+abbrev pub point_form : Bool → List ℕ → List ℕ → Option Form
+point_form minus w p = cond (numeral w && fraction p) (Some (Decimal minus true (value_from 0 w) (thousandths p))) None
 
 -- the whole part, or that and what stands behind the point
-unfoldable pub by_point : Bool → List (List ℕ) → Form
-by_point minus [] = Unread
+unfoldable pub by_point : Bool → List (List ℕ) → Option Form
+by_point minus [] = None
 by_point minus (w ∷ []) = whole_form minus w
 by_point minus (w ∷ p ∷ []) = point_form minus w p
-by_point minus (w ∷ p ∷ q ∷ ps) = Unread
+by_point minus (w ∷ p ∷ q ∷ ps) = None
 
-unfoldable pub decimal_form : List ℕ → Form
-decimal_form [] = Unread
+unfoldable pub decimal_form : List ℕ → Option Form
+decimal_form [] = None
 decimal_form (x ∷ s) = cond (eqb x 45) (by_point true (split 46 s)) (by_point false (split 46 (x ∷ s)))
 
 abbrev pub level_word : Level → List ℕ
@@ -48,26 +49,26 @@ level_word Normal = bytes "NORMAL"
 level_word Warning = bytes "WARNING"
 level_word Fault = bytes "FAULT"
 
-unfoldable pub state_form : List ℕ → ℕ → Form
+unfoldable pub state_form : List ℕ → ℕ → Option Form
 state_form w code =
-    cond (same w (level_word Normal)) (State Normal code)
-    (cond (same w (level_word Warning)) (State Warning code)
-    (cond (same w (level_word Fault)) (State Fault code) Unread))
+    cond (same w (level_word Normal)) (Some (State Normal code))
+    (cond (same w (level_word Warning)) (Some (State Warning code))
+    (cond (same w (level_word Fault)) (Some (State Fault code)) None))
 
-abbrev pub coded_form : List ℕ → List ℕ → Form
-coded_form w c = cond (numeral c) (state_form w (value_from 0 c)) Unread
+abbrev pub coded_form : List ℕ → List ℕ → Option Form
+coded_form w c = cond (numeral c) (state_form w (value_from 0 c)) None
 
-abbrev pub plain_form : List ℕ → Form
-plain_form s = cond (same s (bytes "UNAVAILABLE")) Missing (decimal_form s)
+abbrev pub plain_form : List ℕ → Option Form
+plain_form s = cond (same s (bytes "UNAVAILABLE")) (Some Missing) (decimal_form s)
 
 -- a value without ':', or a level's word and its code
-unfoldable pub by_colon : List (List ℕ) → Form
-by_colon [] = Unread
+unfoldable pub by_colon : List (List ℕ) → Option Form
+by_colon [] = None
 by_colon (s ∷ []) = plain_form s
 by_colon (w ∷ c ∷ []) = coded_form w c
-by_colon (w ∷ c ∷ d ∷ ps) = Unread
+by_colon (w ∷ c ∷ d ∷ ps) = None
 
-unfoldable pub form_of : List ℕ → Form
+unfoldable pub form_of : List ℕ → Option Form
 form_of s = by_colon (split 58 s)
 
 -- ---- a line
@@ -86,28 +87,27 @@ abbrev pub time_in : List ℕ → ℕ
 time_in [] = 0
 time_in (x ∷ s) = time_of (date_in (x ∷ s))
 
-abbrev pub is_read : Form → Bool
-is_read Unread = false
-is_read Missing = true
-is_read (Decimal minus point whole part) = true
-is_read (State level code) = true
+-- what a line that is read says
+abbrev pub reads : ℕ → ℕ → Form → Result Line LineError
+reads time item form = Ok (record { time = time; item = item; form = form })
 
-abbrev pub dated_line : List ℕ → ℕ → Form → Line
-dated_line stamp n f = cond (stamp_real stamp) (Reads (time_in stamp) n f) BadStamp
+abbrev pub dated_line : List ℕ → ℕ → Form → Result Line LineError
+dated_line stamp n f = cond (stamp_real stamp) (reads (time_in stamp) n f) (Err BadStamp)
 
 -- a wrong form of any part comes before a date that there isn't
-unfoldable pub line_in : List ℕ → List ℕ → Form → Line
-line_in stamp item f =
-    cond (stamp_formed stamp && (numeral item && is_read f)) (dated_line stamp (value_from 0 item) f) Malformed
+unfoldable pub line_in : List ℕ → List ℕ → Option Form → Result Line LineError
+line_in stamp item None = Err Malformed
+line_in stamp item (Some f) =
+    cond (stamp_formed stamp && numeral item) (dated_line stamp (value_from 0 item) f) (Err Malformed)
 
-unfoldable pub by_bar : List (List ℕ) → Line
-by_bar [] = Malformed
-by_bar (a ∷ []) = Malformed
-by_bar (a ∷ b ∷ []) = Malformed
+unfoldable pub by_bar : List (List ℕ) → Result Line LineError
+by_bar [] = Err Malformed
+by_bar (a ∷ []) = Err Malformed
+by_bar (a ∷ b ∷ []) = Err Malformed
 by_bar (a ∷ b ∷ c ∷ []) = line_in a b (form_of c)
-by_bar (a ∷ b ∷ c ∷ d ∷ ps) = Malformed
+by_bar (a ∷ b ∷ c ∷ d ∷ ps) = Err Malformed
 
-unfoldable pub read_line : List ℕ → Line
+unfoldable pub read_line : List ℕ → Result Line LineError
 read_line s = by_bar (split 124 s)
 
 -- ---- the value, by the item's category
@@ -130,10 +130,14 @@ decimal_for category minus point whole part =
     cond (eqb category 0) (sample_for minus (whole * 1000 + part)) (event_for minus point whole)
 
 unfoldable pub value_for : ℕ → Form → Value
-value_for category Unread = no_value
 value_for category Missing = Unavailable
 value_for category (Decimal minus point whole part) = decimal_for category minus point whole part
 value_for category (State level code) = state_for level code
+
+-- of a text's form, where it has one
+abbrev pub value_read : ℕ → Option Form → Value
+value_read category None = no_value
+value_read category (Some f) = value_for category f
 
 -- ---- the writer's bytes
 

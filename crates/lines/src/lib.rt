@@ -1,7 +1,10 @@
 // The types of adapter lines and their time stamps. What they mean stands in specs/.
 #![tactic(auto)]
 
-use spec::Level;
+ghost use Rattle.std.specs.Prelude.{◌≡◌};
+ghost use Rattle.lines.specs.Refusals.{refusal_for};
+
+use spec::{Level, Refusal};
 
 // A date and time of day.
 #[derive(Clone, Copy)]
@@ -15,20 +18,42 @@ pub struct Date {
     pub milli: u64,
 }
 
-// The form of a line's value: none, UNAVAILABLE, a decimal by its sign, point, whole part and thousandths, or a level
-// with its code.
+// The form of a line's value: UNAVAILABLE, a decimal by its sign, point, whole part and thousandths, or a level with
+// its code.
 #[derive(Clone, Copy)]
 pub enum Form {
-    Unread,
     Missing,
-    Decimal(bool, bool, u64, u64),
+    Decimal {
+        minus: bool,
+        point: bool,
+        whole: u64,
+        part: u64,
+    },
     State(Level, u64),
 }
 
-// What a line says: time, item and the value's form; or that it is malformed, or has an impossible stamp.
+// What a line says.
 #[derive(Clone, Copy)]
-pub enum Line {
+pub struct Line {
+    pub time: u64,
+    pub item: u64,
+    pub form: Form,
+}
+
+// Why a line says nothing: it has not the form of one, or its stamp is no date of 1970 to 2099.
+#[derive(Clone, Copy)]
+pub enum LineError {
     Malformed,
     BadStamp,
-    Reads(u64, u64, Form),
+}
+
+impl From<LineError> for Refusal {
+    ghost from_gives = { λ e r. r ≡ refusal_for e };
+
+    fn from(e: LineError) -> Refusal {
+        match e {
+            LineError::Malformed => Refusal::Line,
+            LineError::BadStamp => Refusal::Stamp,
+        }
+    }
 }

@@ -2,19 +2,25 @@
 // room for it.
 #![tactic(auto)]
 
-ghost use Rattle.std.specs.Prelude.{◌≡◌, ◌<◌, true, ◌≢◌};
-ghost use Rattle.spec.specs.Model.{Sizes, items, category};
+ghost use Rattle.std.specs.Prelude.{◌≡◌, ◌<◌, true, ◌≢◌, Ok};
+ghost use Rattle.spec.specs.Model.{items, category};
 ghost use Rattle.history.specs.Observations.{Head, ring_size, latest_ok};
 ghost use Rattle.history.specs.Calls.{room_for, observe_by};
 ghost use Rattle.judging.specs.declared.Judged.TheVariants.{New};
 ghost use Rattle.short_way.specs.Found.{found, observed_by};
 
 use judging::Judged;
-use spec::{ObserveAnswer, Refusal, Verdict};
+use model::Words;
+use spec::{Noted, ObserveAnswer, Refusal};
 
 // One observation more as last + 1, where a number is left and the entry that it overwrites may go.
-fn record(model: &[u32], observations: &mut [u64], item: u64, time: u64, word: u64) -> ObserveAnswer
-    requires sizes { Sizes model.now }
+fn record(
+    model: &Words<'_>,
+    observations: &mut [u64],
+    item: u64,
+    time: u64,
+    word: u64,
+) -> ObserveAnswer
     requires head { Head (items model.now) observations.old }
     requires item_bound { item < items model.now }
     requires item_value { let st = observations.old in
@@ -25,32 +31,32 @@ fn record(model: &[u32], observations: &mut [u64], item: u64, time: u64, word: u
         let x = observe_by (room_for cat m st) cat m st item time word in
         (result ≡ x.answer) × (observations.new ≡ x.observations) }
 {
-    let verdict = recording::room_for(model, observations);
-    match verdict {
-        Verdict::Refused(refusal) => ObserveAnswer::Refused(refusal),
-        Verdict::Fine => {
-            let number = observations::last(observations, model::items(model)) + 1;
-            recording::add(model, observations, item, time, word);
-            ObserveAnswer::Recorded(number)
-        }
-    }
+    recording::room_for(model, observations)?;
+    let number = observations::last(observations, model.items()) + 1;
+    recording::add(model, observations, item, time, word);
+    Ok(Noted::Recorded(number))
 }
 
 // What is found in an item's latest, of a packed word that is known to be new where the item has no conditions.
-fn judge_latest(model: &[u32], observations: &[u64], cat: u64, item: u64, word: u64) -> Judged
-    requires sizes { Sizes model.now }
+fn judge_latest(
+    model: &Words<'_>,
+    observations: &[u64],
+    cat: u64,
+    item: u64,
+    word: u64,
+) -> Result<Judged, Refusal>
     requires head { Head (items model.now) observations.now }
     requires item_bound { (item < items model.now) × (cat ≡ category model.now item) }
-    requires fact { let st = observations.now in
-        (cat ≢ 2 → New ≡ found (category model.now) (ring_size st) (items model.now) st item word) }
+    requires new_if_plain { let st = observations.now in
+        (cat ≢ 2 → Ok New ≡ found (category model.now) (ring_size st) (items model.now) st item word) }
     ensures { let st = observations.now in
         let model = model.entry.now in
         result ≡ found (category model) (ring_size st) (items model) st item word }
 {
     if cat != spec::CONDITION {
-        return Judged::New;
+        return Ok(Judged::New);
     }
-    let m = model::items(model);
+    let m = model.items();
     let t = observations::latest_at(observations::ring_size(observations, m));
     let k = spec::ENTRIES * item;
     judging::judge(observations, spec::ENTRIES * m, t, k, item, word)
@@ -58,26 +64,24 @@ fn judge_latest(model: &[u32], observations: &[u64], cat: u64, item: u64, word: 
 
 // The long way of a value that its item takes: what is found in its latest decides.
 pub fn observe_long(
-    model: &[u32],
+    model: &Words<'_>,
     observations: &mut [u64],
     cat: u64,
     item: u64,
     time: u64,
     word: u64,
 ) -> ObserveAnswer
-    requires sizes { Sizes model.now }
     requires head { Head (items model.now) observations.old }
     requires item_bound { (item < items model.now) × (cat ≡ category model.now item) }
-    requires fact { let st = observations.old in
-        (cat ≢ 2 → New ≡ found (category model.now) (ring_size st) (items model.now) st item word) }
+    requires new_if_plain { let st = observations.old in
+        (cat ≢ 2 → Ok New ≡ found (category model.now) (ring_size st) (items model.now) st item word) }
     ensures { let of = category model.now in
         let x = observed_by of (items model.now) observations.old item time word in
         (result ≡ x.answer) × (observations.new ≡ x.observations) }
 {
     match judge_latest(model, observations, cat, item, word) {
-        Judged::Broken => ObserveAnswer::Refused(Refusal::Store),
-        Judged::Repeated => ObserveAnswer::Same,
-        Judged::Crowded => ObserveAnswer::Refused(Refusal::Crowded),
-        Judged::New => record(model, observations, item, time, word),
+        Err(refusal) => Err(refusal),
+        Ok(Judged::Repeated) => Ok(Noted::Same),
+        Ok(Judged::New) => record(model, observations, item, time, word),
     }
 }

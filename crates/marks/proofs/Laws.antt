@@ -1,23 +1,26 @@
 -- What the code comes to: words that are active or Normal, the place of a key, and one of eight words written where it
 -- stands.
 use Prim.Native.Nat.{ℕ, zero, suc, ◌+◌, ◌-◌, ◌*◌, ◌/◌, ◌%◌, ◌^◌, ◌≤◌, ◌<◌}
-use mathlib.Core.Path.{◌≡◌, sym, ap, ◌∙◌}
-use mathlib.Core.Bool.{true, false, cond, ◌||◌, or-true}
-use mathlib.Core.List.{List, [], ◌++◌, append-nil}
+use mathlib.Core.Path.{◌≡◌, refl, sym, ap, ◌∙◌}
+use mathlib.Core.Bool.{Bool, true, false, cond, ◌||◌}
+use mathlib.Core.List.{List, [], ◌++◌, append-nil, append_assoc}
 use native.Mathlib.Nat.{add-zero, mod-lt}
 use lib.Arith.{mod-mul}
-use native.Mathlib.Numerals.{add-one}
 use native.Mathlib.Omega.{arith}
 use lib.Dec.{eqb, lit<}
-use lib.ListN.{length, get_or, set, take, drop, length-set, length-drop, drop_of_length-le}
+use lib.ListN.{length, get_or, set, take, drop, length-set, length-drop}
 use lib.Seq.{sets, drop-cons, drop-set-lt, get_or-drop, get_or-take, drop-drop, length-take-le, set_split, set-get_or}
-use lib.Seq.{take-take, take-add, drop_at}
-use borrow.Author.Tests.{eq-eqb, ne_eqb, eqb-true, eqb-false}
+use lib.Seq.{take-take, take-add, drop_at, sets-eq}
+use borrow.Rule.Slice.PartMut.{put_mid}
+use borrow.Author.Tests.{eq-eqb, ne_eqb, eqb-true, eqb-false, ltb-true, ltb-false}
+use Rattle.std.specs.List.{position}
+use Rattle.std.specs.Prelude.{Some, None, nat_lt}
+use Rattle.std.proofs.lemmas.List.Recursion.{is_position_or_len}
 use Rattle.spec.specs.Value.{item_of}
 use Rattle.spec.specs.Entries.{active, normal, kind_field, level_field}
 use Rattle.spec.proofs.Words.{by-test}
-use Rattle.marks.specs.Marks.{key_in, key_of, eight_at, place_of}
-use Rattle.marks.proofs.Keys.{active-key, idle-key}
+use Rattle.marks.specs.Marks.{key_of, eight_at, is_place, place_of, found_at}
+use Rattle.marks.proofs.Keys.{active-key, idle-key, place-max}
 
 -- ---- words that are active, or Normal
 
@@ -88,48 +91,35 @@ eight-at l k j d h = get_or-take 8 (drop k l) j d h ∙ get_or-drop k l j d
 pub first-at : (l : List ℕ) (k : ℕ) → get_or (eight_at l k) 0 0 ≡ get_or l k 0
 first-at l k = eight-at l k 0 0 (omega arith) ∙ rw (add-zero k)
 
--- what a loop that looks for the key in eight marks knows before mark j: the place is j or a later one
-pub record Looking (key : ℕ) (l : List ℕ) (k j : ℕ) : Type 0 where
-  pub fits : k + 8 ≤ length l
-  pub below : j ≤ 8
-  pub rest : place_of key (eight_at l k) ≡ j + place_of key (drop j (eight_at l k))
+-- what is looked for, as the library has it
+pub found-is : (key : ℕ) (ms : List ℕ) → position (is_place key) ms ≡ found_at key ms
+unfolding place_of found_at
+found-is key ms =
+    rw (is_position_or_len (place_of key) (is_place key) refl (λ x xs. rw (next x xs)) ms)
+  where
+    next : (x : ℕ) (xs : List ℕ) → 1 + place_of key xs ≡ suc (place_of key xs)
+    next x xs = omega arith
 
-pub looking-none : (key : ℕ) (l : List ℕ) (k : ℕ) → k + 8 ≤ length l → Looking key l k 0
-looking-none key l k h = record { fits = h; below = omega arith; rest = omega arith }
+some-chosen : (b : Bool) (n : ℕ) {j : ℕ} → Some j ≡ cond b (Some n) None → (b ≡ true) × (j ≡ n)
+some-chosen true n e = (refl, cc)
+some-chosen false n e = cc
 
-module _ {key : ℕ} {l : List ℕ} {k j : ℕ} (r : Looking key l k j) where
-  -- the place from mark j on, by that mark
-  look : j < 8 →
-      let x = get_or l (k + j) 0 in
-      let n = place_of key (drop (suc j) (eight_at l k)) in
-      place_of key (drop j (eight_at l k)) ≡ cond (eqb x 0 || eqb (key_in x) key) 0 (suc n)
-  unfolding place_of
-  look h =
-      let b : j < length (eight_at l k) = rw (eight-length l k r.fits) h in
-      rw (drop-cons (eight_at l k) j 0 b, eight-at l k j 0 h)
+none-chosen : (b : Bool) (n : ℕ) → None ≡ cond b (Some n) None → b ≡ false
+none-chosen true n e = cc
+none-chosen false n e = refl
 
-  pub looking-more : j < 8 → (get_or l (k + j) 0 ≡ 0 → ⊥) → (key_in (get_or l (k + j) 0) ≡ key → ⊥)
-      → Looking key l k (j + 1)
-  looking-more h f g =
-      let x = get_or l (k + j) 0 in
-      let n : place_of key (drop j (eight_at l k)) ≡ suc (place_of key (drop (suc j) (eight_at l k))) =
-      rw (look h, ne_eqb x 0 f, ne_eqb (key_in x) key g) in
-      record { fits = r.fits; below = omega arith; rest = rw (add-one j) (r.rest ∙ rw n (omega arith)) }
+module _ (key : ℕ) (ms : List ℕ) where
+  pub found-some : {j : ℕ} → Some j ≡ found_at key ms → (j ≡ place_of key ms) × (j < length ms)
+  unfolding found_at
+  found-some {j} e =
+      let x = some-chosen (nat_lt (place_of key ms) (length ms)) (place_of key ms) e in
+      (x.1, rw (x.1) (ltb-true (place_of key ms) (length ms) x.0))
 
-  pub looking-unused : j < 8 → get_or l (k + j) 0 ≡ 0 → j ≡ place_of key (eight_at l k)
-  looking-unused h e = sym (r.rest ∙ rw (look h, e) (add-zero j))
-
-  pub looking-key : j < 8 → key_in (get_or l (k + j) 0) ≡ key → j ≡ place_of key (eight_at l k)
-  looking-key h g =
-      let x = get_or l (k + j) 0 in
-      sym (r.rest ∙ rw (look h, eq-eqb (key_in x) key g, or-true (eqb x 0)) (add-zero j))
-
-  pub looking-all : 8 ≤ j → 8 ≡ place_of key (eight_at l k)
-  unfolding place_of
-  looking-all h =
-      let e : j ≡ 8 = omega arith in
-      let b : length (eight_at l k) ≤ j = rw (eight-length l k r.fits) h in
-      sym (r.rest ∙ rw (drop_of_length-le (eight_at l k) {i = j} b) (add-zero j ∙ e))
+  pub found-none : None ≡ found_at key ms → length ms ≡ place_of key ms
+  unfolding found_at
+  found-none e =
+      let x = none-chosen (nat_lt (place_of key ms) (length ms)) (place_of key ms) e in
+      omega (arith, ltb-false (place_of key ms) (length ms) x, place-max key ms)
 
 -- ---- words changed where they stand
 
@@ -163,3 +153,17 @@ put_is l k j x h b =
     drop-drop (suc j) k l ∙ rw p (sym (drop-set-lt a l (k + j) x (omega arith))) in
     sym (rw (set_split (eight_at l k) j x s, take-take j 8 d (omega arith)) (sets-kept j l k _ (omega arith)
     ∙ rw (g, t) (sets_same n (set l (k + j) x) a (omega (arith, length-set l (k + j) x)))))
+
+-- ---- eight words lent out of others
+
+pub eight-lent : {A : Type 0} (a : ℕ) (l : List A) → take (a + 8 - a) (drop a l) ≡ eight_at l a
+eight-lent a l =
+    let e : a + 8 - a ≡ 8 = omega arith in rw e
+
+-- and written back
+pub eight-back : {A : Type 0} (a : ℕ) (l ys : List A) → length ys ≡ 8 → a + 8 ≤ length l
+    → put_mid a (a + 8 - a) l ys ≡ sets l a ys
+eight-back a l ys n h =
+    let e : a + 8 - a ≡ 8 = omega arith in
+    rw (e, drop-drop 8 a l, ← append_assoc (take a l) ys (drop (a + 8) l))
+    (rw n at (sym (sets-eq ys l a (omega (arith, n)))))

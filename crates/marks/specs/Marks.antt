@@ -1,5 +1,6 @@
 -- Marks: an item's eight entries by place and key.
-use Rattle.std.specs.Prelude.{ℕ, suc, ◌+◌, ◌*◌, ◌/◌, ◌%◌, ◌^◌, cond, ◌||◌, List, [], ◌∷◌, eqb, take, drop}
+use Rattle.std.specs.Prelude.{ℕ, suc, ◌+◌, ◌*◌, ◌/◌, ◌%◌, ◌^◌, Bool, cond, ◌||◌, List, [], ◌∷◌, eqb, length, take, drop}
+use Rattle.std.specs.Prelude.{Option, Some, None, nat_lt}
 use Rattle.spec.specs.Entries.{active, code_field}
 
 -- the key of a packed word of the item own: 0 where it isn't active, else its code and 1
@@ -20,9 +21,17 @@ key_in mark = mark % 2 ^ 32
 abbrev pub eight_at : {A : Type 0} → List A → ℕ → List A
 eight_at l k = take 8 (drop k l)
 
+-- the key may stand where this mark does
+abbrev pub is_place : ℕ → ℕ → Bool
+is_place key x = eqb x 0 || eqb (key_in x) key
+
 -- the place of the first mark that is 0 or has the key; how many there are, where there is none
 unfoldable pub place_of : ℕ → List ℕ → ℕ
 place_of key [] = 0
 place_of key (x ∷ xs) =
     let j = place_of key xs in
-    cond (eqb x 0 || eqb (key_in x) key) 0 (suc j)
+    cond (is_place key x) 0 (suc j)
+
+-- the same place, where there is one
+unfoldable pub found_at : ℕ → List ℕ → Option ℕ
+found_at key ms = cond (nat_lt (place_of key ms) (length ms)) (Some (place_of key ms)) None

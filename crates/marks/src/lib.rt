@@ -1,10 +1,11 @@
 // The eight entries of a condition item as marks. A mark is the place of its entry's row, from 1 on, times 2^32, and a
-// key: 0 where the entry isn't active, else its code and 1. An unused entry's mark is 0.
+// key: 0 where the entry isn't active, else its code and 1. An unused entry's mark is 0. Neither 0 is an Option: eight
+// marks stand as words in the lent buffer, and the pass over the ring tests them word by word.
 #![tactic(auto)]
 
-ghost use Rattle.std.specs.Prelude.{◌≡◌, ◌+◌, ◌*◌, ◌^◌, ◌≤◌, ◌<◌, length};
+ghost use Rattle.std.specs.Prelude.{◌≡◌, ◌+◌, ◌*◌, ◌^◌, ◌<◌};
 ghost use Rattle.spec.specs.Entries.{normal, code_field};
-ghost use Rattle.marks.specs.Marks.{mark_of, place_in, key_in, key_of, eight_at, place_of};
+ghost use Rattle.marks.specs.Marks.{mark_of, place_in, key_in, key_of, is_place, found_at};
 
 // A mark's place is counted in these.
 const PLACE: u64 = 4294967296;
@@ -68,22 +69,16 @@ pub fn code_of(word: u64) -> u64
     word % CODES
 }
 
-// The place of the key among the eight marks from word k on, from 0 on: that of the first mark with it or, before
-// that, of the first that is 0; 8 where there is neither.
-pub fn find(marks: &[u64], k: usize, key: u64) -> u64
-    requires { k + 8 ≤ length marks.now }
-    ensures { (result ≡ place_of key (eight_at marks.now k)) × (result ≤ 8) }
+// Whether the key may stand where this mark does: the mark has it, or is 0.
+fn is_place(key: u64, mark: u64) -> bool
+    ensures { result ≡ is_place key mark }
 {
-    let mut j: u64 = 0;
-    while j < spec::ENTRIES {
-        let mark = marks[k + (j as usize)];
-        if mark == 0 {
-            return j;
-        }
-        if key_in(mark) == key {
-            return j;
-        }
-        j += 1;
-    }
-    spec::ENTRIES
+    mark == 0 || key_in(mark) == key
+}
+
+// The place of the key among marks, from 0 on: that of the first mark with it or, before that, of the first that is 0.
+pub fn find(marks: &[u64], key: u64) -> Option<usize>
+    ensures { result ≡ found_at key marks.now }
+{
+    marks.iter().position(|mark| is_place(key, *mark))
 }

@@ -5,7 +5,7 @@ ghost use Rattle.spec.specs.Model.{sizes_ok, component_ok, item_ok, components_o
 
 use super::{
     ASSET_CHANGE, COMPONENTS_AT, MAX_CATEGORY, category_of, component_name, component_of,
-    component_word, components, item_name, item_word, items, parent_of, wide,
+    component_word, components, item_name, item_word, items, parent_of,
 };
 
 // Whether both sizes are in their range and the length is theirs.
@@ -15,8 +15,8 @@ pub fn sizes_ok(model: &[u32]) -> bool
     if (model.len() as u64) < COMPONENTS_AT {
         return false;
     }
-    let c = wide(model[0]);
-    let m = wide(model[1]);
+    let c = u64::from(model[0]);
+    let m = u64::from(model[1]);
     if c < 1 {
         return false;
     }
@@ -36,15 +36,8 @@ pub fn sizes_ok(model: &[u32]) -> bool
 fn component_ok(names: u64, i: u64, word: u64) -> bool
     ensures { result ≡ component_ok names i word }
 {
-    let parent = parent_of(word);
-    let named = component_name(word) < names;
-    if parent < i {
-        return named;
-    }
-    if parent == 0 {
-        return named;
-    }
-    false
+    let above = i.max(1);
+    parent_of(word) < above && component_name(word) < names
 }
 
 // Whether a word is one of a data item: a category, a component of c, a name of the names.
@@ -64,10 +57,7 @@ fn item_ok(c: u64, names: u64, word: u64) -> bool
 fn one_if_change(word: u64) -> u64
     ensures { (result ≡ cond (eqb (category_of word) asset_change) 1 0) × (result ≤ 1) }
 {
-    if category_of(word) == ASSET_CHANGE {
-        return 1;
-    }
-    0
+    u64::from(category_of(word) == ASSET_CHANGE)
 }
 
 // Whether every component's word is one.
@@ -75,13 +65,10 @@ pub fn components_ok(model: &[u32], names: u64) -> bool
     requires { Sizes model.now }
     ensures { result ≡ components_ok model.now names }
 {
-    let c = components(model);
-    let mut i: u64 = 0;
-    while i < c {
+    for i in 0..components(model) {
         if !component_ok(names, i, component_word(model, i)) {
             return false;
         }
-        i += 1;
     }
     true
 }
@@ -92,16 +79,13 @@ pub fn items_ok(model: &[u32], names: u64) -> bool
     ensures { result ≡ (items_ok model.now names && changes_ok model.now) }
 {
     let c = components(model);
-    let m = items(model);
-    let mut changes: u64 = 0;
-    let mut j: u64 = 0;
-    while j < m {
+    let mut changes = 0;
+    for j in 0..items(model) {
         let word = item_word(model, j);
         if !item_ok(c, names, word) {
             return false;
         }
         changes += one_if_change(word);
-        j += 1;
     }
     changes <= 1
 }

@@ -1,12 +1,18 @@
 // The model and the names: their check, which every call makes, and the words of a checked model.
 #![tactic(auto)]
 
-ghost use Rattle.std.specs.Prelude.{◌≡◌, ◌≤◌, ◌<◌, length};
+ghost use Rattle.std.specs.Prelude.{◌≡◌, ◌≤◌, ◌<◌, true, false, length, MatchResult};
+ghost use Rattle.spec.specs.declared.Refusal.TheVariants.{Model as Refused};
 ghost use Rattle.spec.specs.Model.{letters, max_components, max_items, components, items, Sizes};
 ghost use Rattle.spec.specs.Model.{parent_of, component_name, category_of, component_of, item_name};
-ghost use Rattle.spec.specs.Model.{component_word, item_word, category, change_item, model_ok};
+ghost use Rattle.spec.specs.Model.{component_word, item_word, category, model_ok};
+
+use spec::Refusal;
 
 mod checks;
+mod words;
+
+pub use words::Words;
 
 // Where the component words begin; the item words follow them.
 const COMPONENTS_AT: u64 = 2;
@@ -21,7 +27,8 @@ const ITEM_COMPONENTS: u64 = 256;
 
 const ITEM_CATEGORY: u64 = ITEM_NAMES * ITEM_COMPONENTS;
 
-// The categories: 0 sample, 1 event, 2 condition, 3 asset change, 4 discrete event.
+// The categories: 0 sample, 1 event, 2 condition, 3 asset change, 4 discrete event. Numbers and no enum, since a word
+// that the C interface brings may have any number there.
 const ASSET_CHANGE: u64 = 3;
 
 const MAX_CATEGORY: u64 = 4;
@@ -61,19 +68,12 @@ pub fn item_name(word: u64) -> u64
     word % ITEM_NAMES
 }
 
-// A model's word as a number of 64 bits.
-fn wide(x: u32) -> u64
-    ensures { result ≡ x }
-{
-    x as u64
-}
-
 // How many components the model has.
 pub fn components(model: &[u32]) -> u64
     requires { Sizes model.now }
     ensures { (result ≡ components model.now) × (result ≤ max_components) }
 {
-    wide(model[0])
+    u64::from(model[0])
 }
 
 // How many data items the model has.
@@ -81,7 +81,7 @@ pub fn items(model: &[u32]) -> u64
     requires { Sizes model.now }
     ensures { (result ≡ items model.now) × (result ≤ max_items) }
 {
-    wide(model[1])
+    u64::from(model[1])
 }
 
 // The word of component i.
@@ -91,7 +91,7 @@ pub fn component_word(model: &[u32], i: u64) -> u64
     ensures { result ≡ component_word model.now i }
 {
     let at = (COMPONENTS_AT + i) as usize;
-    wide(model[at])
+    u64::from(model[at])
 }
 
 // The word of data item j.
@@ -101,7 +101,7 @@ pub fn item_word(model: &[u32], j: u64) -> u64
     ensures { result ≡ item_word model.now j }
 {
     let at = (COMPONENTS_AT + components(model) + j) as usize;
-    wide(model[at])
+    u64::from(model[at])
 }
 
 // The category of data item j.
@@ -113,34 +113,16 @@ pub fn category(model: &[u32], j: u64) -> u64
     category_of(item_word(model, j))
 }
 
-// The data item of category asset change; the number of items where there is none.
-pub fn change_item(model: &[u32]) -> u64
-    requires { Sizes model.now }
-    ensures { (result ≡ change_item model.now) × (result ≤ items model.now) }
-{
-    let m = items(model);
-    let mut j: u64 = 0;
-    while j < m {
-        if category(model, j) == ASSET_CHANGE {
-            return j;
-        }
-        j += 1;
-    }
-    j
-}
-
 // How many bytes of a name the cell starts with.
 pub fn name_length(cell: &[u8]) -> usize
     ensures { (result ≡ letters cell.now) × (result ≤ length cell.now) }
 {
-    let mut i = 0;
-    while i < cell.len() {
-        if !scan::name_byte(cell[i]) {
+    for (i, x) in cell.iter().enumerate() {
+        if !scan::name_byte(*x) {
             return i;
         }
-        i += 1;
     }
-    i
+    cell.len()
 }
 
 // Whether model and names keep their rules.
@@ -158,4 +140,16 @@ pub fn model_ok(model: &[u32], names: &[u8]) -> bool
         return false;
     }
     checks::items_ok(model, count)
+}
+
+// The words of a model that keeps the rules with its names, or refusal 1.
+pub fn checked<'a>(model: &'a [u32], names: &[u8]) -> Result<Words<'a>, Refusal>
+    ensures { MatchResult result
+        (λ w. (w ≡ model.entry.now) × (model_ok model.entry.now names.now ≡ true))
+        (λ r. (r ≡ Refused) × (model_ok model.entry.now names.now ≡ false)) }
+{
+    if !model_ok(model, names) {
+        return Err(Refusal::Model);
+    }
+    Ok(Words::of(model))
 }

@@ -10,7 +10,7 @@ ghost use Rattle.history.specs.Calls as calls;
 ghost use Rattle.streams.specs.Streams.{streams};
 ghost use Rattle.agent.specs.Place.{place_start, place_length};
 
-use spec::{Answer, Place, Record};
+use spec::{Answer, Record, Span};
 
 // The answer of start, request, observe_batch, write_line and streams: 0 and k, or the refusal's number and 0.
 #[repr(C)]
@@ -204,11 +204,11 @@ pub extern "C" fn mtcore_body(assets: &[u8], id: &[u8]) -> Part
 {
     let place = assets::body_place(assets, id);
     match place {
-        Place::At(start, length) => Part {
+        Some(Span { start, len }) => Part {
             start: start as u64,
-            length: length as u64,
+            length: len as u64,
         },
-        Place::Nothing => Part {
+        None => Part {
             start: 0,
             length: 0,
         },

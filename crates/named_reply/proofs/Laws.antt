@@ -7,24 +7,38 @@ use native.Mathlib.Numerals.{add-one}
 use native.Mathlib.Omega.{arith}
 use lib.Dec.{ltb, eqb}
 use lib.ListN.{length, get_or, set, take, drop, length-set, length-drop}
-use lib.Seq.{length-take-le, take-suc-set, append_snoc, get_or-set_same, get_or-set_other}
+use lib.Seq.{length-take-le, take-suc-set, append_snoc, get_or-take, get_or-set_same, get_or-set_other}
 use borrow.Author.Tests.{lt-ltb, le-ltb, leb-true, ltb-true, ltb-false, eqb-true, eqb-false}
 use Rattle.spec.specs.Bytes.{before, split}
 use Rattle.spec.specs.Text.{id_text, id_texts, longest_text}
-use Rattle.spec.specs.Assets.{max_assets, used, find}
+use Rattle.spec.specs.Assets.{max_assets, capacity, used, find}
 use Rattle.spec.specs.Reply.{refuse}
 use Rattle.history.specs.Calls.{all_cells, cells_reply, find_all, named_reply}
 use Rattle.spec.specs.declared.Refusal.TheVariants.{AssetNotFound}
 use Rattle.spec.proofs.Words.{and_left, and_right}
-use Rattle.named_reply.specs.declared.Found.{Found}
-use Rattle.named_reply.specs.Cells.{Cells, FoundAll}
+use Rattle.asset_reply.specs.Cells.{Cells}
+use Rattle.std.specs.Prelude.{Ok}
+use Rattle.named_reply.specs.Cells.{FoundAll}
 use Rattle.parts.proofs.Laws.{split-at-more, split-at-last}
-use Rattle.named_reply.specs.declared.Found.TheVariants as found
 
 -- ---- the first k cells of an array
 
-pub length-first : {bs cells : List ℕ} {k : ℕ} → Cells bs cells k → length (take k cells) ≡ k
-length-first {bs} {cells} {k} is = length-take-le k cells is.there
+-- there are as many, and each is a used one
+pub record Kept (bs cells : List ℕ) (k : ℕ) : Type 0 where
+  pub few : k ≤ max_assets
+  pub there : k ≤ length cells
+  pub below : (i : ℕ) → i < k → get_or cells i 0 < used bs
+
+kept-list : {bs cells : List ℕ} {k : ℕ} → Kept bs cells k → used bs ≤ capacity bs → Cells bs (take k cells)
+kept-list {bs} {cells} {k} is room =
+    let n = length-take-le k cells is.there in
+    record {
+      few = omega (arith, is.few);
+      below = λ i l.
+          let h : i < k = omega arith in
+          let b = is.below i h in
+          rw (get_or-take k cells i 0 h) (omega arith);
+    }
 
 -- one more cell is kept behind the first i
 kept_more : (cells : List ℕ) (i x : ℕ) → i < length cells → take (i + 1) (set cells i x) ≡ take i cells ++ (x ∷ [])
@@ -38,7 +52,7 @@ stored bs i = ltb i (used bs)
 pub record Finding (bs text : List ℕ) (start at k : ℕ) (cells : List ℕ) : Type 0 where
   pub inside : at ≤ length text
   pub size : length cells ≡ max_assets
-  pub kept : Cells bs cells k
+  pub kept : Kept bs cells k
   pub apart : start + 2 * k ≤ at
   pub ids : id_texts (split 59 (drop at text)) ≡ true
   pub done : find_all bs (split 59 (drop start text)) ≡ take k cells ++ find_all bs (split 59 (drop at text))
@@ -102,7 +116,7 @@ module _ (bs text : List ℕ) (at end : ℕ) (ends : end ≡ at + before 59 59 (
     finding-missing h = w.all ∙ missing-here (rw is at h)
 
     module _ (h : cell < used bs) where
-      kept-cells : Cells bs (set cells k cell) (k + 1)
+      kept-cells : Kept bs (set cells k cell) (k + 1)
       kept-cells =
           let n = w.size in
           record {
@@ -145,12 +159,12 @@ module _ (bs text : List ℕ) (at end : ℕ) (ends : end ≡ at + before 59 59 (
             all = kept-all _ e;
           }
 
-      pub finding-last : length text ≤ end
-          → FoundAll bs (split 59 (drop start text)) (set cells k cell) (found.Cells (k + 1))
+      pub finding-last : length text ≤ end → used bs ≤ capacity bs
+          → FoundAll bs (split 59 (drop start text)) (take (k + 1) (set cells k cell)) (Ok tt)
       unfolding find_all all_cells
-      finding-last l =
+      finding-last l room =
           let e = split-at-last 59 text at end ends l in
-          (kept-cells, (sym (kept-done [] e ∙ append-nil (take (k + 1) (set cells k cell))), kept-all [] e))
+          (kept-list kept-cells room, (sym (kept-done [] e ∙ append-nil (take (k + 1) (set cells k cell))), kept-all [] e))
 
 -- ---- the assets named
 
@@ -164,12 +178,3 @@ module _ (bs : List ℕ) (ids : List (List ℕ)) (reply : List ℕ) where
       → cells_reply bs cells reply ≡ named_reply bs ids reply
   unfolding named_reply
   named-found cells e t = rw (e, t)
-
--- what find_all says, of the answer that it is
-pub told-missing : (bs : List ℕ) (ids : List (List ℕ)) (cells : List ℕ) (r : Found) → FoundAll bs ids cells r
-    → r ≡ found.Missing → all_cells (stored bs) (find_all bs ids) ≡ false
-told-missing bs ids cells r h e = subst (FoundAll bs ids cells) e h
-
-pub told-cells : (bs : List ℕ) (ids : List (List ℕ)) (cells : List ℕ) (r : Found) (k : ℕ) → FoundAll bs ids cells r
-    → r ≡ found.Cells k → FoundAll bs ids cells (found.Cells k)
-told-cells bs ids cells r k h e = subst (FoundAll bs ids cells) e h

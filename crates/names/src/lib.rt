@@ -24,12 +24,9 @@ fn blocks_ok(s: &[u8], at: usize, n: usize) -> bool
     requires { at + block * n ≤ length s.now }
     ensures { result ≡ bytes_at s.now at (block * n) }
 {
-    let end = BLOCK * n;
     let mut fine = true;
-    let mut i = 0;
-    while i < end {
-        fine = fine & cell_byte(s[at + i]);
-        i += 1;
+    for i in 0..BLOCK * n {
+        fine &= cell_byte(s[at + i]);
     }
     fine
 }
@@ -38,18 +35,17 @@ fn blocks_ok(s: &[u8], at: usize, n: usize) -> bool
 fn few_ok(s: &[u8]) -> bool
     ensures { result ≡ cell_bytes s.now }
 {
-    let mut i = 0;
-    while i < s.len() {
-        if !cell_byte(s[i]) {
+    for x in s {
+        if !cell_byte(*x) {
             return false;
         }
-        i += 1;
     }
     true
 }
 
 // Whether every byte may stand in a cell. It goes by whole blocks, so that no bytes want a loop of their own: where
-// some are left, the slice's last block is looked at too.
+// some are left, the slice's last block is looked at too. At most two rounds
+// of one loop, so that its code stands once.
 fn cell_bytes(s: &[u8]) -> bool
     ensures { result ≡ cell_bytes s.now }
 {
@@ -61,7 +57,7 @@ fn cell_bytes(s: &[u8]) -> bool
     let mut at = 0;
     let mut fine = true;
     while 0 < n {
-        fine = fine & blocks_ok(s, at, n);
+        fine &= blocks_ok(s, at, n);
         if at + BLOCK * n < l {
             at = l - BLOCK;
             n = 1;
@@ -86,10 +82,8 @@ fn zeros_last(cell: &[u8]) -> bool
 {
     let last = cell.len() - 1;
     let mut fine = cell[0] != 0;
-    let mut i = 0;
-    while i < last {
-        fine = fine & follows(cell[i], cell[i + 1]);
-        i += 1;
+    for i in 0..last {
+        fine &= follows(cell[i], cell[i + 1]);
     }
     fine
 }
@@ -111,14 +105,11 @@ pub fn names_ok(names: &[u8]) -> bool
     if !cell_bytes(names) {
         return false;
     }
-    let n = l / spec::NAME_BYTES;
-    let mut k = 0;
-    while k < n {
+    for k in 0..l / spec::NAME_BYTES {
         let at = spec::NAME_BYTES * k;
         if !zeros_last(&names[at..at + spec::NAME_BYTES]) {
             return false;
         }
-        k += 1;
     }
     true
 }

@@ -12,10 +12,8 @@ use Rattle.history.specs.Observations.{Head, max_ring, ring_size, base, last, ri
 use Rattle.spec.specs.Reply.{refuse, numbers, pairs, observation_words, observation_reply}
 use Rattle.history.specs.Calls.{first, sample_between, current_reply, current_up_to}
 use Rattle.spec.specs.declared.Refusal.TheVariants.{Store, Space}
-use Rattle.spec.specs.declared.Answer.TheVariants.{Done, Refused}
-use Rattle.spec.specs.declared.Selection.TheVariants.{Items}
+use Rattle.std.specs.Prelude.{Ok, Err, Some, None}
 use Rattle.rows.specs.Rows.{sampled, counted, rows_into}
-use Rattle.rows.specs.declared.Counted.TheVariants.{Count, Broken}
 use Rattle.latest.specs.Latest.{extra_in}
 use Rattle.snapshot_rows.specs.Held.{held_by, held_count}
 use Rattle.reply.specs.Fitted.{Fitted}
@@ -31,7 +29,7 @@ in-ring st f e h g = (omega arith, omega arith)
 
 -- and so are the rows counted
 pub in-ring-few : (m : ℕ) (st : List ℕ) (selection f e : ℕ) {k : ℕ} → Head m st → first st ≤ f → e ≤ suc (last st)
-    → Count k ≡ counted m st selection f e → k ≤ max_ring
+    → Some k ≡ counted m st selection f e → k ≤ max_ring
 in-ring-few m st selection f e is h g count =
     omega (arith, counted-few m st selection f e count, (in-ring st f e h g).1, is.n_max)
 
@@ -42,14 +40,14 @@ module _ {reply x : List ℕ} {k f l next : ℕ} {t : Bool} (w : Fitted reply (3
   row_words : 3 * k ≡ length (numbers rows) + length (pairs rows)
   row_words = omega (arith, length-numbers rows, length_pairs rows)
 
-  rows_short : t ≡ false → observation_reply f l next rows reply ≡ record { answer = Refused Space; reply = x }
+  rows_short : t ≡ false → observation_reply f l next rows reply ≡ record { answer = Err Space; reply = x }
   unfolding observation_reply observation_words
   rows_short e = rw (← many) (short w (numbers rows) (pairs rows) row_words e)
 
   -- y is the part behind the sizes as it comes back
   rows_whole : (y : List ℕ) → t ≡ true → y ≡ rows_into (take (length x - 4) (drop 4 x)) k rows
       → observation_reply f l next rows reply
-      ≡ record { answer = Done k; reply = take 4 x ++ (y ++ drop (length x - 4) (drop 4 x)) }
+      ≡ record { answer = Ok k; reply = take 4 x ++ (y ++ drop (length x - 4) (drop 4 x)) }
   unfolding observation_reply observation_words
   rows_whole y fits e =
       rw (← many)
@@ -58,14 +56,14 @@ module _ {reply x : List ℕ} {k f l next : ℕ} {t : Bool} (w : Fitted reply (3
 -- ---- sample
 
 module _ (m : ℕ) (st : List ℕ) (selection f e : ℕ) (reply : List ℕ) where
-  pub sample-broken : Broken ≡ counted m st selection f e → sample_between m st selection f e reply ≡ refuse Store reply
+  pub sample-broken : None ≡ counted m st selection f e → sample_between m st selection f e reply ≡ refuse Store reply
   unfolding sample_between
   sample-broken h = rw (counted-broken m st selection f e h)
 
-  module _ {k a l : ℕ} {t : Bool} {x : List ℕ} (count : Count k ≡ counted m st selection f e) (is : a ≡ first st)
+  module _ {k a l : ℕ} {t : Bool} {x : List ℕ} (count : Some k ≡ counted m st selection f e) (is : a ≡ first st)
       (il : l ≡ last st) (w : Fitted reply (3 * k) k a l e t x) where
     pub sample-short : t ≡ false
-        → sample_between m st selection f e reply ≡ record { answer = Refused Space; reply = x }
+        → sample_between m st selection f e reply ≡ record { answer = Err Space; reply = x }
     unfolding sample_between
     sample-short h =
         let g = counted-count m st selection f e count in
@@ -74,7 +72,7 @@ module _ (m : ℕ) (st : List ℕ) (selection f e : ℕ) (reply : List ℕ) wher
     pub sample-whole : (y : List ℕ) → t ≡ true
         → y ≡ rows_into (take (length x - 4) (drop 4 x)) k (sampled st selection f e)
         → sample_between m st selection f e reply
-        ≡ record { answer = Done k; reply = take 4 x ++ (y ++ drop (length x - 4) (drop 4 x)) }
+        ≡ record { answer = Ok k; reply = take 4 x ++ (y ++ drop (length x - 4) (drop 4 x)) }
     unfolding sample_between
     sample-whole y h i =
         let g = counted-count m st selection f e count in
@@ -83,31 +81,31 @@ module _ (m : ℕ) (st : List ℕ) (selection f e : ℕ) (reply : List ℕ) wher
 -- ---- current: x rows beyond the first of each selected item
 
 module _ (cat : ℕ → ℕ) (m : ℕ) (st : List ℕ) (selection : ℕ) (reply : List ℕ) where
-  pub current-broken : Broken ≡ extra_in cat m st selection
-      → current_reply cat m st reply (Items selection) ≡ refuse Store reply
+  pub current-broken : None ≡ extra_in cat m st selection
+      → current_reply cat m st reply (Some selection) ≡ refuse Store reply
   unfolding current_reply
   current-broken e = rw (extra-broken cat m st selection e)
 
-  module _ {x o : ℕ} (count : Count x ≡ extra_in cat m st selection) (few : selection < 2 ^ m)
+  module _ {x o : ℕ} (count : Some x ≡ extra_in cat m st selection) (few : selection < 2 ^ m)
       (is : o ≡ ones selection) where
     pub current-many : o + x ≡ length (current_rows cat (ring_size st) m st selection)
     current-many = rw is (extra-many cat m st selection count few)
 
     module _ {f l : ℕ} {t : Bool} {y : List ℕ} (ef : f ≡ first st) (el : l ≡ last st)
         (w : Fitted reply (3 * (o + x)) (o + x) f l (l + 1) t y) where
-      current-reply : current_reply cat m st reply (Items selection)
+      current-reply : current_reply cat m st reply (Some selection)
           ≡ observation_reply f l (l + 1) (current_rows cat (ring_size st) m st selection) reply
       unfolding current_reply
       current-reply = rw (extra-ok cat m st selection count, ef, el, add-one (last st))
 
       pub current-short : t ≡ false
-          → current_reply cat m st reply (Items selection) ≡ record { answer = Refused Space; reply = y }
+          → current_reply cat m st reply (Some selection) ≡ record { answer = Err Space; reply = y }
       current-short h = current-reply ∙ rows_short w (current_rows cat (ring_size st) m st selection) current-many h
 
       pub current-whole : (z : List ℕ) → t ≡ true
           → z ≡ rows_into (take (length y - 4) (drop 4 y)) (o + x) (current_rows cat (ring_size st) m st selection)
-          → current_reply cat m st reply (Items selection)
-          ≡ record { answer = Done (o + x); reply = take 4 y ++ (z ++ drop (length y - 4) (drop 4 y)) }
+          → current_reply cat m st reply (Some selection)
+          ≡ record { answer = Ok (o + x); reply = take 4 y ++ (z ++ drop (length y - 4) (drop 4 y)) }
       current-whole z h e =
           current-reply ∙ rows_whole w (current_rows cat (ring_size st) m st selection) current-many z h e
 
@@ -141,12 +139,12 @@ module _ (cat : ℕ → ℕ) (m : ℕ) (st : List ℕ) (selection number f : ℕ
       as_many = many ∙ ap length (rows right)
 
       pub at-short : t ≡ false
-          → current_up_to cat m st selection number reply ≡ record { answer = Refused Space; reply = y }
+          → current_up_to cat m st selection number reply ≡ record { answer = Err Space; reply = y }
       at-short h = at-reply l el ∙ rows_short w (up_to cat m st selection f (number + 1)) as_many h
 
       pub at-whole : (z : List ℕ) → t ≡ true → z ≡ rows_into (take (length y - 4) (drop 4 y)) k held
           → current_up_to cat m st selection number reply
-          ≡ record { answer = Done k; reply = take 4 y ++ (z ++ drop (length y - 4) (drop 4 y)) }
+          ≡ record { answer = Ok k; reply = take 4 y ++ (z ++ drop (length y - 4) (drop 4 y)) }
       at-whole z h e =
           at-reply l el
           ∙ rows_whole w (up_to cat m st selection f (number + 1)) as_many z h (rw (rows right) at e)

@@ -9,8 +9,10 @@ use lib.ListN.{length, set, replicate}
 use borrow.Author.Tests.{le-leb, eq-eqb}
 use Rattle.history.specs.Observations.{max_ring, max_number, ring_size, item_count, base, last, store_words}
 use Rattle.history.specs.Observations.{head_ok, Head, blank}
+use Rattle.spec.specs.Model.{max_items}
+use Rattle.observations.specs.Headed.{Headed}
 use Rattle.spec.proofs.Words.{not_so}
-use Rattle.history.proofs.Observations.{head}
+use Rattle.history.proofs.Observations.{head, head_of}
 
 -- a test that rules a right head out
 pub no-head : (st : List ℕ) (m : ℕ) → (Head m st → ⊥) → false ≡ head_ok m st
@@ -30,3 +32,7 @@ unfolding blank
 blank-words n m b k e =
     let f : k ≡ suc (suc (suc (suc (2 * n + 48 * m)))) = omega arith in
     rw f
+
+-- a head that is right for m items says so itself
+pub headed : {m : ℕ} {st : List ℕ} → Head m st → m ≤ max_items → Headed st
+headed h l = record { head = head_of h.m_is _ h; few = rw h.m_is l }

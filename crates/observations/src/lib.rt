@@ -1,7 +1,7 @@
 // The observation store: its head, and the places of ring and tables, read and written.
 #![tactic(auto)]
 
-ghost use Rattle.std.specs.Prelude.{◌≡◌, [], ◌∷◌, ◌+◌, ◌*◌, ◌≤◌, ◌<◌, length, get_or, set, replicate};
+ghost use Rattle.std.specs.Prelude.{◌≡◌, [], ◌∷◌, ◌+◌, ◌*◌, ◌≤◌, ◌<◌, length, get_or, set};
 ghost use Rattle.spec.specs.Words.{row, put};
 ghost use Rattle.spec.specs.Model.{max_items};
 ghost use Rattle.history.specs.Observations.{max_ring, max_number, ring_size, base, last, last_at, ring_at};
@@ -9,6 +9,11 @@ ghost use Rattle.history.specs.Observations.{latest_at, checkpoint_at, item_row,
 ghost use Rattle.history.specs.Observations.{head_ok, Head, blank};
 ghost use Rattle.history.specs.Calls.{first};
 ghost use Rattle.observations.specs.Ring.{ring_time, ring_word};
+
+mod store;
+
+pub use spec::Row;
+pub use store::{Store, checked};
 
 // The places of the head's words, and how many there are: the ring begins behind them.
 const RING_SIZE_AT: usize = 0;
@@ -25,14 +30,6 @@ const RING_AT: u64 = HEAD_WORDS as u64;
 
 // A table's words for each item: number, time and packed word of each entry.
 const TABLE_WORDS: u64 = 3 * spec::ENTRIES;
-
-// An observation's number, time and packed word.
-#[derive(Clone, Copy)]
-pub struct Row {
-    pub number: u64,
-    pub time: u64,
-    pub packed: u64,
-}
 
 // How many words a store of n observations and m items has.
 pub fn words_for(n: u64, m: u64) -> u64
@@ -230,24 +227,13 @@ pub fn set_last(st: &mut [u64], s: u64)
     st[LAST_AT] = s;
 }
 
-// All words zero.
-fn clear(st: &mut [u64])
-    ensures { st.new ≡ replicate (length st.old) 0 }
-{
-    let mut i = 0;
-    while i < st.len() {
-        st[i] = 0;
-        i += 1;
-    }
-}
-
 // A head that has given no number yet, and zeros.
 pub fn make_blank(st: &mut [u64], n: u64, m: u64, b: u64)
     requires st_len { length st.old ≡ store_words n m }
     requires le_b { 1 ≤ b }
     ensures { st.new ≡ blank n m b }
 {
-    clear(st);
+    st.fill(0);
     st[RING_SIZE_AT] = n;
     st[ITEM_COUNT_AT] = m;
     st[BASE_AT] = b;

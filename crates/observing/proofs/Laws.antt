@@ -1,7 +1,7 @@
 -- One law to each way out of observing an item.
 use Prim.Native.Nat.{ℕ, ◌+◌, ◌*◌, ◌^◌, ◌≤◌, ◌<◌}
-use mathlib.Core.Path.{◌≡◌}
-use mathlib.Core.Bool.{Bool, true, false}
+use mathlib.Core.Path.{◌≡◌, refl}
+use mathlib.Core.Bool.{Bool, true, false, cond}
 use mathlib.Core.List.{List}
 use native.Mathlib.Omega.{arith}
 use borrow.Author.Tests.{lt-ltb, le-ltb}
@@ -13,7 +13,9 @@ use Rattle.spec.specs.declared.Value.{Value}
 use Rattle.spec.specs.declared.Refusal.TheVariants.{Item, Kind}
 use Rattle.spec.proofs.Words.{told, by-test}
 use Rattle.spec.proofs.Packing.{taken-word-lt, word_back, decode-fits}
+use Rattle.std.specs.Prelude.{Some, None}
 use Rattle.short_way.specs.Found.{found, observed_by}
+use Rattle.observing.specs.Taken.{taken}
 
 -- ---- the ways out
 
@@ -55,3 +57,30 @@ module _ (k word : ℕ) {t : Bool} (e : t ≡ takes k (decode word)) (f : t ≡ 
 
   pub word-packed : (item w : ℕ) → w ≡ item * 2 ^ 40 + word → w ≡ pack item (decode word)
   word-packed item w g = rw (word_back k word (told e f)) g
+
+-- ---- a value by what is made of it
+
+module _ (k item : ℕ) (v : Value) where
+  pub not_taken : takes k v ≡ false → None ≡ taken k item v
+  unfolding taken
+  not_taken f = rw f
+
+  pub taken_is : takes k v ≡ true → {w : ℕ} → w ≡ pack item v → Some w ≡ taken k item v
+  unfolding taken
+  taken_is f e = rw (f, e)
+
+  pub taken-none : None ≡ taken k item v → takes k v ≡ false
+  unfolding taken
+  taken-none e = none-by (takes k v) e
+    where
+      none-by : (b : Bool) → None ≡ cond b (Some (pack item v)) None → b ≡ false
+      none-by true q = cc
+      none-by false q = refl
+
+  pub taken-some : {w : ℕ} → Some w ≡ taken k item v → (takes k v ≡ true) × (w ≡ pack item v)
+  unfolding taken
+  taken-some {w} e = some-by (takes k v) e
+    where
+      some-by : (b : Bool) → Some w ≡ cond b (Some (pack item v)) None → (b ≡ true) × (w ≡ pack item v)
+      some-by true q = (refl, cc)
+      some-by false q = cc

@@ -2,14 +2,17 @@
 // latest, or are recorded.
 #![tactic(auto)]
 
-ghost use Rattle.std.specs.Prelude.{◌≡◌};
+ghost use Rattle.std.specs.Prelude.{◌≡◌, ℕ, ◌<◌, ◌^◌, Option};
 ghost use Rattle.spec.specs.Value.{decode};
-ghost use Rattle.spec.specs.Model.{Sizes, items};
+ghost use Rattle.spec.specs.declared.Value.{Value};
+ghost use Rattle.spec.specs.Model.{items, category};
 ghost use Rattle.history.specs.Observations.{Head};
 ghost use Rattle.history.specs.Calls.{time_or, observe_item};
+ghost use Rattle.observing.specs.Taken.{taken};
 
 use long_way::observe_long;
-use short_way::{LEFT, observe_short, short_answer};
+use model::Words;
+use short_way::observe_short;
 use spec::{ObserveAnswer, Refusal, Value};
 
 // The time, or the host's where it is missing.
@@ -19,61 +22,97 @@ pub fn time_or(time: u64, host: u64) -> u64
     if time == 0 { host } else { time }
 }
 
-// An observation of an item: refused, Same where it repeats the item's latest, or recorded.
+// The packed word of an item of the category and a value, where the item takes it.
+fn taken(category: u64, item: u64, value: Value) -> Option<u64>
+    requires { item < 2 ^ 24 }
+    ensures { result ≡ taken category item value }
+{
+    if !value::takes(category, value) {
+        return None;
+    }
+    Some(value::pack(item, value))
+}
+
+// The same of a value's word, which is not taken apart.
+fn taken_word(category: u64, item: u64, word: u64) -> Option<u64>
+    requires { item < 2 ^ 24 }
+    ensures { result ≡ taken category item (decode word) }
+{
+    if !value::takes_word(category, word) {
+        return None;
+    }
+    Some(value::pack_word(item, word))
+}
+
+// An observation of an item, its packed word told by its category: refused, Same where it repeats the item's latest, or
+// recorded. Each caller has an instance of its own, which the compiler joins into it: the walk over a batch needs that.
+fn observe_with<F: FnOnce(u64) -> Option<u64>>(
+    model: &Words<'_>,
+    observations: &mut [u64],
+    item: u64,
+    time: u64,
+    packed: F,
+) -> ObserveAnswer
+    requires head { Head (items model.now) observations.old }
+    requires callable { item < 2 ^ 24 → F.pre packed (category model.now item) }
+    ensures { let model = model.entry.now in
+        let st = observations.old in
+        (v : Value) → ((r : Option ℕ) → item < items model → F.post packed (category model item) r →
+        r ≡ taken (category model item) item v) →
+        let x = observe_item model st item time v in
+        (result ≡ x.answer) × (observations.new ≡ x.observations) }
+{
+    if model.items() <= item {
+        return Err(Refusal::Item);
+    }
+    let category = model.category(item);
+    let Some(word) = packed(category) else {
+        return Err(Refusal::Kind);
+    };
+    if let Some(answer) = observe_short(model, observations, category, item, time, word) {
+        return answer;
+    }
+    observe_long(model, observations, category, item, time, word)
+}
+
+// An observation of an item by its value.
 pub fn observe_item(
-    model: &[u32],
+    model: &Words<'_>,
     observations: &mut [u64],
     item: u64,
     time: u64,
     value: Value,
 ) -> ObserveAnswer
-    requires sizes { Sizes model.now }
     requires head { Head (items model.now) observations.old }
     ensures { let x = observe_item model.now observations.old item time value in
         (result ≡ x.answer) × (observations.new ≡ x.observations) }
 {
-    if model::items(model) <= item {
-        return ObserveAnswer::Refused(Refusal::Item);
-    }
-    let category = model::category(model, item);
-    if !value::takes(category, value) {
-        return ObserveAnswer::Refused(Refusal::Kind);
-    }
-    let word = value::pack(item, value);
-    let short = observe_short(model, observations, category, item, time, word);
-    if short != LEFT {
-        return short_answer(short);
-    }
-    observe_long(model, observations, category, item, time, word)
+    observe_with(
+        model,
+        observations,
+        item,
+        time,
+        |category| taken(category, item, value),
+    )
 }
 
-// The same of a value's word, which is not taken apart.
+// The same by a value's word.
 pub fn observe_word(
-    model: &[u32],
+    model: &Words<'_>,
     observations: &mut [u64],
     item: u64,
     time: u64,
     word: u64,
 ) -> ObserveAnswer
-    requires sizes { Sizes model.now }
     requires head { Head (items model.now) observations.old }
     ensures { let x = observe_item model.now observations.old item time (decode word) in
         (result ≡ x.answer) × (observations.new ≡ x.observations) }
 {
-    if item < model::items(model) {
-        let category = model::category(model, item);
-        if value::takes_word(category, word) {
-            let packed = value::pack_word(item, word);
-            let short = observe_short(model, observations, category, item, time, packed);
-            if short != LEFT {
-                short_answer(short)
-            } else {
-                observe_long(model, observations, category, item, time, packed)
-            }
-        } else {
-            ObserveAnswer::Refused(Refusal::Kind)
-        }
-    } else {
-        ObserveAnswer::Refused(Refusal::Item)
-    }
+    observe_with(
+        model,
+        observations,
+        item,
+        time,
+        |category| taken_word(category, item, word),
+    )
 }

@@ -7,18 +7,16 @@ use native.Mathlib.Numerals.{add-one}
 use native.Mathlib.Omega.{arith}
 use lib.Dec.{ltb}
 use lib.ListN.{length, set, length-set}
-use borrow.Author.Tests.{lt-ltb, ltb-true, ltb-false}
+use borrow.Author.Tests.{lt-ltb}
 use Rattle.spec.specs.Words.{bit}
 use Rattle.spec.specs.Value.{item_of}
 use Rattle.spec.specs.Model.{max_items}
 use Rattle.history.specs.Observations.{ring_size, base, place}
-use Rattle.spec.proofs.Words.{by-test}
 use Rattle.observations.specs.Ring.{ring_word}
-use Rattle.rows.specs.Rows.{Run}
+use Rattle.rows.specs.Rows.{Unwrapped}
 use Rattle.rows.proofs.Ranges.{run-next}
 use Rattle.rows.proofs.Laws.{word_at}
 use Rattle.picks.specs.Pass.{stepped_ok, word_of, number_stepped, pass_marks, pass_ok, seen_from, Passed}
-use Rattle.picks.specs.Picks.{block}
 use Rattle.picks.proofs.Numbers.{seen_step, seen_end, run-add}
 use Rattle.passes.specs.Passes.{Skipped}
 
@@ -140,24 +138,24 @@ module _ (steps m : ℕ) (st : List ℕ) (f s e q : ℕ) (l : List ℕ) (h : s <
 
 -- ---- runs of the ring
 
-module _ {N B e s q g : ℕ} (r : Run N B e s q) (h1 : s ≤ g) (h2 : g ≤ e) where
+module _ {N B e s q g : ℕ} (r : Unwrapped N B e s q) (h1 : s ≤ g) (h2 : g ≤ e) where
   -- from g on
-  pub run_on : Run N B e g (q + (g - s))
+  pub run_on : Unwrapped N B e g (q + (g - s))
   run_on = let a : s + (g - s) ≡ g = omega arith in rw a at (run-add (g - s) r (omega arith))
 
   -- up to g
-  pub run-to : Run N B g s q
+  pub run-to : Unwrapped N B g s q
   run-to = record { low = r.low; is = λ l. r.is (omega arith); room = omega (arith, r.room) }
 
 -- ---- a loop over numbers that change no mark: those from a up to s, which is at place q
 pub record Skipping (steps m : ℕ) (st : List ℕ) (f a e : ℕ) (v w : List ℕ) (s q : ℕ) : Type 0 where
-  pub run : Run (ring_size st) (base st) e s q
+  pub run : Unwrapped (ring_size st) (base st) e s q
   pub low : a ≤ s
   pub high : s ≤ e
   pub wide : length w ≡ max_items
   pub skipped : Skipped steps m st f e a s v w
 
-pub skipping-start : (steps m : ℕ) (st : List ℕ) (f a e p : ℕ) (v : List ℕ) → Run (ring_size st) (base st) e a p
+pub skipping-start : (steps m : ℕ) (st : List ℕ) (f a e p : ℕ) (v : List ℕ) → Unwrapped (ring_size st) (base st) e a p
     → a ≤ e → length v ≡ max_items → Skipping steps m st f a e v v a p
 skipping-start steps m st f a e p v r h n =
     record {
@@ -190,7 +188,7 @@ module _ {steps m : ℕ} {st : List ℕ} {f a e : ℕ} {v w : List ℕ} {s q : �
 -- ---- a run's loop: l and w are the marks and the newest places behind the numbers from a up to s, which is at place
 -- q; they were o and v at a
 pub record Passing (steps m : ℕ) (st : List ℕ) (f a e : ℕ) (o l v w : List ℕ) (s q : ℕ) : Type 0 where
-  pub run : Run (ring_size st) (base st) e s q
+  pub run : Unwrapped (ring_size st) (base st) e s q
   pub from : f ≤ s
   pub len : length l ≡ 8 * max_items
   pub wide : length w ≡ max_items
@@ -198,7 +196,7 @@ pub record Passing (steps m : ℕ) (st : List ℕ) (f a e : ℕ) (o l v w : List
   pub marks : pass_marks steps st f (e - a) a o ≡ pass_marks steps st f (e - s) s l
   pub seen : seen_from st f (e - a) a v ≡ seen_from st f (e - s) s w
 
-pub passing-start : (steps m : ℕ) (st : List ℕ) (f a e : ℕ) (o v : List ℕ) (q : ℕ) → Run (ring_size st) (base st) e a q
+pub passing-start : (steps m : ℕ) (st : List ℕ) (f a e : ℕ) (o v : List ℕ) (q : ℕ) → Unwrapped (ring_size st) (base st) e a q
     → f ≤ a → length o ≡ 8 * max_items → length v ≡ max_items → Passing steps m st f a e o o v v a q
 passing-start steps m st f a e o v q r h n k =
     record { run = r; from = h; len = n; wide = k; ok = refl; marks = refl; seen = refl }
@@ -249,11 +247,3 @@ module _ {steps m : ℕ} {st : List ℕ} {f a e : ℕ} {o l v w : List ℕ} {s q
           sym (z.seen ∙ seen_end st f s e w h),
         );
       }
-
--- a block behind x ends behind it
-pub block_on : {x y z e : ℕ} → x < e → (x ≤ y) × (y ≤ e) → ((y ≤ z) × (z ≤ e)) × ((z - y ≤ block) × (y < e → y < z))
-    → x < z
-block_on {x} {y} {z} {e} h a b =
-    by-test (ltb y e)
-    (λ t. let c = b.1.1 (ltb-true y e t) in omega (arith, a.0))
-    (λ t. let c = ltb-false y e t in omega (arith, b.0.0))

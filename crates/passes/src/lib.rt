@@ -2,117 +2,87 @@
 // without a wrap. The place of the pass's first number is FIRST_PLACE.
 #![tactic(auto)]
 
-ghost use Rattle.std.specs.Prelude.{◌≡◌, ◌-◌, ◌*◌, ◌<◌, ◌≤◌, length};
+ghost use Rattle.std.specs.Prelude.{◌≡◌, is_some, ◌-◌, ◌*◌, ◌≤◌, length};
 ghost use Rattle.spec.specs.Model.{max_items};
-ghost use Rattle.history.specs.Observations.{Head, ring_size, base};
+ghost use Rattle.history.specs.Observations.{ring_size, item_count, base};
 ghost use Rattle.picks.specs.Pass.{Part, Passed};
-ghost use Rattle.picks.specs.Picks.{block, Room};
+ghost use Rattle.picks.specs.Picks.{Room};
 ghost use Rattle.passes.specs.Passes.{Skipped};
 
+use observations::Store;
 use picks::{BLOCK, PICK_SLOTS};
+use rows::Run;
 use snapshot_rows::FIRST_PLACE;
 
-// Where a block that begins with number s ends, before e.
-fn block_end(s: u64, e: u64) -> u64
-    requires { s ≤ e }
-    ensures { ((s ≤ result) × (result ≤ e)) × ((result - s ≤ block) × (s < e → s < result)) }
+// The numbers of a run to the newest places, while their items are of the model and not in `steps`; the first that
+// isn't, or the run's end. Most rings have few others, and a test for them is all that this costs.
+fn plain_run(st: &Store<'_>, steps: u64, f: u64, run: Run, seen: &mut [u64]) -> u64
+    requires seen_len { length seen.old ≡ max_items }
+    requires part { Part st.now f run.from run.to run.place }
+    requires from_le_to { run.from ≤ run.to }
+    ensures bounds { (run.from ≤ result) × (result ≤ run.to) }
+    ensures skipped { Skipped steps (item_count st.now) st.now f run.to run.from result seen.old seen.new }
 {
-    if e - s <= BLOCK {
-        return e;
-    }
-    s + BLOCK
-}
-
-// The numbers from s on up to e, from ring place p on, to the newest places, while their items are of the model and
-// not in `steps`; the first that isn't, or e. Most rings have few others, and a test for them is all that this costs.
-fn plain_run(
-    st: &[u64],
-    m: u64,
-    steps: u64,
-    p: u64,
-    f: u64,
-    s: u64,
-    e: u64,
-    seen: &mut [u64],
-) -> u64
-    requires head { Head m st.now }
-    requires m_le_max_items { (m ≤ max_items) × (length seen.old ≡ max_items) }
-    requires part { Part st.now f s e p }
-    requires s_le_e { s ≤ e }
-    ensures lower_bound { (s ≤ result) × (result ≤ e) }
-    ensures skipped { Skipped steps m st.now f e s result seen.old seen.new }
-{
-    let n = observations::ring_size(st, m);
-    let mut q = p;
-    let mut x = s;
-    while x < e {
-        let i = value::item_of(observations::ring_word(st, n, q));
+    let words = st.slice();
+    let m = st.items();
+    let n = st.ring_size();
+    for number in run.from..run.to {
+        let word = observations::ring_word(words, n, run.place + (number - run.from));
+        let i = value::item_of(word);
         if m <= i || selection::has(steps, i) {
-            return x;
+            return number;
         }
-        seen[i as usize] = x - f + FIRST_PLACE;
-        q += 1;
-        x += 1;
+        seen[i as usize] = number - f + FIRST_PLACE;
     }
-    x
+    run.to
 }
 
-// One run of the pass, over the numbers from s on up to e, from ring place p on; f is the pass's first number.
+// One run of the pass; f is the pass's first number. None where the numbers don't pass.
 fn pass_run(
-    st: &[u64],
-    m: u64,
+    st: &Store<'_>,
     steps: u64,
-    p: u64,
     f: u64,
-    s: u64,
-    e: u64,
+    run: Run,
     seen: &mut [u64],
     picks: &mut [u8],
     marks: &mut [u64],
-) -> bool
-    requires head { Head m st.now }
-    requires m_le_max_items { (m ≤ max_items) × Room seen.old picks.old marks.old }
-    requires part { Part st.now f s e p }
+) -> Option<()>
+    requires room { Room seen.old picks.old marks.old }
+    requires part { Part st.now f run.from run.to run.place }
     ensures { let st = st.entry.now in
-        Passed steps m st f s e marks.old marks.new seen.old seen.new result }
+        Passed steps (item_count st) st f run.from run.to marks.old marks.new seen.old seen.new (is_some result) }
 {
-    let mut q = p;
-    let mut x = s;
-    while x < e {
-        let y = plain_run(st, m, steps, q, f, x, e, seen);
-        q += y - x;
-        let z = block_end(y, e);
-        if !picks::step_block(st, m, steps, q, f, y, z, seen, picks, marks) {
-            return false;
-        }
-        q += z - y;
-        x = z;
+    // behind it the head is known
+    let _ = st.slice();
+    let mut rest = run;
+    // each turn tells how far it goes, so no range serves
+    while rest.from < rest.to {
+        let stop = plain_run(st, steps, f, rest, seen);
+        let (_, behind) = rest.split(stop);
+        let end = behind.from + BLOCK.min(behind.to - behind.from);
+        let (block, next) = behind.split(end);
+        picks::step_block(st, steps, f, block, seen, picks, marks)?;
+        rest = next;
     }
-    true
+    Some(())
 }
 
-// The pass over the numbers from f up to e, at most a ring of them.
+// The pass over the numbers from f up to e, at most a ring of them; None where they don't pass.
 pub fn pass(
-    st: &[u64],
-    m: u64,
+    st: &Store<'_>,
     steps: u64,
     f: u64,
     e: u64,
     seen: &mut [u64],
     marks: &mut [u64],
-) -> bool
-    requires head { Head m st.now }
-    requires m_le_max_items { (m ≤ max_items) × ((length seen.old ≡ max_items) × (length marks.old ≡ 8 * max_items)) }
+) -> Option<()>
+    requires room { (length seen.old ≡ max_items) × (length marks.old ≡ 8 * max_items) }
     requires st_bound { (base st.now ≤ f) × ((f ≤ e) × (e - f ≤ ring_size st.now)) }
     ensures { let st = st.entry.now in
-        Passed steps m st f f e marks.old marks.new seen.old seen.new result }
+        Passed steps (item_count st) st f f e marks.old marks.new seen.old seen.new (is_some result) }
 {
     let mut picks = [0u8; PICK_SLOTS];
-    let r = rows::runs(st, m, f, e);
-    let p = r.place;
-    let g = r.turn;
-    if !pass_run(st, m, steps, p, f, f, g, seen, &mut picks, marks) {
-        return false;
-    }
-    pass_run(st, m, steps, 0, f, g, e, seen, &mut picks, marks)
+    let (front, back) = rows::runs(st, f, e);
+    pass_run(st, steps, f, front, seen, &mut picks, marks)?;
+    pass_run(st, steps, f, back, seen, &mut picks, marks)
 }

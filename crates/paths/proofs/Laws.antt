@@ -1,88 +1,109 @@
--- Laws of a path's form: one for each way out of the code that finds it.
-use Prim.Native.Nat.{ℕ, ◌+◌, ◌-◌, ◌<◌, ◌≤◌}
-use mathlib.Core.Path.{◌≡◌, sym, ap, ◌∙◌}
-use mathlib.Core.Bool.{Bool, true, false, cond, and-false}
+-- Laws of a path's form, as the code cuts it: by what it begins with, up to a slash, and by what it ends with.
+use Prim.Native.Nat.{ℕ, zero, suc, ◌+◌, ◌-◌, ◌<◌, ◌≤◌}
+use mathlib.Core.Path.{◌≡◌, refl, sym, ap, ◌∙◌}
+use mathlib.Core.Bool.{Bool, true, false, cond, ◌&&◌, and-false}
 use mathlib.Core.List.{List}
 use native.Mathlib.Omega.{arith}
-use borrow.Author.Tests.{le-leb, lt-leb, leb-true}
-use lib.Dec.{leb}
-use lib.ListN.{length, take, drop, length-take, length-drop}
+use borrow.Author.Tests.{le-leb, lt-leb, leb-true, eqb-true, eqb-false}
+use lib.Dec.{leb, eqb}
+use lib.ListN.{length, take, drop, length-drop}
 use lib.Seq.{take_all, drop-drop}
+use Rattle.std.specs.Cmp.Lexicographic.{pointwise}
+use Rattle.std.specs.Option.{MatchOption}
+use Rattle.std.proofs.Common.{Bor}
+use Rattle.std.specs.Prelude.{Option, Some, None, option_map}
 use Rattle.spec.specs.Bytes.{bytes, same, before}
-use Rattle.spec.proofs.Words.{and_left}
-use Rattle.spec.proofs.Bytes.{same-ne}
-use Rattle.spec.specs.Path.{subtree, typed, other_form, opening, closing, typed_form, form_behind, form_of}
+use Rattle.spec.specs.Path.{Form, subtree, typed, other_form, opening, closing, typed_form, form_behind, form_of}
 use Rattle.spec.specs.Path.{root_bytes, opening_bytes, closing_bytes, around_bytes}
-use Rattle.paths.specs.Forms.{is_typed}
-
--- the rest of a list from a place on, as the code lends it
-abbrev pub rest : List ℕ → ℕ → List ℕ
-rest s at = take (length s - at) (drop at s)
-
-pub from-here : (s : List ℕ) (at : ℕ) → rest s at ≡ drop at s
-from-here s at = take_all (length s - at) (drop at s) (omega (arith, length-drop at s))
+use Rattle.scan.proofs.Laws.{same-is}
+use Rattle.paths.specs.Forms.{item_type}
 
 -- ---- what follows T
 module _ (q : List ℕ) where
-  pub few : length q < around_bytes → false ≡ is_typed q
-  few h = rw (lt-leb around_bytes (length q) h)
+  pub unopened : pointwise eqb (take opening_bytes q) opening ≡ false → None ≡ item_type q
+  unopened t =
+      let z : same (take opening_bytes q) opening ≡ false = sym (same-is _ _) ∙ t in
+      rw (z, and-false (leb around_bytes (length q)))
 
-  pub unopened : same (take opening_bytes q) opening ≡ false → false ≡ is_typed q
-  unopened t = rw t (sym (and-false (leb around_bytes (length q))))
+  module _ (x : List ℕ) (t : pointwise eqb (take opening_bytes q) opening ≡ true)
+      (e : x ≡ drop opening_bytes q) (l : length x + opening_bytes ≡ length q) where
+    opened : same (take opening_bytes q) opening ≡ true
+    opened = sym (same-is _ _) ∙ t
 
-  module _ (h : around_bytes ≤ length q) where
-    pub opened : same (take opening_bytes q) opening ≡ true → (b : Bool)
-        → b ≡ same (rest q (length q - closing_bytes)) closing → b ≡ is_typed q
-    opened t b eb =
-        let all = from-here q (length q - closing_bytes) in
-        rw (le-leb around_bytes (length q) h, t) (eb ∙ ap (λ (l : List ℕ). same l closing) all)
+    -- what closes it, where both are there
+    last : around_bytes ≤ length q → drop (length x - closing_bytes) x ≡ drop (length q - closing_bytes) q
+    last h =
+        ap (drop (length x - closing_bytes)) e ∙ drop-drop (length x - closing_bytes) opening_bytes q
+        ∙ ap (λ (i : ℕ). drop i q) (omega arith)
+
+    unclosed : (b : Bool) → leb around_bytes (length q) ≡ b
+        → pointwise eqb (drop (length x - closing_bytes) x) closing ≡ false → None ≡ item_type q
+    unclosed true f n =
+        let z : same (drop (length q - closing_bytes) q) closing ≡ false =
+        ap (λ (r : List ℕ). same r closing) (sym (last (leb-true _ _ f))) ∙ sym (same-is _ _) ∙ n in
+        rw (f, opened, z)
+    unclosed false f n = rw f
+
+    pub closed : (r : Option (Bor (List ℕ)))
+        → MatchOption r (pointwise eqb (drop (length x - closing_bytes) x) closing ≡ false)
+        (λ y. (pointwise eqb (drop (length x - closing_bytes) x) closing ≡ true)
+        × (y.now ≡ take (length x - closing_bytes) x) × (length y.now + closing_bytes ≡ length x))
+        → option_map (λ y. y.now) r ≡ item_type q
+    closed None n = unclosed _ refl n
+    closed (Some y) g =
+        let h : around_bytes ≤ length q = omega (arith, g.2) in
+        let z : same (drop (length q - closing_bytes) q) closing ≡ true =
+        ap (λ (r : List ℕ). same r closing) (sym (last h)) ∙ sym (same-is _ _) ∙ g.0 in
+        let m : length x - closing_bytes ≡ length q - around_bytes = omega arith in
+        rw (le-leb around_bytes (length q) h, opened, z, ← e, ← m, g.1)
+
+-- the form, by the item type
+abbrev pub behind-type : List ℕ → Option (List ℕ) → Form
+behind-type t (Some y) = typed t y
+behind-type t None = other_form
+
+typed-by : (t q : List ℕ) → typed_form t q ≡ behind-type t (item_type q)
+unfolding typed_form
+typed-by t q =
+    go
+    (leb around_bytes (length q)
+    && (same (take opening_bytes q) opening && same (drop (length q - closing_bytes) q) closing))
+  where
+    y : List ℕ
+    y = take (length q - around_bytes) (drop opening_bytes q)
+
+    go : (b : Bool) → cond b (typed t y) other_form ≡ behind-type t (cond b (Some y) None)
+    go true = refl
+    go false = refl
 
 -- ---- the form of a path
+some-byte : (l : ℕ) → (l ≡ 0 → ⊥) → 0 < l
+some-byte zero n = absurd (n refl)
+some-byte (suc l) n = omega arith
+
 module _ (path : List ℕ) where
-  pub unrooted : same (take root_bytes path) (bytes "//") ≡ false → other_form ≡ form_of path
+  pub unrooted : pointwise eqb (take root_bytes path) (bytes "//") ≡ false → other_form ≡ form_of path
   unfolding form_of
-  unrooted t = rw t
+  unrooted t = let z : same (take root_bytes path) (bytes "//") ≡ false = sym (same-is _ _) ∙ t in rw z
 
-  pub short : length path < root_bytes → other_form ≡ form_of path
-  short h =
-      let l = length-take root_bytes path in
-      unrooted (same-ne (take root_bytes path) (bytes "//") (λ e. omega (arith, ap length e, l)))
-
-  module _ (root : same (take root_bytes path) (bytes "//") ≡ true) (n : ℕ)
-      (en : n ≡ before 47 47 (rest path root_bytes)) where
-    behind : form_of path
-        ≡ cond (leb (length path - root_bytes) n)
-        (subtree (drop root_bytes path))
-        (typed_form (take n (drop root_bytes path)) (drop (root_bytes + n) path))
+  module _ (x : List ℕ) (t : pointwise eqb (take root_bytes path) (bytes "//") ≡ true) (e : x ≡ drop root_bytes path)
+      (n : ℕ) (en : n ≡ before 47 47 x) where
+    behind : form_of path ≡ cond (leb (length x) n) (subtree x) (typed_form (take n x) (drop n x))
     unfolding form_of form_behind
     behind =
-        let z : before 47 47 (drop root_bytes path) ≡ n = rw from-here at (sym en) in
-        rw (root, z, length-drop root_bytes path, drop-drop)
+        let z : same (take root_bytes path) (bytes "//") ≡ true = sym (same-is _ _) ∙ t in
+        rw (z, en, e)
 
-    pub subtree-form : length path ≤ root_bytes + n → subtree (rest path root_bytes) ≡ form_of path
-    subtree-form l = rw (behind, le-leb (length path - root_bytes) n (omega arith), from-here path root_bytes)
+    pub subtree-form : (y q : List ℕ) → y ≡ take n x → q ≡ drop n x → (b : Bool) → b ≡ eqb (length q) 0 → b ≡ true
+        → subtree y ≡ form_of path
+    subtree-form y q ey eq b eb z =
+        let l : length x ≤ n = omega (arith, length-drop n x, ap length eq, eqb-true (length q) 0 (sym eb ∙ z)) in
+        rw (behind, le-leb (length x) n l, ey, take_all n x l)
 
-    module _ (l : root_bytes + n < length path) where
-      longer : leb (length path - root_bytes) n ≡ false
-      longer = lt-leb (length path - root_bytes) n (omega arith)
-
-      pub other-form : is_typed (drop (root_bytes + n) path) ≡ false → other_form ≡ form_of path
-      unfolding typed_form
-      other-form t = rw (behind, longer, t)
-
-      pub typed-form : is_typed (drop (root_bytes + n) path) ≡ true
-          → typed (take n (drop root_bytes path))
-          (take (length path - (root_bytes + n) - around_bytes) (drop (root_bytes + n + opening_bytes) path))
-          ≡ form_of path
-      unfolding typed_form
-      typed-form t = rw (behind, longer, t, length-drop (root_bytes + n) path, drop-drop)
-
--- the test of what follows T, as the code asks it of a part of the path
-pub typed-is : (path : List ℕ) (at : ℕ) (b c : Bool) → b ≡ is_typed (rest path at) → b ≡ c
-    → is_typed (drop at path) ≡ c
-typed-is path at b c eb t = rw from-here at (sym eb) ∙ t
-
-pub typed_long : (path : List ℕ) (at : ℕ) → is_typed (drop at path) ≡ true → around_bytes ≤ length path - at
-typed_long path at t =
-    let l = length (drop at path) in
-    omega (arith, leb-true around_bytes l (and_left (leb around_bytes l) _ t), length-drop at path)
+    pub typed-form : (y q : List ℕ) → y ≡ take n x → q ≡ drop n x → (b : Bool) → b ≡ eqb (length q) 0 → b ≡ false
+        → (r : Option (List ℕ)) → r ≡ item_type q → behind-type y r ≡ form_of path
+    typed-form y q ey eq b eb f r g =
+        let l = some-byte (length q) (eqb-false (length q) 0 (sym eb ∙ f)) in
+        let z : n < length x = omega (arith, length-drop n x, ap length eq, l) in
+        let b : form_of path ≡ typed_form y q = rw (behind, lt-leb (length x) n z, ← ey, ← eq) in
+        rw (b, typed-by y q, g)

@@ -1,24 +1,21 @@
--- What a form given by lengths says of a path.
-use Rattle.std.specs.Prelude.{ℕ, ◌+◌, ◌-◌, ◌≤◌, Bool, ◌&&◌, List, leb, length, take, drop}
+-- What a form with the names says of a path.
+use Rattle.std.specs.Prelude.{ℕ, ◌-◌, cond, ◌&&◌, List, leb, length, take, drop, Option, Some, None}
 use Rattle.spec.specs.Bytes.{same}
-use Rattle.spec.specs.Path.{Form, subtree, typed, other_form, root_bytes, opening_bytes, closing_bytes, around_bytes, opening, closing}
+use Rattle.spec.specs.Path.{Form, subtree, typed, other_form, opening_bytes, closing_bytes, around_bytes, opening, closing}
 use Rattle.paths.specs.declared.PathForm.{PathForm}
-use Rattle.paths.specs.declared.PathForm.TheVariants.{Subtree, Typed, Other}
+use Rattle.paths.specs.declared.PathForm.TheVariants.{Subtree, Typed}
 
--- the form, with the names out of the path
-abbrev pub meaning : List ℕ → PathForm → Form
-meaning path (Subtree n) = subtree (take n (drop root_bytes path))
-meaning path (Typed n k) = typed (take n (drop root_bytes path)) (take k (drop (root_bytes + n + opening_bytes) path))
-meaning path Other = other_form
+-- the form of the definitions
+abbrev pub meaning : Option PathForm → Form
+meaning (Some (Subtree t)) = subtree t.now
+meaning (Some (Typed t y)) = typed t.now y.now
+meaning None = other_form
 
--- the names are within a path of l bytes
-abbrev pub NamesFit : PathForm → ℕ → Type 0
-NamesFit (Subtree n) l = root_bytes + n ≤ l
-NamesFit (Typed n k) l = root_bytes + n + opening_bytes + k ≤ l
-NamesFit Other l = Unit {0}
-
--- what follows T is that of the second form
-abbrev pub is_typed : List ℕ → Bool
-is_typed rest =
-    leb around_bytes (length rest)
-    && (same (take opening_bytes rest) opening && same (drop (length rest - closing_bytes) rest) closing)
+-- the item type, where what follows T is that of the second form
+abbrev pub item_type : List ℕ → Option (List ℕ)
+item_type rest =
+    cond
+    (leb around_bytes (length rest)
+    && (same (take opening_bytes rest) opening && same (drop (length rest - closing_bytes) rest) closing))
+    (Some (take (length rest - around_bytes) (drop opening_bytes rest)))
+    None

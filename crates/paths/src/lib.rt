@@ -1,61 +1,34 @@
-// The form of a path: the names in it, by their lengths.
+// The form of a path, with the names in it.
 #![tactic(auto)]
 
-ghost use Rattle.std.specs.Prelude.{◌≡◌, length};
+ghost use Rattle.std.specs.Prelude.{◌≡◌, option_map};
 ghost use Rattle.spec.specs.Path.{form_of};
-ghost use Rattle.paths.specs.Forms.{is_typed, meaning, NamesFit};
+ghost use Rattle.paths.specs.Forms.{item_type, meaning};
 
-// The form of a path: //T, by the length of T, and //T//DataItem[@type="Y"], by the lengths of T and Y.
+// A path that selects: //T, by T, and //T//DataItem[@type="Y"], by T and Y.
 #[derive(Clone, Copy)]
-pub enum PathForm {
-    Subtree(usize),
-    Typed(usize, usize),
-    Other,
+pub enum PathForm<'a> {
+    Subtree(&'a [u8]),
+    Typed(&'a [u8], &'a [u8]),
 }
 
-// How many bytes stand before T, between T and Y, and behind Y, and around Y together.
-pub const ROOT: usize = 2;
-
-pub const OPENING: usize = 18;
-
-const CLOSING: usize = 2;
-
-const AROUND: usize = OPENING + CLOSING;
-
-// Whether what follows T is that of the second form.
-fn is_typed(rest: &[u8]) -> bool
-    ensures { result ≡ is_typed rest.now }
+// The item type Y, where what follows T is that of the second form.
+fn item_type(rest: &[u8]) -> Option<&[u8]>
+    ensures { option_map (λ y. y.now) result ≡ item_type rest.now }
 {
-    let l = rest.len();
-    if l < AROUND {
-        return false;
-    }
-    if !scan::equal(&rest[..OPENING], b"//DataItem[@type=\"") {
-        return false;
-    }
-    let end = l - CLOSING;
-    scan::equal(&rest[end..], b"\"]")
+    let quoted = rest.strip_prefix(b"//DataItem[@type=\"")?;
+    quoted.strip_suffix(b"\"]")
 }
 
-// The form of a path; the names that it tells of are in the path.
-pub fn path_form(path: &[u8]) -> PathForm
-    ensures result_value { meaning path.now result ≡ form_of path.now }
-    ensures names_fit { NamesFit result (length path.now) }
+// The form of a path; none where it has neither.
+pub fn path_form(path: &[u8]) -> Option<PathForm<'_>>
+    ensures { meaning result ≡ form_of path.now }
 {
-    let l = path.len();
-    if l < ROOT {
-        return PathForm::Other;
+    let names = path.strip_prefix(b"//")?;
+    let (t, rest) = names.split_at(scan::find(names, b'/', b'/'));
+    if rest.is_empty() {
+        return Some(PathForm::Subtree(t));
     }
-    if !scan::equal(&path[..ROOT], b"//") {
-        return PathForm::Other;
-    }
-    let n = scan::find(&path[ROOT..], b'/', b'/');
-    let at = ROOT + n;
-    if l <= at {
-        return PathForm::Subtree(l - ROOT);
-    }
-    if !is_typed(&path[at..]) {
-        return PathForm::Other;
-    }
-    PathForm::Typed(n, l - at - AROUND)
+    let y = item_type(rest)?;
+    Some(PathForm::Typed(t, y))
 }

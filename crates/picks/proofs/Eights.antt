@@ -14,11 +14,13 @@ use Rattle.spec.specs.Words.{bit}
 use Rattle.spec.proofs.Words.{by-test}
 use Rattle.spec.specs.Entries.{normal, code_field}
 use Rattle.marks.specs.Marks.{mark_of, key_in, key_of, eight_at, place_of}
-use Rattle.changes.specs.Changes.{raised_for, cleared_for, change_for, changed, is_full}
+use borrow.Rule.Slice.PartMut.{put_mid}
+use Rattle.changes.specs.Changes.{raised_for, cleared_for, change_for, changed, is_full, ChangeFits}
 use Rattle.changes.specs.declared.Change.{Change}
-use Rattle.marks.proofs.Laws.{eight-length, first-at, key-zero, key-some}
+use Rattle.marks.proofs.Laws.{eight-length, key-zero, key-some}
 use Rattle.changes.proofs.Laws.{change-first, change-raised, change-fits}
 use Rattle.changes.proofs.Steps.{length-changed}
+use Rattle.eights.proofs.Laws.{eight-written}
 use Rattle.picks.specs.Pass.{stepped_eight, stepped_at, stepped, fits}
 
 -- ---- words of one item, and of the others
@@ -109,29 +111,33 @@ module _ (i place word : ℕ) (l : List ℕ) where
       (λ b. rw (a, key-zero i word ek z, b, clear-fits (suc (code_field word)) ms))
       (λ b. rw (a, key-zero i word ek z, b)))
 
-  pub first_fits : {x : ℕ} → x ≡ key_in (get_or l (8 * i) 0) → x ≡ 0 → true ≡ fits i word l
+  pub first_fits : {x : ℕ} → x ≡ key_in (get_or (eight_at l (8 * i)) 0 0) → x ≡ 0 → true ≡ fits i word l
   first_fits ex z =
-      ap (λ (c : Change). not (is_full c)) (change-first i (eight_at l (8 * i)) word (ap key_in (first-at l (8 * i))
-      ∙ (sym ex ∙ z)))
+      ap (λ (c : Change). not (is_full c)) (change-first i (eight_at l (8 * i)) word (sym ex ∙ z))
 
-  pub change-step : {c : Change} {y k : ℕ} {r : List ℕ} → c ≡ change_for i (eight_at l (8 * i)) word
-      → y ≡ mark_of place k → k ≡ key_of i word
-      → r ≡ sets l (8 * i) (changed 0 c y (eight_at l (8 * i))) → r ≡ stepped_at i place word l
-  change-step ec ey ek er = er ∙ rw (ey, ek, ec)
+  pub change-step : 8 * i + 8 ≤ length l → {c : Change} {y k : ℕ} {r : List ℕ} → ChangeFits c
+      → c ≡ change_for i (eight_at l (8 * i)) word → y ≡ mark_of place k → k ≡ key_of i word
+      → r ≡ changed 0 c y (eight_at l (8 * i))
+      → put_mid (8 * i) (8 * i + 8 - 8 * i) l r ≡ stepped_at i place word l
+  change-step room {c} {y} f ec ey ek er = eight-written (8 * i) l c y f room er ∙ rw (ey, ek, ec)
 
 -- of a Warning or Fault, k being its key, where x, the first mark's, isn't 0
 module _ (i place word : ℕ) (l : List ℕ) {k x : ℕ} (ek : k ≡ key_of i word) (some : k ≡ 0 → ⊥)
-    (ex : x ≡ key_in (get_or l (8 * i) 0)) (first : x ≡ 0 → ⊥) where
+    (ex : x ≡ key_in (get_or (eight_at l (8 * i)) 0 0)) (first : x ≡ 0 → ⊥) where
   raised_is : raised_for k (eight_at l (8 * i)) ≡ change_for i (eight_at l (8 * i)) word
   raised_is =
       rw ek
-      (change-raised i (eight_at l (8 * i)) word (λ z. first (ex ∙ ap key_in (sym (first-at l (8 * i))) ∙ z))
-      (key-some i word ek some))
+      (change-raised i (eight_at l (8 * i)) word (λ z. first (ex ∙ z)) (key-some i word ek some))
+
+  raise-change : 8 * i + 8 ≤ length l → ChangeFits (raised_for k (eight_at l (8 * i)))
+  raise-change room = rw raised_is (change-fits (eight_at l (8 * i)) (eight-length l (8 * i) room) i word)
 
   pub raise-fits : {t : Bool} → t ≡ not (is_full (raised_for k (eight_at l (8 * i)))) → t ≡ fits i word l
   raise-fits e = e ∙ ap (λ (c : Change). not (is_full c)) raised_is
 
-  pub raise-step : {y : ℕ} {r : List ℕ} → y ≡ mark_of place k
-      → r ≡ sets l (8 * i) (changed 0 (raised_for k (eight_at l (8 * i))) y (eight_at l (8 * i)))
-      → r ≡ stepped_at i place word l
-  raise-step ey er = er ∙ rw (raised_is, ey, ek)
+  pub raise-step : 8 * i + 8 ≤ length l → {y : ℕ} {r : List ℕ} → y ≡ mark_of place k
+      → r ≡ changed 0 (raised_for k (eight_at l (8 * i))) y (eight_at l (8 * i))
+      → put_mid (8 * i) (8 * i + 8 - 8 * i) l r ≡ stepped_at i place word l
+  raise-step room {y} ey er =
+      eight-written (8 * i) l (raised_for k (eight_at l (8 * i))) y (raise-change room) room er
+      ∙ rw (raised_is, ey, ek)

@@ -15,7 +15,7 @@ use Rattle.spec.specs.Model.{max_items}
 use Rattle.history.specs.Observations.{ring_size, base, place, ring_ok}
 use Rattle.spec.proofs.Words.{by-test, and_left, and_right, every-at}
 use Rattle.observations.specs.Ring.{ring_word}
-use Rattle.rows.specs.Rows.{items_ok, Run}
+use Rattle.rows.specs.Rows.{items_ok, Unwrapped}
 use Rattle.rows.proofs.Ranges.{run-next}
 use Rattle.rows.proofs.Laws.{word_at, ok_step}
 use Rattle.picks.specs.Pass.{stepped_at, stepped_ok, fits, word_of, pass_marks, pass_ok, seen_from, Part, Passed}
@@ -84,7 +84,7 @@ foreign steps m st f (suc k) s l o =
 
 -- ---- a loop that gathers: those of the numbers from a up to s stand in the first c of ps
 pub record Gathering (steps m : ℕ) (st : List ℕ) (f a e : ℕ) (v w ps : List ℕ) (c s q : ℕ) : Type 0 where
-  pub run : Run (ring_size st) (base st) e s q
+  pub run : Unwrapped (ring_size st) (base st) e s q
   pub low : a ≤ s
   pub high : s ≤ e
   pub few : c ≤ s - a
@@ -94,7 +94,7 @@ pub record Gathering (steps m : ℕ) (st : List ℕ) (f a e : ℕ) (v w ps : Lis
   pub seen : seen_from st f (e - a) a v ≡ seen_from st f (e - s) s w
   pub picks : picked steps st a (e - a) 0 ≡ take c ps ++ picked steps st a (e - s) (s - a)
 
-pub gathering-start : (steps m : ℕ) (st : List ℕ) (f a e q : ℕ) (v ps : List ℕ) → Run (ring_size st) (base st) e a q
+pub gathering-start : (steps m : ℕ) (st : List ℕ) (f a e q : ℕ) (v ps : List ℕ) → Unwrapped (ring_size st) (base st) e a q
     → a ≤ e → length v ≡ max_items → length ps ≡ suc block → Gathering steps m st f a e v v ps 0 a q
 gathering-start steps m st f a e q v ps r h n k =
     let z : a - a ≡ 0 = omega arith in
@@ -187,69 +187,69 @@ module _ {steps m : ℕ} {st : List ℕ} {f a e : ℕ} {v w ps : List ℕ} {c s 
           },
         )
 
--- ---- a loop over picks: l are the marks behind the first t of them, and j stands behind these; the marks were o
-pub record Stepping (m : ℕ) (st : List ℕ) (f s p : ℕ) (ps o l : List ℕ) (t j : ℕ) : Type 0 where
+-- ---- a loop over picks: l are the marks behind the first t of them; the marks were o
+pub record Stepping (m : ℕ) (st : List ℕ) (f s p : ℕ) (ps o l : List ℕ) (t : ℕ) : Type 0 where
   pub len : length l ≡ 8 * max_items
   pub here : t + length (listed (drop t ps)) < length ps
-  pub is : j ≡ get_or ps t 0
   pub picks : Each (Pick m st f s p) (listed (drop t ps))
   pub ok : pick_ok st f s (listed ps) o ≡ pick_ok st f s (listed (drop t ps)) l
   pub marks : pick_marks st f s (listed ps) o ≡ pick_marks st f s (listed (drop t ps)) l
 
 pub stepping-start : (m : ℕ) (st : List ℕ) (f s p : ℕ) (ps o : List ℕ) → length o ≡ 8 * max_items
-    → length (listed ps) < length ps → Each (Pick m st f s p) (listed ps) → Stepping m st f s p ps o o 0 (get_or ps 0 0)
+    → length (listed ps) < length ps → Each (Pick m st f s p) (listed ps) → Stepping m st f s p ps o o 0
 stepping-start m st f s p ps o n h v =
-    record { len = n; here = omega arith; is = refl; picks = v; ok = refl; marks = refl }
+    record { len = n; here = omega arith; picks = v; ok = refl; marks = refl }
 
-module _ {m : ℕ} {st : List ℕ} {f s p : ℕ} {ps o l : List ℕ} {t j : ℕ} (z : Stepping m st f s p ps o l t j) where
-  next_pick : listed (drop t ps) ≡ cond (eqb j block) [] (j ∷ listed (drop (suc t) ps))
-  unfolding listed
-  next_pick = rw (drop-cons ps t 0 (omega (arith, z.here)), z.is)
+module _ {m : ℕ} {st : List ℕ} {f s p : ℕ} {ps o l : List ℕ} {t : ℕ} (z : Stepping m st f s p ps o l t) where
+  -- the picks end before the room for them does
+  pub stepping-inside : t < length ps
+  stepping-inside = omega (arith, z.here)
 
-  module _ (some : j ≡ block → ⊥) where
-    more : listed (drop t ps) ≡ j ∷ listed (drop (suc t) ps)
-    more = next_pick ∙ rw (ne_eqb j block some)
+  module _ {j : ℕ} (ej : j ≡ get_or ps t 0) where
+    next_pick : listed (drop t ps) ≡ cond (eqb j block) [] (j ∷ listed (drop (suc t) ps))
+    unfolding listed
+    next_pick = rw (drop-cons ps t 0 stepping-inside, ej)
 
-    pub stepping-pick : Pick m st f s p j
-    stepping-pick = (rw more at z.picks).0
+    module _ (some : j ≡ block → ⊥) where
+      more : listed (drop t ps) ≡ j ∷ listed (drop (suc t) ps)
+      more = next_pick ∙ rw (ne_eqb j block some)
 
-    pub stepping-room : t + 1 < length ps
-    stepping-room = omega (arith, z.here, ap length more)
+      pub stepping-pick : Pick m st f s p j
+      stepping-pick = (rw more at z.picks).0
 
-    module _ {n x i : ℕ} (hn : n ≡ ring_size st) (hx : x ≡ ring_word st n (p + j)) (hi : i ≡ item_of x) where
-      word : x ≡ word_of st (s + j)
-      word = hx ∙ rw (hn, stepping-pick.at)
+      module _ {n x i : ℕ} (hn : n ≡ ring_size st) (hx : x ≡ ring_word st n (p + j)) (hi : i ≡ item_of x) where
+        word : x ≡ word_of st (s + j)
+        word = hx ∙ rw (hn, stepping-pick.at)
 
-      owner : i ≡ item_of (word_of st (s + j))
-      owner = hi ∙ ap item_of word
+        owner : i ≡ item_of (word_of st (s + j))
+        owner = hi ∙ ap item_of word
 
-      pub stepping-item : i < m
-      stepping-item = rw owner stepping-pick.item
+        pub stepping-item : i < m
+        stepping-item = rw owner stepping-pick.item
 
-      module _ {b : Bool} (eb : b ≡ fits i x l) where
-        pub stepping-no : b ≡ false → false ≡ pick_ok st f s (listed ps) o
-        unfolding pick_ok
-        stepping-no e = sym (z.ok ∙ rw (more, ← owner, ← word, ← eb, e))
+        module _ {b : Bool} (eb : b ≡ fits i x l) where
+          pub stepping-no : b ≡ false → false ≡ pick_ok st f s (listed ps) o
+          unfolding pick_ok
+          stepping-no e = sym (z.ok ∙ rw (more, ← owner, ← word, ← eb, e))
 
-        pub stepping-more : {y : ℕ} {r : List ℕ} → b ≡ true → y ≡ s + j - f + 9 → length r ≡ length l
-            → r ≡ stepped_at i y x l → Stepping m st f s p ps o r (t + 1) (get_or ps (t + 1) 0)
-        unfolding pick_ok pick_marks
-        stepping-more {y} {r} e hy k er =
-            let new : number_at st f (s + j) l ≡ r = rw (← owner, ← word, ← hy, er) in
-            record {
-              len = k ∙ z.len;
-              here = rw (add-one t) (omega (arith, z.here, ap length more));
-              is = refl;
-              picks = rw (add-one t) (rw more at z.picks).1;
-              ok = z.ok ∙ rw (more, ← owner, ← word, ← eb, e, add-one t, er, hy);
-              marks = z.marks ∙ rw (more, add-one t) (ap (pick_marks st f s (listed (drop (suc t) ps))) new);
-            }
+          pub stepping-more : {y : ℕ} {r : List ℕ} → b ≡ true → y ≡ s + j - f + 9 → length r ≡ length l
+              → r ≡ stepped_at i y x l → Stepping m st f s p ps o r (t + 1)
+          unfolding pick_ok pick_marks
+          stepping-more {y} {r} e hy k er =
+              let new : number_at st f (s + j) l ≡ r = rw (← owner, ← word, ← hy, er) in
+              record {
+                len = k ∙ z.len;
+                here = rw (add-one t) (omega (arith, z.here, ap length more));
+                picks = rw (add-one t) (rw more at z.picks).1;
+                ok = z.ok ∙ rw (more, ← owner, ← word, ← eb, e, add-one t, er, hy);
+                marks = z.marks ∙ rw (more, add-one t) (ap (pick_marks st f s (listed (drop (suc t) ps))) new);
+              }
 
-  pub stepping-end : j ≡ block → (true ≡ pick_ok st f s (listed ps) o) × (l ≡ pick_marks st f s (listed ps) o)
-  unfolding pick_ok pick_marks
-  stepping-end e =
-      let n : listed (drop t ps) ≡ [] = next_pick ∙ rw e in
-      (sym (z.ok ∙ rw n), sym (z.marks ∙ rw n))
+    pub stepping-end : j ≡ block → (true ≡ pick_ok st f s (listed ps) o) × (l ≡ pick_marks st f s (listed ps) o)
+    unfolding pick_ok pick_marks
+    stepping-end e =
+        let n : listed (drop t ps) ≡ [] = next_pick ∙ rw e in
+        (sym (z.ok ∙ rw n), sym (z.marks ∙ rw n))
 
 -- ---- a block
 

@@ -7,7 +7,7 @@ use native.Mathlib.Omega.{arith}
 use lib.ListN.{set}
 use Rattle.spec.specs.Value.{item_of}
 use Rattle.history.specs.Observations.{ring_size, base, place}
-use Rattle.rows.specs.Rows.{Run}
+use Rattle.rows.specs.Rows.{Unwrapped}
 use Rattle.rows.proofs.Ranges.{run-next}
 use Rattle.rows.proofs.Laws.{word_at}
 use Rattle.picks.specs.Pass.{seen_from}
@@ -26,7 +26,7 @@ seen_step st f s e q w h i = let z : e - s ≡ suc (e - (s + 1)) = omega arith i
 
 -- ---- runs of the ring
 
-pub run-add : {N B e s q : ℕ} (k : ℕ) → Run N B e s q → s + k ≤ e → Run N B e (s + k) (q + k)
+pub run-add : {N B e s q : ℕ} (k : ℕ) → Unwrapped N B e s q → s + k ≤ e → Unwrapped N B e (s + k) (q + k)
 run-add {N} {B} {e} {s} {q} zero r h =
     let a : s + 0 ≡ s = omega arith in let b : q + 0 ≡ q = omega arith in rw (a, b) r
 run-add {N} {B} {e} {s} {q} (suc k) r h =
@@ -34,6 +34,6 @@ run-add {N} {B} {e} {s} {q} (suc k) r h =
     let b : q + suc k ≡ q + 1 + k = omega arith in
     rw (a, b) (run-add {N = N} {B = B} {e = e} {s = s + 1} {q = q + 1} k (run-next r (omega arith)) (omega arith))
 
-pub run_at : {N B e s q : ℕ} → Run N B e s q → (j : ℕ) → j < e - s → (q + j ≡ place N B (s + j)) × (q + j < N)
+pub run_at : {N B e s q : ℕ} → Unwrapped N B e s q → (j : ℕ) → j < e - s → (q + j ≡ place N B (s + j)) × (q + j < N)
 run_at {N} {B} {e} {s} {q} r j h =
     let u = run-add j r (omega arith) in (u.is (omega arith), omega (arith, r.room))

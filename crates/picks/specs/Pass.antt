@@ -7,7 +7,7 @@ use Rattle.spec.specs.Value.{item_of}
 use Rattle.history.specs.Observations.{ring_size, base, entry}
 use Rattle.marks.specs.Marks.{mark_of, key_of, eight_at}
 use Rattle.changes.specs.Changes.{change_for, changed, is_full}
-use Rattle.rows.specs.Rows.{Run}
+use Rattle.rows.specs.Rows.{Unwrapped}
 
 -- a condition item's eight behind an entry of its own at a place, by its packed word
 abbrev pub stepped_eight : ℕ → ℕ → ℕ → List ℕ → List ℕ
@@ -54,7 +54,7 @@ seen_from st f (suc k) s w = seen_from st f k (suc s) (set w (item_of (word_of s
 
 -- the numbers from s up to e of a pass that begins with f: they stand in the ring from place p on, without a wrap
 pub record Part (st : List ℕ) (f s e p : ℕ) : Type 0 where
-  pub run : Run (ring_size st) (base st) e s p
+  pub run : Unwrapped (ring_size st) (base st) e s p
   pub from : f ≤ s
   pub near : e - f ≤ ring_size st
 

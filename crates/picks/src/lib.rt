@@ -2,60 +2,57 @@
 // picked out and stepped to their items' marks.
 #![tactic(auto)]
 
-ghost use Rattle.std.specs.Prelude.{◌≡◌, true, suc, ◌-◌, ◌*◌, ◌^◌, ◌<◌, ◌≤◌, length};
+ghost use Rattle.std.specs.Prelude.{◌≡◌, true, is_some, suc, ◌-◌, ◌*◌, ◌^◌, ◌<◌, ◌≤◌, length};
 ghost use Rattle.spec.specs.Model.{max_items};
-ghost use Rattle.history.specs.Observations.{Head};
+ghost use Rattle.history.specs.Observations.{item_count};
 ghost use Rattle.rows.specs.Rows.{items_ok};
 ghost use Rattle.picks.specs.Pass.{stepped_at, fits, Part, Passed};
 ghost use Rattle.picks.specs.Picks.{block, Room, listed, Gathered, Pick, Each, pick_marks, pick_ok};
 
+use observations::Store;
+use rows::Run;
 use snapshot_rows::FIRST_PLACE;
 
-// Numbers of the ring that are looked through at a time. A pick is a byte below it, and BLOCK itself is none.
+// Numbers of the ring that are looked through at a time. A pick is a byte below BLOCK, which itself ends the picks:
+// with a count in its place the compiler computes it twice an entry.
 pub const BLOCK: u64 = 255;
 
 // Room for a block's picks and their end.
 pub const PICK_SLOTS: usize = 256;
 
-// A block of numbers from s on up to e, from ring place p on, to the newest places; those of condition items to the
-// picks, by their distance from s, and none behind them. False where an item isn't the model's. No branch is told by
-// the item, which no predictor could tell.
+// A block of numbers to the newest places; those of condition items to the picks, by their distance from its first.
+// None where an item isn't the model's. No branch is told by the item, which no predictor could tell.
 fn gather(
-    st: &[u64],
-    m: u64,
+    st: &Store<'_>,
     steps: u64,
-    p: u64,
     f: u64,
-    s: u64,
-    e: u64,
+    run: Run,
     seen: &mut [u64],
     picks: &mut [u8],
-) -> bool
-    requires head { Head m st.now }
-    requires m_le_max_items { (m ≤ max_items) × ((length seen.old ≡ max_items) × (length picks.old ≡ suc block)) }
-    requires part { Part st.now f s e p }
-    requires s_le_e { (s ≤ e) × (e - s ≤ block) }
-    ensures value { result ≡ items_ok m st.now s e }
-    ensures gathered { result ≡ true →
-        Gathered steps st.now f s e seen.old seen.new picks.new }
+) -> Option<()>
+    requires room { (length seen.old ≡ max_items) × (length picks.old ≡ suc block) }
+    requires part { Part st.now f run.from run.to run.place }
+    requires from_le_to { (run.from ≤ run.to) × (run.to - run.from ≤ block) }
+    ensures value { is_some result ≡ items_ok (item_count st.now) st.now run.from run.to }
+    ensures gathered { is_some result ≡ true →
+        Gathered steps st.now f run.from run.to seen.old seen.new picks.new }
 {
-    let n = observations::ring_size(st, m);
-    let mut c: u64 = 0;
-    let mut q = p;
-    let mut x = s;
-    while x < e {
-        let i = value::item_of(observations::ring_word(st, n, q));
+    let words = st.slice();
+    let m = st.items();
+    let n = st.ring_size();
+    let mut count: u64 = 0;
+    for number in run.from..run.to {
+        let far = number - run.from;
+        let i = value::item_of(observations::ring_word(words, n, run.place + far));
         if m <= i {
-            return false;
+            return None;
         }
-        seen[i as usize] = x - f + FIRST_PLACE;
-        picks[c as usize] = (x - s) as u8;
-        c += selection::bit_of(steps, i);
-        q += 1;
-        x += 1;
+        seen[i as usize] = number - f + FIRST_PLACE;
+        picks[count as usize] = far as u8;
+        count += selection::bit_of(steps, i);
     }
-    picks[c as usize] = BLOCK as u8;
-    true
+    picks[count as usize] = BLOCK as u8;
+    Some(())
 }
 
 // A ring entry of condition item i, by its packed word and its place, to the marks; false where it would be a ninth.
@@ -65,64 +62,60 @@ fn step_item(i: u64, place: u64, word: u64, marks: &mut [u64]) -> bool
     ensures marks_after { result ≡ true → marks.new ≡ stepped_at i place word marks.old }
 {
     let x = (spec::ENTRIES * i) as usize;
+    let eight = &mut marks[x..x + spec::ENTRY_SLOTS];
     let key = marks::key_of(i, word);
     let mark = marks::mark_of(place, key);
     if key != 0 {
-        if marks::key_in(marks[x]) != 0 {
-            return eights::raise(marks, x, key, mark);
+        if marks::key_in(eight[0]) != 0 {
+            return eights::raise(eight, key, mark);
         }
     }
-    let change = changes::change_for(marks, x, i, word);
-    eights::apply(marks, x, change, mark);
+    let change = changes::change_for(eight, i, word);
+    eights::apply(eight, change, mark);
     true
 }
 
-// The picks of a block, which begins with number s at ring place p, to the marks; false where one would be a ninth.
-fn step_picks(st: &[u64], m: u64, p: u64, f: u64, s: u64, picks: &[u8], marks: &mut [u64]) -> bool
-    requires head { Head m st.now }
-    requires m_le_max_items { (m ≤ max_items) × (length marks.old ≡ 8 * max_items) }
-    requires f_le_s { (f ≤ s) × (length (listed picks.now) < length picks.now) }
-    requires each { Each (Pick m st.now f s p) (listed picks.now) }
-    ensures value { result ≡ pick_ok st.now f s (listed picks.now) marks.old }
-    ensures marks_after { result ≡ true →
-        marks.new ≡ pick_marks st.now f s (listed picks.now) marks.old }
+// The picks of a block to the marks; None where one would be a ninth.
+fn step_picks(st: &Store<'_>, f: u64, run: Run, picks: &[u8], marks: &mut [u64]) -> Option<()>
+    requires marks_len { length marks.old ≡ 8 * max_items }
+    requires f_le_from { (f ≤ run.from) × (length (listed picks.now) < length picks.now) }
+    requires each { Each (Pick (item_count st.now) st.now f run.from run.place) (listed picks.now) }
+    ensures value { is_some result ≡ pick_ok st.now f run.from (listed picks.now) marks.old }
+    ensures marks_after { is_some result ≡ true →
+        marks.new ≡ pick_marks st.now f run.from (listed picks.now) marks.old }
 {
-    let n = observations::ring_size(st, m);
-    let mut t: usize = 0;
-    let mut j = picks[0] as u64;
-    while j != BLOCK {
-        let word = observations::ring_word(st, n, p + j);
-        if !step_item(value::item_of(word), s - f + j + FIRST_PLACE, word, marks) {
-            return false;
+    let words = st.slice();
+    let n = st.ring_size();
+    for &pick in picks {
+        let far = u64::from(pick);
+        if far == BLOCK {
+            break;
         }
-        t += 1;
-        j = picks[t] as u64;
+        let word = observations::ring_word(words, n, run.place + far);
+        let place = run.from - f + far + FIRST_PLACE;
+        if !step_item(value::item_of(word), place, word, marks) {
+            return None;
+        }
     }
-    true
+    Some(())
 }
 
-// A block of numbers from s on up to e, from ring place p on, to the newest places and the marks.
+// A block of numbers to the newest places and the marks; None where they don't pass.
 pub fn step_block(
-    st: &[u64],
-    m: u64,
+    st: &Store<'_>,
     steps: u64,
-    p: u64,
     f: u64,
-    s: u64,
-    e: u64,
+    run: Run,
     seen: &mut [u64],
     picks: &mut [u8],
     marks: &mut [u64],
-) -> bool
-    requires head { Head m st.now }
-    requires m_le_max_items { (m ≤ max_items) × Room seen.old picks.old marks.old }
-    requires part { Part st.now f s e p }
-    requires s_le_e { (s ≤ e) × (e - s ≤ block) }
+) -> Option<()>
+    requires room { Room seen.old picks.old marks.old }
+    requires part { Part st.now f run.from run.to run.place }
+    requires from_le_to { (run.from ≤ run.to) × (run.to - run.from ≤ block) }
     ensures { let st = st.entry.now in
-        Passed steps m st f s e marks.old marks.new seen.old seen.new result }
+        Passed steps (item_count st) st f run.from run.to marks.old marks.new seen.old seen.new (is_some result) }
 {
-    if !gather(st, m, steps, p, f, s, e, seen, picks) {
-        return false;
-    }
-    step_picks(st, m, p, f, s, picks, marks)
+    gather(st, steps, f, run, seen, picks)?;
+    step_picks(st, f, run, picks, marks)
 }

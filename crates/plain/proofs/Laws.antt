@@ -19,7 +19,7 @@ use Rattle.history.specs.Observations.{max_number, ring_size, base, last, last_a
 use Rattle.history.specs.Observations.{place, Head, item_at, item_rows, is_condition, stepped, set_newest, overwritten, evict}
 use Rattle.history.specs.Observations.{evict_ok, add}
 use Rattle.history.specs.Calls.{room_for, added}
-use Rattle.spec.specs.declared.Verdict.TheVariants.{Fine}
+use Rattle.std.specs.Prelude.{Ok}
 use Rattle.spec.proofs.Words.{by_cond}
 use Rattle.spec.proofs.Tables.{row-put-apart}
 use Rattle.spec.proofs.Blocks.{table-rows-ext, table-rows-other}
@@ -95,7 +95,7 @@ number-left st hl h = lt-leb max_number (last st) (omega arith)
 
 -- what may be overwritten leaves room
 pub room-left : (cat : ℕ → ℕ) (st : List ℕ) (m n b l : ℕ) → n ≡ ring_size st → b ≡ base st → l ≡ last st → l < max_number
-    → evict_ok cat n m b (l + 1) st ≡ true → room_for cat m st ≡ Fine
+    → evict_ok cat n m b (l + 1) st ≡ true → room_for cat m st ≡ Ok tt
 unfolding room_for
 room-left cat st m n b l hn hb hl h ok = rw (number-left st hl h, rw (hn, hb, hl, add-one (last st)) at ok)
 

@@ -1,12 +1,13 @@
 // The short way of an addition, by one row: for items without conditions, and for a start.
 #![tactic(auto)]
 
-ghost use Rattle.std.specs.Prelude.{◌≡◌, true, false, ◌≤◌, ◌<◌, length};
-ghost use Rattle.spec.specs.Model.{Sizes, max_items, items, category};
+ghost use Rattle.std.specs.Prelude.{◌≡◌, true, false, ◌≤◌, ◌<◌, length, Ok};
+ghost use Rattle.spec.specs.Model.{max_items, items, category};
 ghost use Rattle.history.specs.Observations.{max_ring, Head, store_words, is_condition, evict, evict_ok};
 ghost use Rattle.history.specs.Calls.{room_for, added};
-ghost use Rattle.spec.specs.declared.Verdict.TheVariants.{Fine};
 ghost use Rattle.plain.specs.Short.{InRing, Tried, put_number};
+
+use model::Words;
 
 // Number s at place p, by one row: the ring, the item's first latest entry, and last.
 pub fn put_number(st: &mut [u64], n: u64, m: u64, p: u64, item: u64, s: u64, time: u64, word: u64)
@@ -24,8 +25,7 @@ pub fn put_number(st: &mut [u64], n: u64, m: u64, p: u64, item: u64, s: u64, tim
 
 // The entry that number s is about to overwrite, if any, goes to its item's checkpoint as its one row. False, and
 // nothing is changed, where it has no item of the model or one with conditions.
-fn evict_plain(model: &[u32], st: &mut [u64], n: u64, b: u64, s: u64) -> bool
-    requires sizes { Sizes model.now }
+fn evict_plain(model: &Words<'_>, st: &mut [u64], n: u64, b: u64, s: u64) -> bool
     requires in_ring { InRing n (items model.now) b s st.old }
     ensures { let old = st.old in
         let cat = category model.now in
@@ -35,7 +35,7 @@ fn evict_plain(model: &[u32], st: &mut [u64], n: u64, b: u64, s: u64) -> bool
     if s - b < n {
         return true;
     }
-    let m = model::items(model);
+    let m = model.items();
     let at = observations::place(n, b, s);
     let time = observations::ring_time(st, n, at);
     let word = observations::ring_word(st, n, at);
@@ -43,7 +43,7 @@ fn evict_plain(model: &[u32], st: &mut [u64], n: u64, b: u64, s: u64) -> bool
     if m <= item {
         return false;
     }
-    if model::category(model, item) == spec::CONDITION {
+    if model.category(item) == spec::CONDITION {
         return false;
     }
     let t = observations::checkpoint_at(n, m);
@@ -55,16 +55,15 @@ fn evict_plain(model: &[u32], st: &mut [u64], n: u64, b: u64, s: u64) -> bool
 // The short way of recording's room_for and add, which most observations take: one more of an item without
 // conditions, where the entry that it overwrites, if any, is of such an item too. False, and nothing is changed, where
 // there is more to it.
-pub fn add_plain(model: &[u32], st: &mut [u64], item: u64, time: u64, word: u64) -> bool
-    requires sizes { Sizes model.now }
+pub fn add_plain(model: &Words<'_>, st: &mut [u64], item: u64, time: u64, word: u64) -> bool
     requires head { Head (items model.now) st.old }
     requires item_bound { (item < items model.now) × (is_condition (category model.now) item ≡ false) }
     ensures { let old = st.old in
         let cat = category model.now in
         let m = items model.now in
-        Tried result (room_for cat m old ≡ Fine) old (added cat m old item time word) st.new }
+        Tried result (room_for cat m old ≡ Ok tt) old (added cat m old item time word) st.new }
 {
-    let m = model::items(model);
+    let m = model.items();
     let n = observations::ring_size(st, m);
     let b = observations::base(st, m);
     let s = observations::last(st, m) + 1;

@@ -5,23 +5,24 @@ ghost use Rattle.std.specs.Prelude.{◌≡◌, suc, ◌≤◌};
 ghost use Rattle.history.specs.Observations.{max_number};
 ghost use Rattle.history.specs.Calls as calls;
 
-use spec::{Refusal, Verdict};
+use spec::Refusal;
 
 // Whether n is one of the numbers from `low` to `high`: late below them, early above.
-fn in_range(low: u64, high: u64, n: u64) -> Verdict
+fn in_range(low: u64, high: u64, n: u64) -> Result<(), Refusal>
     ensures { result ≡ calls.in_range low high n }
 {
     if n < low {
-        return Verdict::Refused(Refusal::Late);
+        return Err(Refusal::Late);
     }
     if high < n {
-        return Verdict::Refused(Refusal::Early);
+        return Err(Refusal::Early);
     }
-    Verdict::Fine
+    Ok(())
 }
 
-// The range of a sample's starting number: first to last + 1, the next number.
-pub fn start_range(first: u64, last: u64, f: u64) -> Verdict
+// The range of a sample's starting number: first to last + 1, the next number. Each of the two is one call, and says
+// which numbers its request may name.
+pub fn start_range(first: u64, last: u64, f: u64) -> Result<(), Refusal>
     requires { last ≤ max_number }
     ensures { result ≡ calls.in_range first (suc last) f }
 {
@@ -29,7 +30,7 @@ pub fn start_range(first: u64, last: u64, f: u64) -> Verdict
 }
 
 // The range of a current's `at`: first to last.
-pub fn at_range(first: u64, last: u64, number: u64) -> Verdict
+pub fn at_range(first: u64, last: u64, number: u64) -> Result<(), Refusal>
     ensures { result ≡ calls.in_range first last number }
 {
     in_range(first, last, number)

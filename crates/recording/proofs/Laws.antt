@@ -17,7 +17,7 @@ use Rattle.history.specs.Observations.{Head, item_rows, is_condition, evict, evi
 use Rattle.history.specs.Observations.{latest_ok}
 use Rattle.history.specs.Calls.{room_for}
 use Rattle.spec.specs.declared.Refusal.TheVariants.{Spent, Store}
-use Rattle.spec.specs.declared.Verdict.TheVariants.{Fine, Refused}
+use Rattle.std.specs.Prelude.{Ok, Err}
 use Rattle.spec.proofs.Tables.{length-put}
 use Rattle.spec.proofs.Steps.{form-less}
 use Rattle.history.proofs.Added.{length-evict}
@@ -44,18 +44,18 @@ module _ (cat : ℕ → ℕ) (n m : ℕ) (st : List ℕ) (word i : ℕ) (hi : i 
 -- ---- the room for a number
 
 module _ (cat : ℕ → ℕ) (st : List ℕ) (m n b l : ℕ) (hn : n ≡ ring_size st) (hb : b ≡ base st) (hl : l ≡ last st) where
-  pub room-spent : max_number ≤ l → Refused Spent ≡ room_for cat m st
+  pub room-spent : max_number ≤ l → Err Spent ≡ room_for cat m st
   unfolding room_for
   room-spent h = rw (le-leb max_number (last st) (omega arith))
 
   module _ (h : l < max_number) where
-    pub room-unused : l + 1 - b < n → Fine ≡ room_for cat m st
+    pub room-unused : l + 1 - b < n → Ok tt ≡ room_for cat m st
     unfolding room_for evict_ok
     room-unused u = rw (number-left st hl h, lt-leb (ring_size st) (suc (last st) - base st) (omega arith))
 
     -- where the number overwrites an entry, that entry's packed word decides
     pub room-entry : (p w : ℕ) → n ≤ l + 1 - b → p ≡ place n b (l + 1) → w ≡ ring_word st n p → (r x : Bool)
-        → r ≡ overwritable cat n m st w → r ≡ x → cond x Fine (Refused Store) ≡ room_for cat m st
+        → r ≡ overwritable cat n m st w → r ≡ x → cond x (Ok tt) (Err Store) ≡ room_for cat m st
     unfolding room_for
     room-entry p w u hp hw r x g f =
         let e = by_word cat n m b (l + 1) p w st hp hw u in
@@ -65,7 +65,7 @@ module _ (cat : ℕ → ℕ) (st : List ℕ) (m n b l : ℕ) (hn : n ≡ ring_si
 
 -- with room for it the next number may be written
 pub next_fits : {cat : ℕ → ℕ} {m n b l : ℕ} {st : List ℕ} → n ≡ ring_size st → b ≡ base st → l ≡ last st → Head m st
-    → room_for cat m st ≡ Fine → Overwriting cat n m b (l + 1) st
+    → room_for cat m st ≡ Ok tt → Overwriting cat n m b (l + 1) st
 next_fits {cat} {m} {n} {b} {l} {st} en eb el h e =
     record {
       ring = next-ring en eb el h;

@@ -1,29 +1,30 @@
 // Numbers given to observations: whether one is left, and adding with eviction.
+// The store stays a slice with a clause for its head: with a struct around a `&mut`, each function would need a clause
+// that the reference is still the same.
 #![tactic(auto)]
 
-ghost use Rattle.std.specs.Prelude.{◌≡◌, true, ◌<◌};
-ghost use Rattle.spec.specs.Model.{Sizes, items, category};
+ghost use Rattle.std.specs.Prelude.{◌≡◌, true, ◌<◌, Ok};
+ghost use Rattle.spec.specs.Model.{items, category};
 ghost use Rattle.history.specs.Observations.{Head, ring_size, latest_at, add, latest_ok};
 ghost use Rattle.history.specs.Calls.{room_for, added};
-ghost use Rattle.spec.specs.declared.Verdict.TheVariants.{Fine};
 ghost use Rattle.plain.specs.Short.{overwritable};
 ghost use Rattle.evicting.specs.Writing.{Overwriting, InTable};
 
-use spec::{Refusal, Verdict};
+use model::Words;
+use spec::Refusal;
 
 // Whether the entry about to be overwritten, by its packed word, has an item of the model whose checkpoint takes it.
-fn may_overwrite(model: &[u32], st: &[u64], n: u64, word: u64) -> bool
-    requires sizes { Sizes model.now }
+fn may_overwrite(model: &Words<'_>, st: &[u64], n: u64, word: u64) -> bool
     requires head { Head (items model.now) st.now }
     requires n_value { n ≡ ring_size st.now }
     ensures { result ≡ overwritable (category model.now) n (items model.now) st.now word }
 {
-    let m = model::items(model);
+    let m = model.items();
     let item = value::item_of(word);
     if m <= item {
         return false;
     }
-    if model::category(model, item) != spec::CONDITION {
+    if model.category(item) != spec::CONDITION {
         return true;
     }
     let t = observations::checkpoint_at(n, m);
@@ -31,31 +32,29 @@ fn may_overwrite(model: &[u32], st: &[u64], n: u64, word: u64) -> bool
 }
 
 // Whether a number is left, and the entry that it overwrites, if any, may go to its item's checkpoint.
-pub fn room_for(model: &[u32], st: &[u64]) -> Verdict
-    requires sizes { Sizes model.now }
+pub fn room_for(model: &Words<'_>, st: &[u64]) -> Result<(), Refusal>
     requires head { Head (items model.now) st.now }
     ensures { result ≡ room_for (category model.now) (items model.now) st.now }
 {
-    let m = model::items(model);
+    let m = model.items();
     let n = observations::ring_size(st, m);
     let b = observations::base(st, m);
     let last = observations::last(st, m);
     if spec::MAX_NUMBER <= last {
-        return Verdict::Refused(Refusal::Spent);
+        return Err(Refusal::Spent);
     }
     if last + 1 - b < n {
-        return Verdict::Fine;
+        return Ok(());
     }
     let p = observations::place(n, b, last + 1);
     if may_overwrite(model, st, n, observations::ring_word(st, n, p)) {
-        return Verdict::Fine;
+        return Ok(());
     }
-    Verdict::Refused(Refusal::Store)
+    Err(Refusal::Store)
 }
 
 // Number s: the overwritten entry's checkpoint, the ring, the item's latest, and last.
-fn write(model: &[u32], st: &mut [u64], n: u64, b: u64, s: u64, item: u64, time: u64, word: u64)
-    requires sizes { Sizes model.now }
+fn write(model: &Words<'_>, st: &mut [u64], n: u64, b: u64, s: u64, item: u64, time: u64, word: u64)
     requires overwriting { Overwriting (category model.now) n (items model.now) b s st.old }
     requires in_table { InTable (category model.now) (items model.now) (latest_at n) item st.old }
     ensures { st.new
@@ -70,16 +69,15 @@ fn write(model: &[u32], st: &mut [u64], n: u64, b: u64, s: u64, item: u64, time:
 }
 
 // One observation more, as last + 1.
-pub fn add(model: &[u32], st: &mut [u64], item: u64, time: u64, word: u64)
-    requires sizes { Sizes model.now }
+pub fn add(model: &Words<'_>, st: &mut [u64], item: u64, time: u64, word: u64)
     requires head { Head (items model.now) st.old }
-    requires st_value { room_for (category model.now) (items model.now) st.old ≡ Fine }
+    requires st_value { room_for (category model.now) (items model.now) st.old ≡ Ok tt }
     requires item_bound { item < items model.now }
     requires item_value { latest_ok (category model.now) (ring_size st.old) (items model.now) st.old item ≡ true }
     ensures { st.new
         ≡ added (category model.now) (items model.now) st.old item time word }
 {
-    let m = model::items(model);
+    let m = model.items();
     let n = observations::ring_size(st, m);
     let b = observations::base(st, m);
     let last = observations::last(st, m);

@@ -10,9 +10,11 @@ use lib.ListN.{length, set, take, drop, length-append, length-take, length-drop,
 use lib.Seq.{sets, sets-eq, set_comm, length-sets, take_all, take_at, drop-append-add, drop-drop}
 use borrow.Author.Tests.{leb-true}
 use Rattle.spec.specs.Reply.{Replied, over, written}
+use Rattle.std.specs.Prelude.{Option, Some, None, Result, Ok, Err}
+use Rattle.std.specs.Option.{ok_or}
+use Rattle.spec.specs.declared.Refusal.{Refusal}
 use Rattle.spec.specs.declared.Refusal.TheVariants.{Space}
-use Rattle.spec.specs.declared.Answer.{Answer}
-use Rattle.spec.specs.declared.Answer.TheVariants.{Done, Refused}
+use Rattle.spec.specs.Answers.{Answer}
 use Rattle.reply.specs.Fitted.{Fitted}
 
 -- a word behind those that are set
@@ -66,7 +68,7 @@ module _ {reply x : List ℕ} {w a b c d : ℕ} {t : Bool} (s : Fitted reply w a
     all-size = omega (arith, length-append C L)
 
     pub short : t ≡ false
-        → written a (a ∷ b ∷ c ∷ d ∷ (C ++ L)) reply ≡ record { answer = Refused Space; reply = x }
+        → written a (a ∷ b ∷ c ∷ d ∷ (C ++ L)) reply ≡ record { answer = Err Space; reply = x }
     unfolding written
     short f = let kept : x ≡ reply = rw f at s.sized in rw (all-size, ← s.told, f, kept)
 
@@ -100,7 +102,7 @@ module _ {reply x : List ℕ} {w a b c d : ℕ} {t : Bool} (s : Fitted reply w a
 
       pub whole :
           written a (a ∷ b ∷ c ∷ d ∷ (C ++ L)) reply
-          ≡ record { answer = Done a; reply = take 4 x ++ (y ++ drop (length x - 4) (drop 4 x)) }
+          ≡ record { answer = Ok a; reply = take 4 x ++ (y ++ drop (length x - 4) (drop 4 x)) }
       unfolding written
       whole = rw (all-size, ← s.told, fits, lent-over)
 
@@ -114,3 +116,15 @@ both o {x} {y} e = (sym (ap (λ (z : Replied). z.answer) e), sym (ap (λ (z : Re
 pub passed : (o p : Replied) {x : Answer} {y : List ℕ} → o ≡ p → (x ≡ o.answer) × (y ≡ o.reply)
     → (x ≡ p.answer) × (y ≡ p.reply)
 passed o p {x} {y} e h = (h.0 ∙ ap (λ (z : Replied). z.answer) e, h.1 ∙ ap (λ (z : Replied). z.reply) e)
+
+-- ---- what `?` hands on of an option that a refusal stands in for
+
+pub none-of : {A : Type 0} (o : Option A) {e d : Refusal} {r : Result A Refusal} → r ≡ ok_or o e → r ≡ Err d
+    → (None ≡ o) × (d ≡ e)
+none-of None h g = (refl, cc)
+none-of (Some x) h g = cc
+
+pub some-of : {A : Type 0} (o : Option A) (e : Refusal) {x : A} {r : Result A Refusal} → r ≡ ok_or o e → r ≡ Ok x
+    → Some x ≡ o
+some-of None e h g = cc
+some-of (Some y) e h g = cc

@@ -96,6 +96,10 @@ module _ (reply : List ℕ) (i n : ℕ) (h : i < get_or reply 0 0) where
 
 -- ---- all rows
 
+-- a test of a row's three words
+abbrev pub tested : (ℕ → ℕ → ℕ → Bool) → List ℕ → Bool
+tested p x = p (get_or x 0 0) (get_or x 1 0) (get_or x 2 0)
+
 module _ (p : List ℕ → Bool) (reply : List ℕ) (k : ℕ) (ek : k ≡ get_or reply 0 0) where
   pub rows_start : all_rows p (rows_of reply) ≡ every (λ i. p (row_at reply i)) (k - 0) 0
   rows_start = let z : k - 0 ≡ get_or reply 0 0 = omega arith in rw z (rows-every p reply)

@@ -1,12 +1,13 @@
 // A reply's rows: their words, and whether a document can be made of them.
 #![tactic(auto)]
 
-ghost use Rattle.std.specs.Prelude.{true, [], ◌≡◌, ◌+◌, ◌*◌, ◌≤◌, ◌<◌, leb, length, get_or};
-ghost use Rattle.spec.specs.Model.{Sizes};
+ghost use Rattle.std.specs.Prelude.{ℕ, Bool, true, List, [], ◌≡◌, ◌+◌, ◌*◌, ◌≤◌, ◌<◌, length, get_or};
 ghost use Rattle.spec.specs.Reply.{rows_of};
-ghost use Rattle.lines.specs.Stamps.{max_time};
+ghost use Rattle.reply_rows.specs.Tests.{Tells};
 ghost use Rattle.streams.specs.Streams.{group_of, word_ok, packed_ok, all_rows, words_ok, reply_ok, times_ok};
 
+use model::Words;
+use spec::Row;
 use stamp::MAX_TIME;
 
 // The words before the rows: k, first, last, next.
@@ -33,31 +34,20 @@ pub fn rows(reply: &[u64]) -> usize
     reply[0] as usize
 }
 
-// Row i's number.
-pub fn row_number(reply: &[u64], i: usize) -> u64
+// Row i.
+#[inline]
+pub fn row_at(reply: &[u64], i: usize) -> Row
     requires { (words_ok reply.now ≡ true) × (i < get_or reply.now 0 0) }
-    ensures { result ≡ get_or (get_or (rows_of reply.now) i []) 0 0 }
+    ensures number { result.number ≡ get_or (get_or (rows_of reply.now) i []) 0 0 }
+    ensures time { result.time ≡ get_or (get_or (rows_of reply.now) i []) 1 0 }
+    ensures packed { result.packed ≡ get_or (get_or (rows_of reply.now) i []) 2 0 }
 {
-    let at = ROWS_AT + i;
-    reply[at]
-}
-
-// Row i's time.
-pub fn row_time(reply: &[u64], i: usize) -> u64
-    requires { (words_ok reply.now ≡ true) × (i < get_or reply.now 0 0) }
-    ensures { result ≡ get_or (get_or (rows_of reply.now) i []) 1 0 }
-{
-    let at = ROWS_AT + rows(reply) + 2 * i;
-    reply[at]
-}
-
-// Row i's packed word.
-pub fn row_word(reply: &[u64], i: usize) -> u64
-    requires { (words_ok reply.now ≡ true) × (i < get_or reply.now 0 0) }
-    ensures { result ≡ get_or (get_or (rows_of reply.now) i []) 2 0 }
-{
-    let at = ROWS_AT + rows(reply) + 2 * i + 1;
-    reply[at]
+    let pair = ROWS_AT + rows(reply) + 2 * i;
+    Row {
+        number: reply[ROWS_AT + i],
+        time: reply[pair],
+        packed: reply[pair + 1],
+    }
 }
 
 // The group of a category's rows: Samples 0, Events 1, Condition 2.
@@ -89,58 +79,40 @@ fn word_ok(category: u64, word: u64) -> bool
 }
 
 // Whether a packed word has an item of the model, and a value that it can have.
-fn packed_ok(model: &[u32], word: u64) -> bool
-    requires { Sizes model.now }
+fn packed_ok(model: &Words<'_>, word: u64) -> bool
     ensures { result ≡ packed_ok model.now word }
 {
     let item = value::item_of(word);
-    if model::items(model) <= item {
+    if model.items() <= item {
         return false;
     }
-    word_ok(model::category(model, item), word % 1099511627776)
+    word_ok(model.category(item), word % 1099511627776)
 }
 
-// Whether every row's packed word is one of the model.
-fn rows_ok(model: &[u32], reply: &[u64]) -> bool
-    requires { Sizes model.now × (words_ok reply.now ≡ true) }
-    ensures { result ≡ all_rows (λ x. packed_ok model.now (get_or x 2 0)) (rows_of reply.now) }
+// Whether a test holds of every row.
+fn all_rows<F: Fn(Row) -> bool>(reply: &[u64], test: F) -> bool
+    ghost p: { ℕ → ℕ → ℕ → Bool }
+    requires words { words_ok reply.now ≡ true }
+    requires callable { F.IsAlwaysCallable test }
+    requires tells { Tells F.Fn test p }
+    ensures { result ≡ all_rows (λ x. p (get_or x 0 0) (get_or x 1 0) (get_or x 2 0)) (rows_of reply.now) }
 {
-    let k = rows(reply);
-    let mut i: usize = 0;
-    while i < k {
-        if !packed_ok(model, row_word(reply, i)) {
+    for i in 0..rows(reply) {
+        if !test(row_at(reply, i)) {
             return false;
         }
-        i += 1;
     }
     true
 }
 
 // Whether a document can be made of the reply: refusal 2's test.
-pub fn reply_ok(model: &[u32], reply: &[u64]) -> bool
-    requires { Sizes model.now }
+pub fn reply_ok(model: &Words<'_>, reply: &[u64]) -> bool
     ensures { result ≡ reply_ok model.now reply.now }
 {
     if !words_ok(reply) {
         return false;
     }
-    rows_ok(model, reply)
-}
-
-// Whether no row's time is after 2099.
-fn row_times_ok(reply: &[u64]) -> bool
-    requires { words_ok reply.now ≡ true }
-    ensures { result ≡ all_rows (λ x. leb (get_or x 1 0) max_time) (rows_of reply.now) }
-{
-    let k = rows(reply);
-    let mut i: usize = 0;
-    while i < k {
-        if MAX_TIME < row_time(reply, i) {
-            return false;
-        }
-        i += 1;
-    }
-    true
+    all_rows(reply, |row| packed_ok(model, row.packed))
 }
 
 // Whether no time is after 2099: refusal 21's test.
@@ -151,5 +123,5 @@ pub fn times_ok(creation: u64, reply: &[u64]) -> bool
     if MAX_TIME < creation {
         return false;
     }
-    row_times_ok(reply)
+    all_rows(reply, |row| row.time <= MAX_TIME)
 }

@@ -21,6 +21,7 @@ use Rattle.streams.specs.Streams.{group_lines, ended}
 use Rattle.streams.proofs.Rows.{row_at, rows-length, rows-suc, all-at}
 use Rattle.streams.proofs.Pieces.{ended-append, having-append}
 use Rattle.writer.specs.Puts.{Put, stop}
+use Rattle.writer.specs.declared.Output.{Output}
 use Rattle.writer.proofs.Laws.{put-none, put-append}
 use Rattle.row_groups.specs.Groups.{reply_rows, kept, kept_text, marks, mark_at, filled, Marked, marked, any_marked}
 use Rattle.row_groups.specs.Groups.{Documented, Placed}
@@ -129,36 +130,36 @@ module _ (model names : List ℕ) (c g : ℕ) where
   text-one rows x e = rw e
 
   -- a row's own line, or nothing
-  module _ (r : List ℕ) {word : ℕ} (e : word ≡ item_word model (item_of (get_or r 2 0))) {o : List ℕ} {at : ℕ} where
-    pub line-not-component : (component_of word ≡ c → ⊥) → length o ≤ stop
-        → Put o at (kept_text model names c g (row_in r ∷ [])) o at
+  module _ (r : List ℕ) {word : ℕ} (e : word ≡ item_word model (item_of (get_or r 2 0))) {o : Output} where
+    pub line-not-component : (component_of word ≡ c → ⊥) → length o.bytes.now ≤ stop
+        → Put o (kept_text model names c g (row_in r ∷ [])) o
     line-not-component n h =
-        rw (text-none (row_in r ∷ []) (kept-not-component model c g (row_in r) (rw e at n))) (put-none o at h)
+        rw (text-none (row_in r ∷ []) (kept-not-component model c g (row_in r) (rw e at n))) (put-none o h)
 
-    pub line-not-group : component_of word ≡ c → (group_of (category_of word) ≡ g → ⊥) → length o ≤ stop
-        → Put o at (kept_text model names c g (row_in r ∷ [])) o at
+    pub line-not-group : component_of word ≡ c → (group_of (category_of word) ≡ g → ⊥) → length o.bytes.now ≤ stop
+        → Put o (kept_text model names c g (row_in r ∷ [])) o
     line-not-group f n h =
-        rw (text-none (row_in r ∷ []) (kept-not-group model c g (row_in r) (rw e at f) (rw e at n))) (put-none o at h)
+        rw (text-none (row_in r ∷ []) (kept-not-group model c g (row_in r) (rw e at f) (rw e at n))) (put-none o h)
 
     pub line-put : component_of word ≡ c → group_of (category_of word) ≡ g
-        → (t : List ℕ) (k n time w : ℕ) {o₁ : List ℕ} {q : ℕ}
+        → (t : List ℕ) (k n time w : ℕ) {o₁ : Output}
         → t ≡ name_text names k → k ≡ item_name word → n ≡ get_or r 0 0 → time ≡ get_or r 1 0 → w ≡ get_or r 2 0
-        → Put o at (row_line g t (row_of n time w) ++ 10 ∷ []) o₁ q
-        → Put o at (kept_text model names c g (row_in r ∷ [])) o₁ q
+        → Put o (row_line g t (row_of n time w) ++ 10 ∷ []) o₁
+        → Put o (kept_text model names c g (row_in r ∷ [])) o₁
     line-put f h t k n time w et ek en em ew b =
         rw (text-one (row_in r ∷ []) (row_in r) (kept-own model c g (row_in r) (rw e at f) (rw e at h)))
         (rw (et, ek, e, en, em, ew) at b)
 
   -- a turn of the pass
-  module _ (reply : List ℕ) {o : List ℕ} {at : ℕ} where
-    pub pass-none : length o ≤ stop → Put o at (kept_text model names c g (map row_in (take 0 (rows_of reply)))) o at
+  module _ (reply : List ℕ) {o : Output} where
+    pub pass-none : length o.bytes.now ≤ stop → Put o (kept_text model names c g (map row_in (take 0 (rows_of reply)))) o
     unfolding row_lines ended having
-    pass-none h = put-none o at h
+    pass-none h = put-none o h
 
-    pub pass-more : {l : List ℕ} {p : ℕ} {l₁ : List ℕ} {q : ℕ} (i : ℕ) → i < get_or reply 0 0
-        → Put o at (kept_text model names c g (map row_in (take i (rows_of reply)))) l p
-        → Put l p (kept_text model names c g (row_in (row_at reply i) ∷ [])) l₁ q
-        → Put o at (kept_text model names c g (map row_in (take (suc i) (rows_of reply)))) l₁ q
+    pub pass-more : {l l₁ : Output} (i : ℕ) → i < get_or reply 0 0
+        → Put o (kept_text model names c g (map row_in (take i (rows_of reply)))) l
+        → Put l (kept_text model names c g (row_in (row_at reply i) ∷ [])) l₁
+        → Put o (kept_text model names c g (map row_in (take (suc i) (rows_of reply)))) l₁
     pass-more i h a b =
         rw (
           rows-suc reply i h,
@@ -167,9 +168,9 @@ module _ (model names : List ℕ) (c g : ℕ) where
         )
         (put-append a b)
 
-    pub pass_all : {l : List ℕ} {p : ℕ} (i : ℕ) → get_or reply 0 0 ≤ i
-        → Put o at (kept_text model names c g (map row_in (take i (rows_of reply)))) l p
-        → Put o at (kept_text model names c g (reply_rows reply)) l p
+    pub pass_all : {l : Output} (i : ℕ) → get_or reply 0 0 ≤ i
+        → Put o (kept_text model names c g (map row_in (take i (rows_of reply)))) l
+        → Put o (kept_text model names c g (reply_rows reply)) l
     pass_all i h a = rw (take_all i (rows_of reply) (omega (arith, rows-length reply))) at a
 
 -- ---- marks
@@ -261,23 +262,23 @@ mark-says model rows present m c g h k = rw (m.at c g h k) (go (filled (kept mod
 
 -- ---- lines between a start and an end
 
-module _ (start end : List ℕ) (ls : List (List ℕ)) {o : List ℕ} {at : ℕ} where
-  pub between_none : filled ls ≡ false → length o ≤ stop → Put o at (ended (between start end ls)) o at
+module _ (start end : List ℕ) (ls : List (List ℕ)) {o : Output} where
+  pub between_none : filled ls ≡ false → length o.bytes.now ≤ stop → Put o (ended (between start end ls)) o
   unfolding ended
   between_none e h = go ls e
     where
-      go : (ls : List (List ℕ)) → filled ls ≡ false → Put o at (ended (between start end ls)) o at
-      go [] e = put-none o at h
+      go : (ls : List (List ℕ)) → filled ls ≡ false → Put o (ended (between start end ls)) o
+      go [] e = put-none o h
       go (l ∷ ls) e = let z : ◌≡◌ {A = ℕ} 0 1 = cc in absurd (omega arith)
 
-  pub between_put : {o₁ : List ℕ} {p : ℕ} {o₂ : List ℕ} {q : ℕ} {o₃ : List ℕ} {r : ℕ} → filled ls ≡ true
-      → Put o at (start ++ 10 ∷ []) o₁ p → Put o₁ p (ended ls) o₂ q → Put o₂ q (end ++ 10 ∷ []) o₃ r
-      → Put o at (ended (between start end ls)) o₃ r
+  pub between_put : {o₁ o₂ o₃ : Output} → filled ls ≡ true
+      → Put o (start ++ 10 ∷ []) o₁ → Put o₁ (ended ls) o₂ → Put o₂ (end ++ 10 ∷ []) o₃
+      → Put o (ended (between start end ls)) o₃
   unfolding ended
-  between_put {o₁} {p} {o₂} {q} {o₃} {r} e a b d = go ls e b
+  between_put {o₁} {o₂} {o₃} e a b d = go ls e b
     where
-      go : (ls : List (List ℕ)) → filled ls ≡ true → Put o₁ p (ended ls) o₂ q
-          → Put o at (ended (between start end ls)) o₃ r
+      go : (ls : List (List ℕ)) → filled ls ≡ true → Put o₁ (ended ls) o₂
+          → Put o (ended (between start end ls)) o₃
       go [] e b = let z : ◌≡◌ {A = ℕ} 0 1 = cc in absurd (omega arith)
       go (l ∷ ls) e b =
           rw (
@@ -308,14 +309,14 @@ module _ (model names : List ℕ) (g : ℕ) (rows : List Row) where
       between-filled (tag (group_name g)) (end_tag (group_name g)) (row_lines model names g rows)
       ∙ lines-filled model names g rows
 
-  module _ {o : List ℕ} {at : ℕ} where
-    pub group-none : filled rows ≡ false → length o ≤ stop → Put o at (ended (group_lines model names g rows)) o at
+  module _ {o : Output} where
+    pub group-none : filled rows ≡ false → length o.bytes.now ≤ stop → Put o (ended (group_lines model names g rows)) o
     unfolding group_lines
     group-none e h = between_none _ _ (row_lines model names g rows) (lines-filled model names g rows ∙ e) h
 
-    pub group-put : {o₁ : List ℕ} {p : ℕ} {o₂ : List ℕ} {q : ℕ} {o₃ : List ℕ} {r : ℕ} → filled rows ≡ true
-        → Put o at (tag (group_name g) ++ 10 ∷ []) o₁ p → Put o₁ p (ended (row_lines model names g rows)) o₂ q
-        → Put o₂ q (end_tag (group_name g) ++ 10 ∷ []) o₃ r → Put o at (ended (group_lines model names g rows)) o₃ r
+    pub group-put : {o₁ o₂ o₃ : Output} → filled rows ≡ true
+        → Put o (tag (group_name g) ++ 10 ∷ []) o₁ → Put o₁ (ended (row_lines model names g rows)) o₂
+        → Put o₂ (end_tag (group_name g) ++ 10 ∷ []) o₃ → Put o (ended (group_lines model names g rows)) o₃
     unfolding group_lines
     group-put e a b d =
         between_put _ _ (row_lines model names g rows) (lines-filled model names g rows ∙ e) a b d
@@ -331,9 +332,9 @@ module _ (f : ℕ → List (List ℕ)) where
   unfolding each
   three = rw (append-nil (f 2))
 
-  pub three-put : {o : List ℕ} {at : ℕ} {o₁ : List ℕ} {p : ℕ} {o₂ : List ℕ} {q : ℕ} {o₃ : List ℕ} {r : ℕ}
-      → Put o at (ended (f 0)) o₁ p → Put o₁ p (ended (f 1)) o₂ q → Put o₂ q (ended (f 2)) o₃ r
-      → Put o at (ended (each f groups 0)) o₃ r
+  pub three-put : {o o₁ o₂ o₃ : Output}
+      → Put o (ended (f 0)) o₁ → Put o₁ (ended (f 1)) o₂ → Put o₂ (ended (f 2)) o₃
+      → Put o (ended (each f groups 0)) o₃
   three-put a b d =
       rw (three, ended-append (f 0) (f 1 ++ f 2), ended-append (f 1) (f 2)) (put-append a (put-append b d))
 

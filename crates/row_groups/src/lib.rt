@@ -9,10 +9,11 @@ ghost use Rattle.writer.specs.Puts.{Put};
 ghost use Rattle.row_groups.specs.Groups.{reply_rows, kept, kept_text, marks, mark_at, marked, any_marked, Marked};
 ghost use Rattle.row_groups.specs.Groups.{Documented, Placed};
 
-use reply_rows::{group_of, row_number, row_time, row_word, rows};
+use model::Words;
+use reply_rows::{group_of, row_at, rows};
 use row_text::put_row;
 use streams::{CONDITION, EVENTS, GROUPS, SAMPLES};
-use writer::put_bytes;
+use writer::Output;
 
 // A mark for each group of each component.
 pub const MARKS: usize = (GROUPS * spec::MAX_COMPONENTS) as usize;
@@ -28,21 +29,19 @@ fn mark_at(c: u64, g: u64) -> usize
 }
 
 // The marks of the groups that have rows: 1, and 0 of the others.
-pub fn groups_present(model: &[u32], reply: &[u64]) -> [u8; MARKS]
+pub fn groups_present(model: &Words<'_>, reply: &[u64]) -> [u8; MARKS]
     requires { Placed model.now reply.now }
     ensures { Marked model.now (reply_rows reply.now) result }
 {
-    let k = rows(reply);
     let mut present: [u8; MARKS] = [0; MARKS];
-    let mut i: usize = 0;
-    while i < k {
-        let word = model::item_word(model, value::item_of(row_word(reply, i)));
+    for i in 0..rows(reply) {
+        let item = value::item_of(row_at(reply, i).packed);
+        let word = model.item_word(item);
         let at = mark_at(
             model::component_of(word),
             group_of(model::category_of(word)),
         );
         present[at] = 1;
-        i += 1;
     }
     present
 }
@@ -85,141 +84,117 @@ pub fn name_text<'a>(names: &'a [u8], k: u64) -> &'a [u8]
 
 // Row i's line, if its item is of component c and group g.
 fn put_if(
-    model: &[u32],
+    model: &Words<'_>,
     names: &[u8],
     reply: &[u64],
     i: usize,
     c: u64,
     g: u64,
-    out: &mut [u8],
-    at: usize,
-) -> usize
+    out: &mut Output,
+)
     requires documented { Documented model.now names.now reply.now }
     requires i_bound { i < get_or reply.now 0 0 }
-    ensures { Put out.old at
+    ensures { Put out.old
         (kept_text model.now names.now c g
         (row_in (get_or (rows_of reply.now) i []) ∷ []))
-        out.new result }
+        out.new }
 {
-    let word = row_word(reply, i);
-    let item = model::item_word(model, value::item_of(word));
+    let row = row_at(reply, i);
+    let item = model.item_word(value::item_of(row.packed));
     if model::component_of(item) != c {
-        return at;
+        return;
     }
     if group_of(model::category_of(item)) != g {
-        return at;
+        return;
     }
     let t = name_text(names, model::item_name(item));
-    put_row(
-        out,
-        at,
-        g,
-        t,
-        row_number(reply, i),
-        row_time(reply, i),
-        word,
-    )
+    put_row(out, g, t, &row);
 }
 
 // The lines of the rows of component c and group g, in reply order.
-fn put_rows(
-    model: &[u32],
-    names: &[u8],
-    reply: &[u64],
-    c: u64,
-    g: u64,
-    out: &mut [u8],
-    at: usize,
-) -> usize
+fn put_rows(model: &Words<'_>, names: &[u8], reply: &[u64], c: u64, g: u64, out: &mut Output)
     requires { Documented model.now names.now reply.now }
-    ensures { Put out.old at
+    ensures { Put out.old
         (kept_text model.now names.now c g (reply_rows reply.now))
-        out.new result }
+        out.new }
 {
-    let k = rows(reply);
-    let mut p = at;
-    let mut i: usize = 0;
-    while i < k {
-        p = put_if(model, names, reply, i, c, g, out, p);
-        i += 1;
+    for i in 0..rows(reply) {
+        put_if(model, names, reply, i, c, g, out);
     }
-    p
 }
 
 // ---- a group
 
-fn put_start(out: &mut [u8], at: usize, g: u64) -> usize
-    ensures { Put out.old at (tag (group_name g) ++ 10 ∷ []) out.new result }
+fn put_start(out: &mut Output, g: u64)
+    ensures { Put out.old (tag (group_name g) ++ 10 ∷ []) out.new }
 {
     if g == SAMPLES {
-        return put_bytes(out, at, b"<Samples>\n");
+        return out.put_bytes(b"<Samples>\n");
     }
     if g == EVENTS {
-        return put_bytes(out, at, b"<Events>\n");
+        return out.put_bytes(b"<Events>\n");
     }
-    put_bytes(out, at, b"<Condition>\n")
+    out.put_bytes(b"<Condition>\n");
 }
 
-fn put_end(out: &mut [u8], at: usize, g: u64) -> usize
-    ensures { Put out.old at (end_tag (group_name g) ++ 10 ∷ []) out.new result }
+fn put_end(out: &mut Output, g: u64)
+    ensures { Put out.old (end_tag (group_name g) ++ 10 ∷ []) out.new }
 {
     if g == SAMPLES {
-        return put_bytes(out, at, b"</Samples>\n");
+        return out.put_bytes(b"</Samples>\n");
     }
     if g == EVENTS {
-        return put_bytes(out, at, b"</Events>\n");
+        return out.put_bytes(b"</Events>\n");
     }
-    put_bytes(out, at, b"</Condition>\n")
+    out.put_bytes(b"</Condition>\n");
 }
 
 // Component c's group g; nothing where it has no rows.
 fn put_group(
-    model: &[u32],
+    model: &Words<'_>,
     names: &[u8],
     reply: &[u64],
     present: &[u8; MARKS],
     c: u64,
     g: u64,
-    out: &mut [u8],
-    at: usize,
-) -> usize
+    out: &mut Output,
+)
     requires documented { Documented model.now names.now reply.now }
     requires marked { Marked model.now (reply_rows reply.now) present.now }
     requires c_lt_max_components { (c < max_components) × (g < groups) }
-    ensures { Put out.old at
+    ensures { Put out.old
         (ended (group_lines model.now names.now g
         (kept model.now c g (reply_rows reply.now))))
-        out.new result }
+        out.new }
 {
     if !is_marked(present, c, g) {
-        return at;
+        return;
     }
-    let p = put_start(out, at, g);
-    let q = put_rows(model, names, reply, c, g, out, p);
-    put_end(out, q, g)
+    put_start(out, g);
+    put_rows(model, names, reply, c, g, out);
+    put_end(out, g);
 }
 
 // Component c's groups that have rows.
 pub fn put_groups(
-    model: &[u32],
+    model: &Words<'_>,
     names: &[u8],
     reply: &[u64],
     present: &[u8; MARKS],
     c: u64,
-    out: &mut [u8],
-    at: usize,
-) -> usize
+    out: &mut Output,
+)
     requires documented { Documented model.now names.now reply.now }
     requires marked { Marked model.now (reply_rows reply.now) present.now }
     requires c_lt_max_components { c < max_components }
-    ensures { Put out.old at
+    ensures { Put out.old
         (ended (each
         (λ g. group_lines model.now names.now g
         (kept model.now c g (reply_rows reply.now)))
         groups 0))
-        out.new result }
+        out.new }
 {
-    let p = put_group(model, names, reply, present, c, SAMPLES, out, at);
-    let q = put_group(model, names, reply, present, c, EVENTS, out, p);
-    put_group(model, names, reply, present, c, CONDITION, out, q)
+    put_group(model, names, reply, present, c, SAMPLES, out);
+    put_group(model, names, reply, present, c, EVENTS, out);
+    put_group(model, names, reply, present, c, CONDITION, out);
 }

@@ -8,6 +8,7 @@ use Rattle.streams.specs.Streams.{Row, element_name, row_attributes, text_line, 
 use Rattle.streams.specs.Streams.{condition_line, row_line}
 use Rattle.spec.specs.Bytes.{bytes}
 use Rattle.writer.specs.Puts.{Put}
+use Rattle.writer.specs.declared.Output.{Output}
 use Rattle.spec.specs.declared.Value.{Value}
 
 text-shape : (e a v : List ℕ)
@@ -21,17 +22,17 @@ condition-shape : (s a t n : List ℕ)
 condition-shape s a t n = simp append_assoc
 
 -- v is the row's value as the code holds it
-module _ {o : List ℕ} {at : ℕ} {l : List ℕ} {p : ℕ} (t : List ℕ) (r : Row) (v : Value) (q : v ≡ r.value) where
-  pub text-put : Put o at
-      (60 ∷ (t ++ (row_attributes r ++ (62 ∷ (value_text v ++ (60 ∷ 47 ∷ (t ++ (62 ∷ 10 ∷ [])))))))) l p
-      → Put o at (text_line t r ++ 10 ∷ []) l p
+module _ {a e : Output} (t : List ℕ) (r : Row) (v : Value) (q : v ≡ r.value) where
+  pub text-put : Put a
+      (60 ∷ (t ++ (row_attributes r ++ (62 ∷ (value_text v ++ (60 ∷ 47 ∷ (t ++ (62 ∷ 10 ∷ [])))))))) e
+      → Put a (text_line t r ++ 10 ∷ []) e
   unfolding text_line
   text-put h = rw (text-shape t (row_attributes r) (value_text r.value)) (rw q at h)
 
-  pub condition-put : Put o at
+  pub condition-put : Put a
       (60 ∷ (state_name v
-      ++ (row_attributes r ++ (attribute (bytes "type") t ++ (native_code v ++ (47 ∷ 62 ∷ 10 ∷ [])))))) l p
-      → Put o at (condition_line t r ++ 10 ∷ []) l p
+      ++ (row_attributes r ++ (attribute (bytes "type") t ++ (native_code v ++ (47 ∷ 62 ∷ 10 ∷ [])))))) e
+      → Put a (condition_line t r ++ 10 ∷ []) e
   unfolding condition_line
   condition-put h =
       let a = attribute (bytes "type") t in

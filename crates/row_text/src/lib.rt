@@ -9,98 +9,80 @@ ghost use Rattle.writer.specs.Puts.{Put};
 use attributes::{put_number, put_text, put_time};
 use element::put_element;
 use figures::put_value;
-use spec::{Level, Value};
+use spec::{Level, Row, Value};
 use value::{decode, item_of};
-use writer::{put_byte, put_bytes};
+use writer::Output;
 
 // dataItemId, sequence, timestamp.
-fn put_attributes(out: &mut [u8], at: usize, number: u64, time: u64, word: u64) -> usize
-    ensures { Put out.old at (row_attributes (row_of number time word)) out.new result }
+fn put_attributes(out: &mut Output, row: &Row)
+    ensures { Put out.old (row_attributes (row_of row.now.number row.now.time row.now.packed)) out.new }
 {
-    let p = put_number(out, at, b" dataItemId=\"i", item_of(word));
-    let q = put_number(out, p, b" sequence=\"", number);
-    put_time(out, q, b" timestamp=\"", time)
+    put_number(out, b" dataItemId=\"i", item_of(row.packed));
+    put_number(out, b" sequence=\"", row.number);
+    put_time(out, b" timestamp=\"", row.time);
 }
 
 // A row of Samples or Events.
-fn put_text_row(out: &mut [u8], at: usize, t: &[u8], number: u64, time: u64, word: u64) -> usize
-    ensures { Put out.old at (text_line (element_name t.now) (row_of number time word) ++ 10 ∷ [])
-        out.new result }
+fn put_text_row(out: &mut Output, t: &[u8], row: &Row)
+    ensures { Put out.old
+        (text_line (element_name t.now) (row_of row.now.number row.now.time row.now.packed) ++ 10 ∷ [])
+        out.new }
 {
-    let a = put_byte(out, at, 60);
-    let b = put_element(out, a, t);
-    let c = put_attributes(out, b, number, time, word);
-    let d = put_byte(out, c, 62);
-    let e = put_value(out, d, decode(word % 1099511627776));
-    let f = put_bytes(out, e, b"</");
-    let g = put_element(out, f, t);
-    put_bytes(out, g, b">\n")
+    out.put_byte(60);
+    put_element(out, t);
+    put_attributes(out, row);
+    out.put_byte(62);
+    put_value(out, decode(row.packed % 1099511627776));
+    out.put_bytes(b"</");
+    put_element(out, t);
+    out.put_bytes(b">\n");
 }
 
 // The element of a condition's value.
-fn put_state(out: &mut [u8], at: usize, v: Value) -> usize
-    ensures { Put out.old at (state_name v) out.new result }
+fn put_state(out: &mut Output, v: Value)
+    ensures { Put out.old (state_name v) out.new }
 {
     match v {
-        Value::Unavailable => put_bytes(out, at, b"Unavailable"),
-        Value::Sample(_) => at,
-        Value::Event(_) => at,
-        Value::Condition(l, _) => match l {
-            Level::Normal => put_bytes(out, at, b"Normal"),
-            Level::Warning => put_bytes(out, at, b"Warning"),
-            Level::Fault => put_bytes(out, at, b"Fault"),
-        },
+        Value::Unavailable => out.put_bytes(b"Unavailable"),
+        Value::Sample(_) | Value::Event(_) => {}
+        Value::Condition(Level::Normal, _) => out.put_bytes(b"Normal"),
+        Value::Condition(Level::Warning, _) => out.put_bytes(b"Warning"),
+        Value::Condition(Level::Fault, _) => out.put_bytes(b"Fault"),
     }
 }
 
 // nativeCode, where the value has one.
-fn put_native(out: &mut [u8], at: usize, v: Value) -> usize
-    ensures { Put out.old at (native_code v) out.new result }
+fn put_native(out: &mut Output, v: Value)
+    ensures { Put out.old (native_code v) out.new }
 {
-    match v {
-        Value::Unavailable => at,
-        Value::Sample(_) => at,
-        Value::Event(_) => at,
-        Value::Condition(_, c) => put_number(out, at, b" nativeCode=\"", c as u64),
+    if let Value::Condition(_, c) = v {
+        put_number(out, b" nativeCode=\"", u64::from(c));
     }
 }
 
 // A row of Condition.
-fn put_condition_row(
-    out: &mut [u8],
-    at: usize,
-    t: &[u8],
-    number: u64,
-    time: u64,
-    word: u64,
-) -> usize
-    ensures { Put out.old at (condition_line t.now (row_of number time word) ++ 10 ∷ [])
-        out.new result }
+fn put_condition_row(out: &mut Output, t: &[u8], row: &Row)
+    ensures { Put out.old
+        (condition_line t.now (row_of row.now.number row.now.time row.now.packed) ++ 10 ∷ [])
+        out.new }
 {
-    let v = decode(word % 1099511627776);
-    let a = put_byte(out, at, 60);
-    let b = put_state(out, a, v);
-    let c = put_attributes(out, b, number, time, word);
-    let d = put_text(out, c, b" type=\"", t);
-    let e = put_native(out, d, v);
-    put_bytes(out, e, b"/>\n")
+    let v = decode(row.packed % 1099511627776);
+    out.put_byte(60);
+    put_state(out, v);
+    put_attributes(out, row);
+    put_text(out, b" type=\"", t);
+    put_native(out, v);
+    out.put_bytes(b"/>\n");
 }
 
 // The line of a row of group g, of an item of type t.
-pub fn put_row(
-    out: &mut [u8],
-    at: usize,
-    g: u64,
-    t: &[u8],
-    number: u64,
-    time: u64,
-    word: u64,
-) -> usize
-    ensures { Put out.old at (row_line g t.now (row_of number time word) ++ 10 ∷ [])
-        out.new result }
+pub fn put_row(out: &mut Output, g: u64, t: &[u8], row: &Row)
+    ensures { Put out.old
+        (row_line g t.now (row_of row.now.number row.now.time row.now.packed) ++ 10 ∷ [])
+        out.new }
 {
     if g < 2 {
-        return put_text_row(out, at, t, number, time, word);
+        return put_text_row(out, t, row);
     }
-    put_condition_row(out, at, t, number, time, word)
+    put_condition_row(out, t, row);
 }

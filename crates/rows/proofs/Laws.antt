@@ -3,6 +3,7 @@ use Prim.Native.Nat.{ℕ, zero, suc, ◌+◌, ◌-◌, ◌*◌, ◌≤◌, ◌<�
 use mathlib.Core.Path.{◌≡◌, refl, sym, ap, ◌∙◌}
 use mathlib.Core.Bool.{Bool, true, false, cond, ◌&&◌}
 use mathlib.Core.List.{List, [], ◌∷◌, ◌++◌}
+use Rattle.std.specs.Prelude.{Some, None}
 use native.Mathlib.Omega.{arith}
 use lib.Dec.{ltb}
 use lib.ListN.{length, set, length-append}
@@ -13,8 +14,7 @@ use Rattle.history.specs.Observations.{ring_size, base, place, item_at, numbered
 use Rattle.spec.proofs.Words.{and_left, and_right, every-step, every-end}
 use Rattle.selection.proofs.Laws.{bit-yes, bit-no}
 use Rattle.observations.specs.Ring.{ring_time, ring_word}
-use Rattle.rows.specs.Rows.{items_ok, sampled, counted, rows_at, rows_into, Run}
-use Rattle.rows.specs.declared.Counted.TheVariants.{Count, Broken}
+use Rattle.rows.specs.Rows.{items_ok, sampled, counted, rows_at, rows_into, Unwrapped}
 use Rattle.rows.proofs.Ranges.{every-split, rows_in, rows_out, rows_end, rows_split, rows_few, run-next}
 use Rattle.rows.proofs.Writing.{rows_append, length-rows, Writing, writing_start, writing-room, writing_more}
 use Rattle.rows.proofs.Writing.{writing-skip, writing-end}
@@ -78,12 +78,12 @@ module _ (st : List ℕ) (m s e q : ℕ) (h : s < e) (i : q ≡ place (ring_size
 
 -- c of the rows are counted, and the next number is s at place q
 pub record Counting (st : List ℕ) (m selection f e c s q : ℕ) : Type 0 where
-  pub run : Run (ring_size st) (base st) e s q
+  pub run : Unwrapped (ring_size st) (base st) e s q
   pub ok : items_ok m st f e ≡ items_ok m st s e
   pub rows : c + length (sampled st selection s e) ≡ length (sampled st selection f e)
   pub few : c + f ≤ s
 
-pub counting-start : (st : List ℕ) (m selection f e q : ℕ) → Run (ring_size st) (base st) e f q
+pub counting-start : (st : List ℕ) (m selection f e q : ℕ) → Unwrapped (ring_size st) (base st) e f q
     → Counting st m selection f e 0 f q
 counting-start st m selection f e q r = record { run = r; ok = refl; rows = omega arith; few = omega arith }
 
@@ -92,7 +92,7 @@ module _ {st : List ℕ} {m selection f e c s q : ℕ} (v : Counting st m select
     counting-item : i ≡ item_of (word_at st q)
     counting-item = item-read st q hn hw hi
 
-    pub counting-broken : m ≤ i → Broken ≡ counted m st selection f e
+    pub counting-broken : m ≤ i → None ≡ counted m st selection f e
     unfolding counted
     counting-broken g = rw (v.ok, ok_step st m s e q h (v.run.is h), ← counting-item, le-ltb _ _ g)
 
@@ -107,7 +107,7 @@ module _ {st : List ℕ} {m selection f e c s q : ℕ} (v : Counting st m select
           few = omega (arith, v.few, b.1);
         }
 
-  pub counting-end : e ≤ s → Count c ≡ counted m st selection f e
+  pub counting-end : e ≤ s → Some c ≡ counted m st selection f e
   unfolding counted ring_ok sample_rows
   counting-end h =
       let k : c ≡ length (sampled st selection f e) =
@@ -117,25 +117,25 @@ module _ {st : List ℕ} {m selection f e c s q : ℕ} (v : Counting st m select
 -- ---- counting in two parts
 
 -- what a count says, where t is whether all items are of the model and n the number of rows
-pub count-is : (t : Bool) (c n : ℕ) → Count c ≡ cond t (Count n) Broken → (t ≡ true) × (c ≡ n)
+pub count-is : (t : Bool) (c n : ℕ) → Some c ≡ cond t (Some n) None → (t ≡ true) × (c ≡ n)
 count-is true c n e = (refl, cc)
-count-is false c n e = absurd (let z : ◌≡◌ {A = ℕ} 0 1 = (cc) in omega arith)
+count-is false c n e = cc
 
-pub broken-is : (t : Bool) (n : ℕ) → Broken ≡ cond t (Count n) Broken → t ≡ false
-broken-is true n e = absurd (let z : ◌≡◌ {A = ℕ} 0 1 = (cc) in omega arith)
+pub broken-is : (t : Bool) (n : ℕ) → None ≡ cond t (Some n) None → t ≡ false
+broken-is true n e = cc
 broken-is false n e = refl
 
 module _ (m : ℕ) (st : List ℕ) (selection f e : ℕ) where
-  pub counted-count : {c : ℕ} → Count c ≡ counted m st selection f e → (items_ok m st f e ≡ true)
+  pub counted-count : {c : ℕ} → Some c ≡ counted m st selection f e → (items_ok m st f e ≡ true)
       × (c ≡ length (sampled st selection f e))
   unfolding counted
   counted-count {c} a = count-is (items_ok m st f e) c (length (sampled st selection f e)) a
 
-  pub counted-broken : Broken ≡ counted m st selection f e → items_ok m st f e ≡ false
+  pub counted-broken : None ≡ counted m st selection f e → items_ok m st f e ≡ false
   unfolding counted
   counted-broken a = broken-is (items_ok m st f e) (length (sampled st selection f e)) a
 
-  pub counted-few : {c : ℕ} → Count c ≡ counted m st selection f e → c ≤ e - f
+  pub counted-few : {c : ℕ} → Some c ≡ counted m st selection f e → c ≤ e - f
   unfolding sample_rows
   counted-few a = omega (arith, (counted-count a).1, rows_few (picked st selection) (numbered_in st) (e - f) f)
 
@@ -156,17 +156,17 @@ unfolding sample_rows
 sample-split st selection f g e h1 h2 = rows_split (picked st selection) (numbered_in st) f g e h1 h2
 
 module _ (m : ℕ) (st : List ℕ) (selection f g e : ℕ) (h1 : f ≤ g) (h2 : g ≤ e) where
-  pub front-broken : Broken ≡ counted m st selection f g → Broken ≡ counted m st selection f e
+  pub front-broken : None ≡ counted m st selection f g → None ≡ counted m st selection f e
   unfolding counted
   front-broken a = rw (ok-split m st f g e h1 h2, counted-broken m st selection f g a)
 
-  module _ {c : ℕ} (a : Count c ≡ counted m st selection f g) where
-    pub back-broken : Broken ≡ counted m st selection g e → Broken ≡ counted m st selection f e
+  module _ {c : ℕ} (a : Some c ≡ counted m st selection f g) where
+    pub back-broken : None ≡ counted m st selection g e → None ≡ counted m st selection f e
     unfolding counted
     back-broken b =
         rw (ok-split m st f g e h1 h2, (counted-count m st selection f g a).0, counted-broken m st selection g e b)
 
-    pub both-counted : {d : ℕ} → Count d ≡ counted m st selection g e → Count (c + d) ≡ counted m st selection f e
+    pub both-counted : {d : ℕ} → Some d ≡ counted m st selection g e → Some (c + d) ≡ counted m st selection f e
     unfolding counted
     both-counted b =
         let x = counted-count m st selection f g a in
@@ -175,11 +175,11 @@ module _ (m : ℕ) (st : List ℕ) (selection f g e : ℕ) (h1 : f ≤ g) (h2 : 
 
 -- ---- the same for a sample's rows, where s is at place q
 pub record Sampling (st : List ℕ) (m selection f e k d z : ℕ) (o l : List ℕ) (c a s q : ℕ) : Type 0 where
-  pub run : Run (ring_size st) (base st) e s q
+  pub run : Unwrapped (ring_size st) (base st) e s q
   pub ok : items_ok m st s e ≡ true
   pub put : Writing (picked st selection) (numbered_in st) f e k d z o l c a s
 
-pub sampling-start : (st : List ℕ) (m selection f e k d q : ℕ) (o : List ℕ) → Run (ring_size st) (base st) e f q
+pub sampling-start : (st : List ℕ) (m selection f e k d q : ℕ) (o : List ℕ) → Unwrapped (ring_size st) (base st) e f q
     → items_ok m st f e ≡ true
     → d + length (sampled st selection f e) ≤ k → Sampling st m selection f e k d (k + 2 * d) o o d (k + 2 * d) f q
 unfolding sample_rows
@@ -210,28 +210,29 @@ module _ {st : List ℕ} {m selection f e k d z : ℕ} {o l : List ℕ} {c a s q
     ok-more : items_ok m st (s + 1) e ≡ true
     ok-more = and_right (ltb i m) (items_ok m st (s + 1) e) ok-both
 
-    module _ {y : ℕ} (b : (y ≡ cond (bit selection i) 1 0) × (y ≤ 1)) where
-      selected : y ≡ 1 → bit selection (item_in st s) ≡ true
-      selected t = rw (item-is st s q (v.run.is h), ← w) (bit-yes b t)
+    module _ {y : Bool} (b : y ≡ bit selection i) where
+      selected : bit selection (item_in st s) ≡ y
+      selected = rw (item-is st s q (v.run.is h), ← w) (sym b)
 
-      pub sampling-room : y ≡ 1 → 3 * k ≤ length o → (c < length l) × (a + 1 < length l)
-      sampling-room t = writing-room v.put h (selected t)
+      pub sampling-room : y ≡ true → 3 * k ≤ length o → (c < length l) × (a + 1 < length l)
+      sampling-room t = writing-room v.put h (selected ∙ t)
 
-      pub sampling-more : {u : ℕ} {r : List ℕ} → y ≡ 1 → u ≡ ring_time st n q → r ≡ set (set (set l c s) a u) (a + 1) x
+      pub sampling-more : {u : ℕ} {r : List ℕ} → y ≡ true → u ≡ ring_time st n q
+          → r ≡ set (set (set l c s) a u) (a + 1) x
           → Sampling st m selection f e k d z o r (c + 1) (a + 2) (s + 1) (q + 1)
       sampling-more t hu g =
           record {
             run = run-next v.run h;
             ok = ok-more;
-            put = writing_more v.put h (selected t) (numbered_is st s q (v.run.is h)) (g ∙ rw (hu, hx, hn));
+            put = writing_more v.put h (selected ∙ t) (numbered_is st s q (v.run.is h)) (g ∙ rw (hu, hx, hn));
           }
 
-      pub sampling-skip : (y ≡ 1 → ⊥) → Sampling st m selection f e k d z o l c a (s + 1) (q + 1)
+      pub sampling-skip : y ≡ false → Sampling st m selection f e k d z o l c a (s + 1) (q + 1)
       sampling-skip t =
           record {
             run = run-next v.run h;
             ok = ok-more;
-            put = writing-skip v.put h (rw (item-is st s q (v.run.is h), ← w) (bit-no b t));
+            put = writing-skip v.put h (selected ∙ t);
           }
 
 -- ---- a sample written in two parts

@@ -1,5 +1,6 @@
 -- Laws of runs of numbers, in order or in the ring: one more, and two parts.
 use Prim.Native.Nat.{ℕ, zero, suc, ◌+◌, ◌-◌, ◌%◌, ◌≤◌, ◌<◌}
+use Rattle.std.specs.Prelude.{min}
 use mathlib.Core.Path.{◌≡◌, refl, sym, ap, ◌∙◌}
 use mathlib.Core.Bool.{Bool, true, false, cond, ◌&&◌}
 use mathlib.Core.List.{List, [], ◌∷◌, ◌++◌}
@@ -9,7 +10,7 @@ use native.Mathlib.Omega.{arith}
 use lib.ListN.{length}
 use Rattle.spec.specs.Words.{every, pick_rows}
 use Rattle.history.specs.Observations.{place}
-use Rattle.rows.specs.Rows.{Run, TwoRuns}
+use Rattle.rows.specs.Rows.{Unwrapped, TwoRuns}
 
 and_assoc : (a b c : Bool) → a && (b && c) ≡ (a && b) && c
 and_assoc true b c = refl
@@ -91,7 +92,7 @@ wrapped f b n p h e l =
     let r : p + (n - p) ≡ n = omega arith in
     sym (rw q (sym (mod-add-mod (f - b) n (n - p)) ∙ rw (← e, r, mod_self n)))
 
-pub run-next : {N B e s q : ℕ} → Run N B e s q → s < e → Run N B e (s + 1) (q + 1)
+pub run-next : {N B e s q : ℕ} → Unwrapped N B e s q → s < e → Unwrapped N B e (s + 1) (q + 1)
 run-next {N} {B} {e} {s} {q} r h =
     record {
       low = omega (arith, r.low);
@@ -101,22 +102,23 @@ run-next {N} {B} {e} {s} {q} r h =
       room = omega (arith, r.room);
     }
 
--- p is the place of f: all of the numbers in one run, or up to the ring's end and from its start
-module _ (N B f e p : ℕ) (h : B ≤ f) (le : f ≤ e) (is : p ≡ place N B f) (l : p < N) where
-  pub one-run : e - f ≤ N - p → TwoRuns N B f e p e
-  one-run g =
-      record {
-        low = le;
-        high = omega arith;
-        front = record { low = h; is = λ z. is; room = omega arith };
-        back = record { low = omega arith; is = λ z. absurd (omega arith); room = omega arith };
-      }
-
-  pub two_runs : N - p < e - f → e - f ≤ N → TwoRuns N B f e p (f + (N - p))
-  two_runs g k =
-      record {
-        low = omega arith;
-        high = omega arith;
-        front = record { low = h; is = λ z. is; room = omega arith };
-        back = record { low = omega arith; is = λ z. wrapped f B N p h is l; room = omega arith };
-      }
+-- p is the place of f: up to the ring's end or to e, and from the ring's start
+pub two-runs : (N B f e p g : ℕ) → B ≤ f → f ≤ e → p ≡ place N B f → p < N → e - f ≤ N → g ≡ f + min (N - p) (e - f)
+    → TwoRuns N B f e (record { place = p; from = f; to = g }) (record { place = 0; from = g; to = e })
+two-runs N B f e p g h le is l k eg =
+    record {
+      begins = refl;
+      meets = refl;
+      ends = refl;
+      start = refl;
+      low = omega arith;
+      high = omega arith;
+      front = record { low = h; is = λ z. is; room = omega arith };
+      back =
+          record {
+            low = omega arith;
+            is =
+                λ z. let q : g ≡ f + (N - p) = omega arith in rw q (wrapped f B N p h is l);
+            room = omega arith;
+          };
+    }

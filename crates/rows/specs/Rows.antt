@@ -1,10 +1,9 @@
 -- What a pass over the numbers of a sample gives, and rows written into a buffer.
-use Rattle.std.specs.Prelude.{ℕ, ◌+◌, ◌-◌, ◌%◌, ◌≤◌, ◌<◌, ◌≡◌, Bool, cond, List, length}
+use Rattle.std.specs.Prelude.{ℕ, ◌+◌, ◌-◌, ◌%◌, ◌≤◌, ◌<◌, ◌≡◌, Bool, cond, List, Option, Some, None, length}
 use Rattle.std.proofs.lemmas.List.Edits.{sets}
 use Rattle.history.specs.Observations.{ring_size, base, ring_ok, sample_rows}
 use Rattle.spec.specs.Reply.{numbers, pairs}
-use Rattle.rows.specs.declared.Counted.{Counted}
-use Rattle.rows.specs.declared.Counted.TheVariants.{Count, Broken}
+use Rattle.rows.specs.declared.Run.{Run}
 
 -- of the numbers from f up to e: refusal 2's test that each has an item of the model, and the rows of those that are
 -- selected
@@ -14,9 +13,9 @@ items_ok m st f e = ring_ok (ring_size st) m (base st) st (e - f) f
 abbrev pub sampled : List ℕ → ℕ → ℕ → ℕ → List (List ℕ)
 sampled st selection f e = sample_rows (ring_size st) (base st) st selection (e - f) f
 
--- how many rows there are; Broken where the test fails
-unfoldable pub counted : ℕ → List ℕ → ℕ → ℕ → ℕ → Counted
-counted m st selection f e = cond (items_ok m st f e) (Count (length (sampled st selection f e))) Broken
+-- how many rows there are; none is given where the test fails
+unfoldable pub counted : ℕ → List ℕ → ℕ → ℕ → ℕ → Option ℕ
+counted m st selection f e = cond (items_ok m st f e) (Some (length (sampled st selection f e))) None
 
 -- rows into a buffer: their numbers from word c on, their pairs of time and packed word from word a on
 abbrev pub rows_at : List ℕ → ℕ → ℕ → List (List ℕ) → List ℕ
@@ -27,15 +26,18 @@ abbrev pub rows_into : List ℕ → ℕ → List (List ℕ) → List ℕ
 rows_into out k rows = rows_at out 0 k rows
 
 -- the numbers from s up to e stand in the ring from place q on, without a wrap
-pub record Run (N B e s q : ℕ) : Type 0 where
+pub record Unwrapped (N B e s q : ℕ) : Type 0 where
   pub low : B ≤ s
   pub is : s < e → q ≡ (s - B) % N
   pub room : q + (e - s) ≤ N
 
--- the numbers from f up to e in two runs: up to the ring's end from place p on, then from place 0 on, where number g
--- stands
-pub record TwoRuns (N B f e p g : ℕ) : Type 0 where
-  pub low : f ≤ g
-  pub high : g ≤ e
-  pub front : Run N B g f p
-  pub back : Run N B e g 0
+-- the numbers from f up to e in two runs: up to the ring's end at most, then from place 0 on
+pub record TwoRuns (N B f e : ℕ) (a b : Run) : Type 0 where
+  pub begins : a.from ≡ f
+  pub meets : b.from ≡ a.to
+  pub ends : b.to ≡ e
+  pub start : b.place ≡ 0
+  pub low : f ≤ a.to
+  pub high : a.to ≤ e
+  pub front : Unwrapped N B a.to a.from a.place
+  pub back : Unwrapped N B b.to b.from b.place

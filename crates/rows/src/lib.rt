@@ -3,148 +3,134 @@
 #![tactic(auto)]
 
 ghost use Rattle.std.specs.Prelude.{◌≡◌, true, ◌+◌, ◌-◌, ◌*◌, ◌<◌, ◌≤◌, length, set};
-ghost use Rattle.spec.specs.Model.{max_items};
-ghost use Rattle.history.specs.Observations.{Head, ring_size, base};
-ghost use Rattle.rows.specs.Rows.{items_ok, sampled, counted, rows_at, rows_into, Run, TwoRuns};
+ghost use Rattle.history.specs.Observations.{max_ring, ring_size, item_count, base};
+ghost use Rattle.rows.specs.Rows.{items_ok, sampled, counted, rows_at, rows_into, Unwrapped, TwoRuns};
 
-// How many rows there are, or that a ring value read has no item of the model.
-#[derive(Clone, Copy)]
-pub enum Counted {
-    Count(u64),
-    Broken,
-}
+use observations::{Row, Store};
 
-// Where two runs begin: the first at `place`, and at place 0 the number `turn`.
+// Numbers of the ring, `from` up to, but without, `to`, which stand in it from `place` on without a wrap.
 #[derive(Clone, Copy)]
-pub struct Split {
+pub struct Run {
     pub place: u64,
-    pub turn: u64,
+    pub from: u64,
+    pub to: u64,
 }
 
-// The two runs of the numbers from f up to e, at most a ring of them.
-pub fn runs(st: &[u64], m: u64, f: u64, e: u64) -> Split
-    requires head { Head m st.now }
+impl Run {
+    // The numbers before `at`, and those from it on.
+    pub fn split(self, at: u64) -> (Run, Run)
+        requires inside { (self.from ≤ at) × (at ≤ self.to) }
+        requires room { self.place + (self.to - self.from) ≤ max_ring }
+        ensures before { result.0 ≡ record self { to = at } }
+        ensures behind { result.1 ≡ record self { place = self.place + (at - self.from); from = at } }
+    {
+        let before = Run { to: at, ..self };
+        let behind = Run {
+            place: self.place + (at - self.from),
+            from: at,
+            to: self.to,
+        };
+        (before, behind)
+    }
+}
+
+// The two runs of the numbers from f up to e, at most a ring of them: up to the ring's end, then from place 0 on.
+pub fn runs(st: &Store<'_>, f: u64, e: u64) -> (Run, Run)
     requires st_bound { (base st.now ≤ f) × ((f ≤ e) × (e - f ≤ ring_size st.now)) }
-    ensures { TwoRuns (ring_size st.now) (base st.now) f e result.place result.turn }
+    ensures { TwoRuns (ring_size st.now) (base st.now) f e result.0 result.1 }
 {
-    let n = observations::ring_size(st, m);
-    let b = observations::base(st, m);
-    let p = observations::place(n, b, f);
-    let left = n - p;
-    if e - f <= left {
-        return Split { place: p, turn: e };
-    }
-    Split {
-        place: p,
-        turn: f + left,
-    }
+    let place = st.place(f);
+    let turn = f + (st.ring_size() - place).min(e - f);
+    let front = Run {
+        place,
+        from: f,
+        to: turn,
+    };
+    let back = Run {
+        place: 0,
+        from: turn,
+        to: e,
+    };
+    (front, back)
 }
 
-// One run of count_rows, from place p on.
-fn count_run(st: &[u64], m: u64, selection: u64, p: u64, f: u64, e: u64) -> Counted
-    requires head { Head m st.now }
-    requires m_le_max_items { m ≤ max_items }
-    requires run { Run (ring_size st.now) (base st.now) e f p }
-    ensures { result ≡ counted m st.now selection f e }
+// One run of count_rows.
+fn count_run(st: &Store<'_>, selection: u64, run: Run) -> Option<u64>
+    requires run { Unwrapped (ring_size st.now) (base st.now) run.to run.from run.place }
+    ensures { result ≡ counted (item_count st.now) st.now selection run.from run.to }
 {
-    let n = observations::ring_size(st, m);
-    let mut q = p;
-    let mut c: u64 = 0;
-    let mut s = f;
-    while s < e {
-        let i = value::item_of(observations::ring_word(st, n, q));
+    let words = st.slice();
+    let m = st.items();
+    let n = st.ring_size();
+    let mut count: u64 = 0;
+    for s in run.from..run.to {
+        let i = value::item_of(observations::ring_word(words, n, run.place + (s - run.from)));
         if m <= i {
-            return Counted::Broken;
+            return None;
         }
-        c += selection::bit_of(selection, i);
-        q += 1;
-        s += 1;
+        count += selection::bit_of(selection, i);
     }
-    Counted::Count(c)
+    Some(count)
 }
 
-// How many of the numbers from f up to e have a row; Broken where one of them has no item of the model.
-pub fn count_rows(st: &[u64], m: u64, selection: u64, f: u64, e: u64) -> Counted
-    requires head { Head m st.now }
-    requires m_le_max_items { (m ≤ max_items) × (base st.now ≤ f) }
-    requires f_le_e { (f ≤ e) × (e - f ≤ ring_size st.now) }
-    ensures { result ≡ counted m st.now selection f e }
+// How many of the numbers from f up to e have a row; None where one of them has no item of the model.
+pub fn count_rows(st: &Store<'_>, selection: u64, f: u64, e: u64) -> Option<u64>
+    requires st_bound { (base st.now ≤ f) × ((f ≤ e) × (e - f ≤ ring_size st.now)) }
+    ensures { result ≡ counted (item_count st.now) st.now selection f e }
 {
-    let r = runs(st, m, f, e);
-    let p = r.place;
-    let g = r.turn;
-    let front = count_run(st, m, selection, p, f, g);
-    let Counted::Count(c) = front else {
-        return Counted::Broken;
-    };
-    let back = count_run(st, m, selection, 0, g, e);
-    let Counted::Count(d) = back else {
-        return Counted::Broken;
-    };
-    Counted::Count(c + d)
+    let (front, back) = runs(st, f, e);
+    let before = count_run(st, selection, front)?;
+    let behind = count_run(st, selection, back)?;
+    Some(before + behind)
 }
 
 // One row: its number to word c, its time and packed word to words a and a + 1.
-pub fn write_row(out: &mut [u64], c: u64, a: u64, number: u64, time: u64, packed: u64)
+pub fn write_row(out: &mut [u64], c: u64, a: u64, row: Row)
     requires { (c < length out.old) × (a + 1 < length out.old) }
-    ensures { out.new ≡ set (set (set out.old c number) a time) (a + 1) packed }
+    ensures { out.new ≡ set (set (set out.old c row.number) a row.time) (a + 1) row.packed }
 {
-    out[c as usize] = number;
-    out[a as usize] = time;
-    out[(a + 1) as usize] = packed;
+    out[c as usize] = row.number;
+    out[a as usize] = row.time;
+    out[(a + 1) as usize] = row.packed;
 }
 
-// One run of write_rows, from place p on, where `done` of the k rows are written; how many are written then.
-fn write_run(
-    st: &[u64],
-    m: u64,
-    selection: u64,
-    p: u64,
-    f: u64,
-    e: u64,
-    done: u64,
-    k: u64,
-    out: &mut [u64],
-) -> u64
-    requires head { Head m st.now }
-    requires m_le_max_items { m ≤ max_items }
-    requires run { Run (ring_size st.now) (base st.now) e f p }
-    requires e_value { items_ok m st.now f e ≡ true }
-    requires e_bound { (done + length (sampled st.now selection f e) ≤ k) × (3 * k ≤ length out.old) }
-    ensures value { result ≡ done + length (sampled st.now selection f e) }
-    ensures out_after { out.new ≡ rows_at out.old done (k + 2 * done) (sampled st.now selection f e) }
+// One run of write_rows, where `done` of the k rows are written; how many are written then. No plainer as one with
+// count_run, which may fail; nor with done, k and out in a struct, which would hold a lent buffer.
+fn write_run(st: &Store<'_>, selection: u64, run: Run, done: u64, k: u64, out: &mut [u64]) -> u64
+    requires run { Unwrapped (ring_size st.now) (base st.now) run.to run.from run.place }
+    requires e_value { items_ok (item_count st.now) st.now run.from run.to ≡ true }
+    requires e_bound { (done + length (sampled st.now selection run.from run.to) ≤ k) × (3 * k ≤ length out.old) }
+    ensures value { result ≡ done + length (sampled st.now selection run.from run.to) }
+    ensures out_after { out.new ≡ rows_at out.old done (k + 2 * done) (sampled st.now selection run.from run.to) }
 {
-    let n = observations::ring_size(st, m);
+    let words = st.slice();
+    let n = st.ring_size();
     let mut c = done;
-    let mut a = k + 2 * done;
-    let mut q = p;
-    let mut s = f;
-    while s < e {
-        let w = observations::ring_word(st, n, q);
-        if selection::bit_of(selection, value::item_of(w)) == 1 {
-            let time = observations::ring_time(st, n, q);
-            write_row(out, c, a, s, time, w);
+    for number in run.from..run.to {
+        let place = run.place + (number - run.from);
+        let packed = observations::ring_word(words, n, place);
+        if selection::has(selection, value::item_of(packed)) {
+            let time = observations::ring_time(words, n, place);
+            let row = Row {
+                number,
+                time,
+                packed,
+            };
+            write_row(out, c, k + 2 * c, row);
             c += 1;
-            a += 2;
         }
-        q += 1;
-        s += 1;
     }
     c
 }
 
 // The rows of the numbers from f up to e, which are k: k numbers, then k pairs of time and packed word.
-pub fn write_rows(st: &[u64], m: u64, selection: u64, f: u64, e: u64, k: u64, out: &mut [u64])
-    requires head { Head m st.now }
-    requires m_le_max_items { (m ≤ max_items) × (base st.now ≤ f) }
-    requires f_le_e { (f ≤ e) × (e - f ≤ ring_size st.now) }
-    requires e_value { items_ok m st.now f e ≡ true }
+pub fn write_rows(st: &Store<'_>, selection: u64, f: u64, e: u64, k: u64, out: &mut [u64])
+    requires st_bound { (base st.now ≤ f) × ((f ≤ e) × (e - f ≤ ring_size st.now)) }
+    requires e_value { items_ok (item_count st.now) st.now f e ≡ true }
     requires k_value { (k ≡ length (sampled st.now selection f e)) × (3 * k ≤ length out.old) }
     ensures { out.new ≡ rows_into out.old k (sampled st.now selection f e) }
 {
-    let r = runs(st, m, f, e);
-    let p = r.place;
-    let g = r.turn;
-    let done = write_run(st, m, selection, p, f, g, 0, k, out);
-    write_run(st, m, selection, 0, g, e, done, k, out);
+    let (front, back) = runs(st, f, e);
+    let done = write_run(st, selection, front, 0, k, out);
+    write_run(st, selection, back, done, k, out);
 }

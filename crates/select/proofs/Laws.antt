@@ -3,7 +3,6 @@ use Prim.Native.Nat.{ℕ, suc, ◌+◌, ◌-◌, ◌*◌, ◌^◌, ◌<◌, ◌�
 use mathlib.Core.Path.{◌≡◌, refl, sym, ap, ◌∙◌}
 use mathlib.Core.Bool.{Bool, true, false, cond, not, ◌&&◌, ◌||◌, and-true, and-false}
 use mathlib.Core.List.{List, [], ◌∷◌}
-use mathlib.Core.Option.{some}
 use native.Mathlib.Nat.{mul-le-mul_right, two-pow-succ}
 use native.Mathlib.Omega.{arith}
 use borrow.Author.Tests.{eqb-true, eqb-false, eq-eqb, ne_eqb, not-true, not-false}
@@ -13,21 +12,17 @@ use lib.Pow.{pow_mono}
 use lib.Seq.{take-take, length-take-le}
 use Rattle.spec.specs.Words.{any_below, bit, set_of}
 use Rattle.spec.specs.Bytes.{name_byte, same}
-use Rattle.spec.specs.Model.{Checked, name_bytes, letters, name_cell, max_components, max_items, components, items}
-use Rattle.spec.specs.Model.{component_word, item_word, parent_of, component_name, component_of, item_name}
+use Rattle.spec.specs.Model.{name_bytes, letters, name_cell, max_items, components, items}
+use Rattle.spec.specs.Model.{item_word, component_of, item_name}
 use Rattle.spec.specs.Path.{Form, subtree, typed, other_form, form_of, is_named, has_type, under, in_subtree, in_typed}
 use Rattle.spec.specs.Path.{select_subtree, select_typed, select_form, select}
-use Rattle.spec.specs.declared.Selection.{Selection}
-use Rattle.spec.specs.declared.Selection.TheVariants.{Items, NotFound}
+use Rattle.std.specs.Prelude.{Option, Some, None, is_some}
+use Rattle.std.proofs.Common.{Bor}
 use Rattle.spec.proofs.Words.{by_cond}
 use Rattle.spec.proofs.Bytes.{same-ne}
 use Rattle.spec.proofs.Bits.{set-lt, set-ext}
 use Rattle.spec.proofs.Path.{under-zero}
-use Rattle.paths.specs.declared.PathForm.{PathForm}
-use Rattle.paths.specs.declared.PathForm.TheVariants.{Subtree, Typed}
-use Rattle.spec.specs.Path.{root_bytes, opening_bytes}
-use Rattle.paths.specs.Forms.{meaning, NamesFit}
-use Rattle.select.specs.Choice.{taken, chosen, by_names, SelectionFits}
+use Rattle.select.specs.Choice.{type_given, of_type, taken, chosen, by_names, SelectionFits}
 
 -- ---- names
 
@@ -91,41 +86,20 @@ or_yes t a b e z = let q : a ≡ true = sym e ∙ z in rw q
 pub or_no : (t a b r : Bool) → t ≡ a → t ≡ false → r ≡ b → r ≡ a || b
 or_no t a b r e z g = let q : a ≡ false = sym e ∙ z in rw (q, g)
 
-module _ (names y : List ℕ) (w set : ℕ) (u t : Bool) (e : t ≡ bit set (component_of w)) where
-  pub not-under : t ≡ false → false ≡ taken names set u y w
+module _ (names : List ℕ) (w set : ℕ) (t : Bool) (e : t ≡ bit set (component_of w)) where
+  pub not-under : (o : Option (List ℕ)) → t ≡ false → false ≡ taken names set o w
   unfolding taken
-  not-under z = rw (← e, z)
+  not-under o z = rw (← e, z)
 
-  pub any-type : t ≡ true → u ≡ false → true ≡ taken names set u y w
+  pub under-type : (o : Option (List ℕ)) → t ≡ true → (r : Bool) → r ≡ of_type names (item_name w) o
+      → r ≡ taken names set o w
   unfolding taken
-  any-type z f = rw (← e, z, f)
+  under-type o z r g = rw (← e, z, g)
 
-  pub of-type : t ≡ true → u ≡ true → (r : Bool) → r ≡ is_named names (item_name w) y → r ≡ taken names set u y w
-  unfolding taken
-  of-type z f r g = rw (← e, z, f, g)
-
--- ---- a checked model's words
-module _ (model names : List ℕ) (M : Checked model names) where
-  pub component-fits : (i w : ℕ) → i < components model → w ≡ component_word model i
-      → (name_bytes * component_name w + name_bytes ≤ length names) × (parent_of w < max_components)
-  component-fits i w h e =
-      let n = M.name i h in
-      let p = M.parent i h in
-      let z = M.sizes.c_max in
-      rw e (omega (arith, M.names_len), omega arith)
-
-  pub item-fits : (j w : ℕ) → j < items model → w ≡ item_word model j
-      → (name_bytes * item_name w + name_bytes ≤ length names) × (component_of w < max_components)
-  item-fits j w h e =
-      let n = M.item_name j h in
-      let p = M.component j h in
-      let z = M.sizes.c_max in
-      rw e (omega (arith, M.names_len), omega arith)
-
-pub chosen_is : (model names : List ℕ) (set : ℕ) (u : Bool) (y : List ℕ) (j w : ℕ) (b : Bool) → w ≡ item_word model j
-    → b ≡ taken names set u y w → b ≡ chosen model names set u y j
+pub chosen_is : (model names : List ℕ) (set : ℕ) (o : Option (List ℕ)) (j w : ℕ) (b : Bool) → w ≡ item_word model j
+    → b ≡ taken names set o w → b ≡ chosen model names set o j
 unfolding chosen
-chosen_is model names set u y j w b ew eb = rw (eb, ew)
+chosen_is model names set o j w b ew eb = rw (eb, ew)
 
 -- ---- the items, from the last one down
 
@@ -157,17 +131,22 @@ module _ (p : ℕ → Bool) (m n r : ℕ) (rest : set_of p m ≡ 2 ^ n * r + set
   set-whole none = let z : n ≡ 0 = omega arith in omega (arith, rw z at rest)
 
 -- ---- the selections
-module _ (model names t y : List ℕ) (set : ℕ) (e : set ≡ under model names t (components model)) where
-  chosen-subtree : set_of (chosen model names set false y) (items model)
+pub given-is : (o : Option (Bor (List ℕ))) → is_some (type_given o) ≡ is_some o
+given-is (Some y) = refl
+given-is None = refl
+
+module _ (model names t : List ℕ) (set : ℕ) (e : set ≡ under model names t (components model)) where
+  chosen-subtree : set_of (chosen model names set None) (items model)
       ≡ set_of (in_subtree model names t) (items model)
   unfolding chosen taken in_subtree
   chosen-subtree =
       set-ext _ _ (items model)
       (λ j h. rw e (and-true (bit (under model names t (components model)) (component_of (item_word model j)))))
 
-  chosen-typed : set_of (chosen model names set true y) (items model) ≡ set_of (in_typed model names t y) (items model)
+  chosen-typed : (y : List ℕ)
+      → set_of (chosen model names set (Some y)) (items model) ≡ set_of (in_typed model names t y) (items model)
   unfolding chosen taken in_typed in_subtree
-  chosen-typed = set-ext _ _ (items model) (λ j h. rw e)
+  chosen-typed y = set-ext _ _ (items model) (λ j h. rw e)
 
   any-from : not (any_below (has_type model names t) (components model)) ≡ eqb set 0
   any-from = rw e (sym (under-zero model names t (components model)))
@@ -178,75 +157,72 @@ module _ (model names t y : List ℕ) (set : ℕ) (e : set ≡ under model names
   some_one : (set ≡ 0 → ⊥) → any_below (has_type model names t) (components model) ≡ true
   some_one z = not-false _ (any-from ∙ ne_eqb set 0 z)
 
-  pub type-unknown : (u : Bool) → set ≡ 0 → NotFound ≡ by_names model names t u y
+  pub type-unknown : (o : Option (List ℕ)) → set ≡ 0 → None ≡ by_names model names t o
   unfolding select_typed select_subtree
-  type-unknown true z = rw (none z)
-  type-unknown false z = rw (none z)
+  type-unknown (Some y) z = rw (none z)
+  type-unknown None z = rw (none z)
 
-  module _ (z : set ≡ 0 → ⊥) (u : Bool) (q : ℕ) (eq : q ≡ set_of (chosen model names set u y) (items model)) where
-    pub subtree-items : u ≡ false → Items q ≡ by_names model names t u y
+  module _ (z : set ≡ 0 → ⊥) (q : ℕ) where
+    subtree-items : q ≡ set_of (chosen model names set None) (items model) → Some q ≡ by_names model names t None
     unfolding select_subtree
-    subtree-items f =
-        let g : q ≡ set_of (in_subtree model names t) (items model) = rw (f, chosen-subtree) at eq in
-        rw (f, some_one z, g)
+    subtree-items eq =
+        let g : q ≡ set_of (in_subtree model names t) (items model) = rw chosen-subtree at eq in
+        rw (some_one z, g)
 
-    module _ (f : u ≡ true) where
-      items-are : q ≡ set_of (in_typed model names t y) (items model)
-      items-are = rw (f, chosen-typed) at eq
+    -- no item of the type: refused
+    pub none-typed : (o : Option (List ℕ)) → q ≡ set_of (chosen model names set o) (items model)
+        → is_some o ≡ true → q ≡ 0 → None ≡ by_names model names t o
+    unfolding select_typed
+    none-typed (Some y) eq s n =
+        let g : q ≡ set_of (in_typed model names t y) (items model) = rw (chosen-typed y) at eq in
+        rw (some_one z, ← g, eq-eqb q 0 n)
+    none-typed None eq s n = cc
 
-      pub typed-none : q ≡ 0 → NotFound ≡ by_names model names t u y
-      unfolding select_typed
-      typed-none n = rw (f, some_one z, ← items-are, eq-eqb q 0 n)
+    pub not-typed : (o : Option (List ℕ)) → q ≡ set_of (chosen model names set o) (items model)
+        → is_some o ≡ false → Some q ≡ by_names model names t o
+    not-typed (Some y) eq s = cc
+    not-typed None eq s = subtree-items eq
 
-      pub typed-items : (q ≡ 0 → ⊥) → Items q ≡ by_names model names t u y
-      unfolding select_typed
-      typed-items n = rw (f, some_one z, ← items-are, ne_eqb q 0 n)
+    pub some-items : (o : Option (List ℕ)) → q ≡ set_of (chosen model names set o) (items model)
+        → (q ≡ 0 → ⊥) → Some q ≡ by_names model names t o
+    unfolding select_typed
+    some-items (Some y) eq n =
+        let g : q ≡ set_of (in_typed model names t y) (items model) = rw (chosen-typed y) at eq in
+        rw (some_one z, ← g, ne_eqb q 0 n)
+    some-items None eq n = subtree-items eq
 
 -- ---- the forms
-pub subtree-fits : (f : PathForm) (n l : ℕ) → f ≡ Subtree n → NamesFit f l → root_bytes + n ≤ l
-subtree-fits f n l e h = rw e at h
-
-pub typed-fits : (f : PathForm) (n k l : ℕ) → f ≡ Typed n k → NamesFit f l → root_bytes + n + opening_bytes + k ≤ l
-typed-fits f n k l e h = rw e at h
-
-pub form-is : (path : List ℕ) (f g : PathForm) → f ≡ g → meaning path f ≡ form_of path → meaning path g ≡ form_of path
-form-is path f g e h = rw e at h
-
 form-fits : (model names : List ℕ) (f : Form) → SelectionFits (select_form model names f) (items model)
 unfolding select_form select_subtree select_typed
 form-fits model names (subtree t) =
-    by_cond (λ (x : Selection). SelectionFits x (items model))
+    by_cond (λ (x : Option ℕ). SelectionFits x (items model))
     (any_below (has_type model names t) (components model)) _ _
     (λ e. set-lt _ _)
     (λ e. tt)
 form-fits model names (typed t y) =
-    let P : Selection → Type 0 = λ (x : Selection). SelectionFits x (items model) in
+    let P : Option ℕ → Type 0 = λ (x : Option ℕ). SelectionFits x (items model) in
     by_cond P (any_below (has_type model names t) (components model)) _ _
     (λ e. by_cond P (eqb (set_of (in_typed model names t y) (items model)) 0) _ _ (λ d. tt) (λ d. set-lt _ _))
     (λ e. tt)
 form-fits model names other_form = tt
 
-pub path-fits : (model names path : List ℕ) (r : Selection) → r ≡ select model names (some path)
+pub path-fits : (model names path : List ℕ) (r : Option ℕ) → r ≡ select model names (Some path)
     → SelectionFits r (items model)
 unfolding select
 path-fits model names path r e = rw e (form-fits model names (form_of path))
 
+-- what a form selects, its path does
 module _ (model names path : List ℕ) where
-  pub path-other : other_form ≡ form_of path → NotFound ≡ select model names (some path)
+  pub path-other : other_form ≡ form_of path → None ≡ select model names (Some path)
   unfolding select select_form
   path-other e = rw (← e)
 
-  pub path-subtree : (n : ℕ) (r : Selection) → subtree (take n (drop root_bytes path)) ≡ form_of path
-      → r ≡ select_subtree model names (lent path root_bytes n) → r ≡ select model names (some path)
+  pub path-subtree : (t : List ℕ) (r : Option ℕ) → subtree t ≡ form_of path → r ≡ select_subtree model names t
+      → r ≡ select model names (Some path)
   unfolding select select_form
-  path-subtree n r e g = let q : root_bytes + n - root_bytes ≡ n = omega arith in g ∙ rw (q, ← e)
+  path-subtree t r e g = rw (← e, g)
 
-  pub path-typed : (n k : ℕ) (r : Selection)
-      → typed (take n (drop root_bytes path)) (take k (drop (root_bytes + n + opening_bytes) path)) ≡ form_of path
-      → r ≡ select_typed model names (lent path root_bytes n) (lent path (root_bytes + n + opening_bytes) k)
-      → r ≡ select model names (some path)
+  pub path-typed : (t y : List ℕ) (r : Option ℕ) → typed t y ≡ form_of path → r ≡ select_typed model names t y
+      → r ≡ select model names (Some path)
   unfolding select select_form
-  path-typed n k r e g =
-      let q : root_bytes + n - root_bytes ≡ n = omega arith in
-      let h : root_bytes + n + opening_bytes + k - (root_bytes + n + opening_bytes) ≡ k = omega arith in
-      g ∙ rw (q, h, ← e)
+  path-typed t y r e g = rw (← e, g)

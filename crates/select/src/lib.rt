@@ -1,16 +1,14 @@
 // What a path selects.
 #![tactic(auto)]
 
-ghost use Rattle.std.specs.Prelude.{◌≡◌, ◌||◌, ◌+◌, ◌*◌, ◌<◌, ◌≤◌, length};
-ghost use Rattle.std.proofs.Math.Option.{some};
+ghost use Rattle.std.specs.Prelude.{◌≡◌, ◌||◌, ◌+◌, ◌*◌, ◌<◌, ◌≤◌, length, Some};
 ghost use Rattle.spec.specs.Words.{bit, set_of};
 ghost use Rattle.spec.specs.Model.{name_bytes, max_components, Checked, components, items};
 ghost use Rattle.spec.specs.Model.{parent_of, component_name, component_of, item_name};
 ghost use Rattle.spec.specs.Path.{is_named, under, select};
-ghost use Rattle.select.specs.Choice.{taken, chosen, by_names, SelectionFits};
+ghost use Rattle.select.specs.Choice.{type_given, taken, chosen, by_names, SelectionFits};
 
 use paths::PathForm;
-use spec::Selection;
 
 // Whether name k is the text t. Most names differ early: only a name that agrees so far is measured.
 fn is_named(names: &[u8], k: u64, t: &[u8]) -> bool
@@ -48,87 +46,69 @@ fn under_type(model: &[u32], names: &[u8], t: &[u8]) -> u64
     ensures { result
         ≡ under model.now names.now t.now (components model.now) }
 {
-    let c = model::components(model);
     let mut set: u64 = 0;
-    let mut i: u64 = 0;
-    while i < c {
+    for i in 0..model::components(model) {
         let word = model::component_word(model, i);
         set = selection::with_if(joins(names, word, t, set), set, i);
-        i += 1;
     }
     set
 }
 
-// Whether an item, by its word, is of a component in the set and, where `typed` asks for it, of item type y.
-fn takes(names: &[u8], word: u64, set: u64, typed: bool, y: &[u8]) -> bool
+// Whether an item, by its word, is of a component in the set and, where one is given, of item type y.
+fn takes(names: &[u8], word: u64, set: u64, y: Option<&[u8]>) -> bool
     requires name_bytes_in_bounds { name_bytes * item_name word + name_bytes ≤ length names.now }
     requires word_bound { component_of word < max_components }
-    ensures { result ≡ taken names.now set typed y.now word }
+    ensures { result ≡ taken names.now set (type_given y.entry) word }
 {
     if !selection::has(set, model::component_of(word)) {
         return false;
     }
-    if !typed {
-        return true;
+    match y {
+        Some(y) => is_named(names, model::item_name(word), y),
+        None => true,
     }
-    is_named(names, model::item_name(word), y)
 }
 
-// The items of the components in the set; where `typed` asks for it, only those of item type y.
+// The items of the components in the set; where a type is given, only those of item type y.
 // From the last item down, each step only moves the selection up by one.
-fn items_of(model: &[u32], names: &[u8], set: u64, typed: bool, y: &[u8]) -> u64
+fn items_of(model: &[u32], names: &[u8], set: u64, y: Option<&[u8]>) -> u64
     requires { Checked model.now names.now }
     ensures { result
-        ≡ set_of (chosen model.now names.now set typed y.now)
+        ≡ set_of (chosen model.now names.now set (type_given y.entry))
         (items model.now) }
 {
     let mut selection: u64 = 0;
-    let mut j = model::items(model);
-    while 0 < j {
-        j -= 1;
+    for j in (0..model::items(model)).rev() {
         let word = model::item_word(model, j);
-        selection = selection::moved_up(takes(names, word, set, typed, y), selection);
+        selection = selection::moved_up(takes(names, word, set, y), selection);
     }
     selection
 }
 
-// What //T selects; where `typed` asks for it, what //T//DataItem[@type="Y"] does.
-fn select_names(model: &[u32], names: &[u8], t: &[u8], typed: bool, y: &[u8]) -> Selection
+// What //T selects; where an item type is given, what //T//DataItem[@type="Y"] does.
+fn select_names(model: &[u32], names: &[u8], t: &[u8], y: Option<&[u8]>) -> Option<u64>
     requires { Checked model.now names.now }
-    ensures { result ≡ by_names model.now names.now t.now typed y.now }
+    ensures { result ≡ by_names model.now names.now t.now (type_given y.entry) }
 {
     let set = under_type(model, names, t);
     if set == 0 {
-        return Selection::NotFound;
+        return None;
     }
-    let selection = items_of(model, names, set, typed, y);
-    if !typed {
-        return Selection::Items(selection);
+    let selection = items_of(model, names, set, y);
+    if y.is_some() && selection == 0 {
+        return None;
     }
-    if selection == 0 {
-        return Selection::NotFound;
-    }
-    Selection::Items(selection)
+    Some(selection)
 }
 
 // What a path selects.
-pub fn select_path(model: &[u32], names: &[u8], path: &[u8]) -> Selection
+pub fn select_path(model: &[u32], names: &[u8], path: &[u8]) -> Option<u64>
     requires { Checked model.now names.now }
-    ensures value { result ≡ select model.now names.now (some path.now) }
+    ensures value { result ≡ select model.now names.now (Some path.now) }
     ensures selection_fits { SelectionFits result (items model.now) }
 {
-    let form = paths::path_form(path);
-    match form {
-        PathForm::Subtree(n) => {
-            let end = paths::ROOT + n;
-            select_names(model, names, &path[paths::ROOT..end], false, &path[end..])
-        }
-        PathForm::Typed(n, k) => {
-            let end = paths::ROOT + n;
-            let at = end + paths::OPENING;
-            let stop = at + k;
-            select_names(model, names, &path[paths::ROOT..end], true, &path[at..stop])
-        }
-        PathForm::Other => Selection::NotFound,
+    match paths::path_form(path)? {
+        PathForm::Subtree(t) => select_names(model, names, t, None),
+        PathForm::Typed(t, y) => select_names(model, names, t, Some(y)),
     }
 }

@@ -1,13 +1,12 @@
 -- Laws of a bit as a number, and of the set of all items.
-use Prim.Native.Nat.{ℕ, zero, suc, ◌-◌, ◌+◌, ◌*◌, ◌/◌, ◌%◌, ◌^◌, ◌<◌, ◌≤◌}
+use Prim.Native.Nat.{ℕ, zero, suc, ◌-◌, ◌+◌, ◌/◌, ◌%◌, ◌^◌, ◌<◌, ◌≤◌}
 use mathlib.Core.Path.{◌≡◌, refl, sym, ap, ◌∙◌}
 use mathlib.Core.Bool.{Bool, true, false, cond}
 use native.Mathlib.Nat.{mod-lt}
 use native.Mathlib.Omega.{arith}
 use borrow.Author.Tests.{ne_eqb}
-use lib.Bits.{bit_or, or_shifted}
-use lib.Dec.{eqb, lit<}
-use lib.Pow.{ones_split, ones_lt, high, shl_exact}
+use lib.Dec.{eqb}
+use lib.Pow.{ones_split, ones_lt, high}
 use Rattle.spec.specs.Words.{bit, set_of}
 use Rattle.spec.specs.Model.{max_items}
 use Rattle.spec.specs.Path.{any_item}
@@ -35,20 +34,6 @@ module _ {t : Bool} {x : ℕ} (b : (x ≡ cond t 1 0) × (x ≤ 1)) where
 
   pub bit-no : (x ≡ 1 → ⊥) → t ≡ false
   bit-no e = sym (number-test t x b.0) ∙ ne_eqb x 1 e
-
--- ---- each item moved up by one
-
-module _ (set : ℕ) (room : 2 * set + 1 < 2 ^ max_items) where
-  kept : set * 2 ^ 1 % 2 ^ 64 ≡ set * 2 ^ 1
-  kept = shl_exact {a = set} 63 1 64 (omega arith) (omega arith)
-
-  -- none is lost above
-  pub up_one : set * 2 ^ 1 % 2 ^ 64 ≡ 2 * set
-  up_one = kept ∙ omega arith
-
-  -- and place 0 is free
-  pub up-with : bit_or (set * 2 ^ 1 % 2 ^ 64) 1 ≡ 2 * set + 1
-  up-with = ap (λ (x : ℕ). bit_or x 1) kept ∙ or_shifted set 1 1 (lit< tt) ∙ omega arith
 
 -- ---- all items
 

@@ -8,7 +8,7 @@ ghost use Rattle.spec.specs.Model.{max_items};
 ghost use Rattle.spec.specs.Path.{any_item};
 
 // A bit for each item that a model can have.
-const EVERY: u64 = 18446744073709551615;
+const EVERY: u64 = u64::MAX;
 
 // 1 where item i is in the selection, else 0: loops add these up.
 pub fn bit_of(selection: u64, i: u64) -> u64
@@ -31,10 +31,7 @@ pub fn with_if(taken: bool, set: u64, i: u64) -> u64
     requires { (i < max_items) × (set < 2 ^ i) }
     ensures { result ≡ cond taken (2 ^ i + set) set }
 {
-    if taken {
-        return set | (1 << i);
-    }
-    set
+    if taken { set | (1 << i) } else { set }
 }
 
 // The set with each item moved up by one, and item 0 where `taken` says so.
@@ -42,10 +39,7 @@ pub fn moved_up(taken: bool, set: u64) -> u64
     requires { 2 * set + 1 < 2 ^ max_items }
     ensures { result ≡ 2 * set + cond taken 1 0 }
 {
-    if taken {
-        return (set << 1) | 1;
-    }
-    set << 1
+    (set << 1) | u64::from(taken)
 }
 
 // How many items the selection has.

@@ -1,6 +1,6 @@
 -- Whether an item is asked for Same, and what is found in the latest of one without conditions.
-use Prim.Native.Nat.{ℕ, zero, suc, ◌-◌, ◌^◌}
-use mathlib.Core.Path.{◌≡◌, refl, ◌∙◌}
+use Prim.Native.Nat.{ℕ}
+use mathlib.Core.Path.{◌≡◌}
 use mathlib.Core.Logic.{◌≢◌}
 use mathlib.Core.Bool.{Bool, true, false}
 use mathlib.Core.List.{List}
@@ -10,13 +10,13 @@ use borrow.Author.Tests.{eq-eqb, ne_eqb}
 use Rattle.spec.specs.Model.{discrete}
 use Rattle.spec.specs.Value.{repeats}
 use Rattle.history.specs.Observations.{ring_size, latest_at, item_row, latest_ok, repeats_at, crowded_at}
-use Rattle.history.specs.Calls.{Observed, room_for, observe_by}
-use Rattle.spec.specs.declared.ObserveAnswer.{ObserveAnswer}
-use Rattle.spec.specs.declared.ObserveAnswer.TheVariants.{Recorded}
+use Rattle.history.specs.Calls.{room_for, observe_by}
+use Rattle.std.specs.Prelude.{Result, Ok}
+use Rattle.spec.specs.declared.Refusal.{Refusal}
 use Rattle.spec.proofs.Words.{told}
 use Rattle.judging.specs.declared.Judged.{Judged}
 use Rattle.judging.specs.declared.Judged.TheVariants.{Repeated, New}
-use Rattle.short_way.specs.Found.{found, found_gives, observed_by, short_answer, Shortened}
+use Rattle.short_way.specs.Found.{found, found_gives, observed_by}
 
 module _ (k l w : ℕ) where
   pub asked : k ≢ discrete → {x : ℕ} → x ≡ l → eqb x w ≡ repeats k l w
@@ -33,11 +33,11 @@ module _ (cat : ℕ → ℕ) (n m : ℕ) (st : List ℕ) (item word : ℕ) where
   -- another's one word
   module _ (c : cat item ≢ 2) {s : Bool}
       (es : s ≡ repeats (cat item) (get_or (item_row st (latest_at n) m item) 2 0) word) where
-    pub found-same : s ≡ true → Repeated ≡ found cat n m st item word
+    pub found-same : s ≡ true → Ok Repeated ≡ found cat n m st item word
     unfolding found latest_ok repeats_at crowded_at
     found-same g = rw (ne_eqb (cat item) 2 c, told es g)
 
-    pub found-new : s ≡ false → New ≡ found cat n m st item word
+    pub found-new : s ≡ false → Ok New ≡ found cat n m st item word
     unfolding found latest_ok repeats_at crowded_at
     found-new g = rw (ne_eqb (cat item) 2 c, told es g)
 
@@ -47,19 +47,9 @@ unfolding latest_ok
 plain-latest cat n m st item c = rw (ne_eqb (cat item) 2 c)
 
 -- what is found decides
-pub by-found : (cat : ℕ → ℕ) (m : ℕ) (st : List ℕ) (item time word : ℕ) (j : Judged)
+pub by-found : (cat : ℕ → ℕ) (m : ℕ) (st : List ℕ) (item time word : ℕ) (j : Result Judged Refusal)
     → j ≡ found cat (ring_size st) m st item word
     → observed_by cat m st item time word
     ≡ found_gives j (observe_by (room_for cat m st) cat m st item time word) st
 unfolding observed_by
 by-found cat m st item time word j e = rw (← e)
-
--- ---- the short way's answer
-
-pub recorded : (r : ℕ) → r ≢ 0 → Recorded r ≡ short_answer r
-recorded zero n = absurd (n refl)
-recorded (suc r) n = refl
-
-pub short-done : {r cat : ℕ} {is : Judged} {x : Observed} {old after : List ℕ} → Shortened r cat is x old after
-    → r ≢ 2 ^ 64 - 1 → {a : ObserveAnswer} → a ≡ short_answer r → (a ≡ x.answer) × (after ≡ x.observations)
-short-done s h e = (e ∙ (s.done h).0, (s.done h).1)

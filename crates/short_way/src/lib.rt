@@ -3,14 +3,12 @@
 
 ghost use Rattle.std.specs.Prelude.{◌≡◌, ◌≤◌, ◌<◌, get_or};
 ghost use Rattle.spec.specs.Value.{repeats};
-ghost use Rattle.spec.specs.Model.{Sizes, max_items, items, category};
+ghost use Rattle.spec.specs.Model.{max_items, items, category};
 ghost use Rattle.history.specs.Observations.{Head, ring_size, latest_at, item_row};
-ghost use Rattle.short_way.specs.Found.{found, observed_by, short_answer, Shortened};
+ghost use Rattle.short_way.specs.Found.{found, observed_by, Shortened};
 
-use spec::ObserveAnswer;
-
-// No answer of the short way: the long one is to be taken.
-pub const LEFT: u64 = 18446744073709551615;
+use model::Words;
+use spec::{Noted, ObserveAnswer};
 
 // Whether a packed word repeats the latest of its item, which is of the category. A discrete item's latest isn't read.
 fn repeats(observations: &[u64], m: u64, category: u64, item: u64, word: u64) -> bool
@@ -27,16 +25,15 @@ fn repeats(observations: &[u64], m: u64, category: u64, item: u64, word: u64) ->
 }
 
 // The short way, which most go: a value of an item without conditions that takes it, whose one latest word decides.
-// The number that it took, or 0 for Same; LEFT, and nothing is changed, where there is more to it.
+// None, and nothing is changed, where there is more to it.
 pub fn observe_short(
-    model: &[u32],
+    model: &Words<'_>,
     observations: &mut [u64],
     cat: u64,
     item: u64,
     time: u64,
     word: u64,
-) -> u64
-    requires sizes { Sizes model.now }
+) -> Option<ObserveAnswer>
     requires head { Head (items model.now) observations.old }
     requires item_bound { (item < items model.now) × (cat ≡ category model.now item) }
     ensures { let st = observations.old in
@@ -46,25 +43,15 @@ pub fn observe_short(
         Shortened result cat is (observed_by of m st item time word) st observations.new }
 {
     if cat == spec::CONDITION {
-        return LEFT;
+        return None;
     }
-    let m = model::items(model);
+    let m = model.items();
     if repeats(observations, m, cat, item, word) {
-        return 0;
+        return Some(Ok(Noted::Same));
     }
     let number = observations::last(observations, m) + 1;
     if plain::add_plain(model, observations, item, time, word) {
-        return number;
+        return Some(Ok(Noted::Recorded(number)));
     }
-    LEFT
-}
-
-// The answer of the short way, where it was open.
-pub fn short_answer(short: u64) -> ObserveAnswer
-    ensures { result ≡ short_answer short }
-{
-    if short == 0 {
-        return ObserveAnswer::Same;
-    }
-    ObserveAnswer::Recorded(short)
+    None
 }

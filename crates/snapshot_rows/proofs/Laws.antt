@@ -1,68 +1,68 @@
 -- The used marks one by one: how many they are, and the rows that they hold.
 use Prim.Native.Nat.{ℕ, zero, suc, ◌+◌, ◌-◌, ◌*◌, ◌≤◌, ◌<◌}
 use mathlib.Core.Path.{◌≡◌, refl, ap, ◌∙◌}
-use mathlib.Core.Bool.{true, false, cond}
+use mathlib.Core.Bool.{Bool, true, false, cond}
 use mathlib.Core.List.{List, [], ◌∷◌, map}
 use native.Mathlib.Numerals.{add-one}
 use native.Mathlib.Omega.{arith}
-use lib.Dec.{eqb}
-use lib.ListN.{length, get_or, drop, length-append, length-map, drop_of_length-le}
-use lib.Seq.{drop-cons}
-use borrow.Author.Tests.{lt-ltb, le-ltb, ne_eqb}
+use lib.Dec.{eqb, ltb}
+use lib.ListN.{length, get_or, take, drop, length-append, length-map, drop_of_length-le}
+use Rattle.std.specs.List.{position, position_or_len}
+use Rattle.std.specs.Option.{unwrap_or}
+use Rattle.std.specs.Prelude.{Option}
+use lib.Seq.{drop-cons, take_all}
+use borrow.Author.Tests.{lt-ltb, le-ltb, ltb-false, eqb-false}
 use Rattle.spec.specs.Words.{bit, row}
 use Rattle.spec.specs.Blocks.{flat_rows}
 use Rattle.history.specs.Observations.{ring_size, base, place, checkpoint_at}
 use Rattle.spec.proofs.Words.{by-test}
 use Rattle.observations.specs.Ring.{ring_time, ring_word}
-use Rattle.marks.specs.Marks.{place_in, eight_at}
-use Rattle.marks.proofs.Laws.{eight-length, eight-at}
+use Rattle.marks.specs.Marks.{place_in}
 use Rattle.rows.proofs.Laws.{numbered_is}
 use Rattle.snapshot_rows.specs.Held.{row_of, used_places, item_places, marked_rows, held_by, held_count}
 
--- ---- one item's, from its mark j on
+-- ---- one item's
 
-abbrev pub places_from : List ℕ → ℕ → ℕ → List ℕ
-places_from l i j = used_places (drop j (eight_at l (8 * i)))
+-- the used marks are those before the first that has no place
+abbrev pub vacant : ℕ → Bool
+vacant x = eqb (place_in x) 0
 
-module _ (l : List ℕ) (i j : ℕ) (h : 8 * i + 8 ≤ length l) where
-  next : j < 8 → used_places (drop j (eight_at l (8 * i)))
-      ≡ cond (eqb (place_in (get_or l (8 * i + j) 0)) 0) []
-      (place_in (get_or l (8 * i + j) 0) ∷ places_from l i (j + 1))
-  unfolding used_places
-  next g =
-      let n : j < length (eight_at l (8 * i)) = omega (arith, eight-length l (8 * i) h) in
-      rw (drop-cons (eight_at l (8 * i)) j 0 n, eight-at l (8 * i) j 0 g, add-one j)
+used_take : (l : List ℕ) → map place_in (take (position_or_len vacant l) l) ≡ used_places l
+unfolding used_places
+used_take [] = refl
+used_take (x ∷ xs) =
+    let q : 1 + position_or_len vacant xs ≡ suc (position_or_len vacant xs) = omega arith in
+    by-test (vacant x) (λ t. rw t) (λ t. rw (t, q) (ap (λ (y : List ℕ). place_in x ∷ y) (used_take xs)))
 
-  module _ {p : ℕ} (g : j < 8) (e : p ≡ place_in (get_or l (8 * i + j) 0)) where
-    pub places-more : (p ≡ 0 → ⊥) → places_from l i j ≡ p ∷ places_from l i (j + 1)
-    places-more n = next g ∙ rw (← e, ne_eqb p 0 n)
+used_each : (l : List ℕ) (k : ℕ) → k < length (take (position_or_len vacant l) l)
+    → 1 ≤ place_in (get_or (take (position_or_len vacant l) l) k 0)
+used_each [] k h = absurd (omega arith)
+used_each (x ∷ xs) zero h =
+    let q : 1 + position_or_len vacant xs ≡ suc (position_or_len vacant xs) = omega arith in
+    by-test (vacant x) (λ t. absurd (let z = rw t at h in omega arith))
+    (λ t. rw (t, q) (let g = eqb-false (place_in x) 0 t in omega arith))
+used_each (x ∷ xs) (suc k) h =
+    let q : 1 + position_or_len vacant xs ≡ suc (position_or_len vacant xs) = omega arith in
+    by-test (vacant x) (λ t. absurd (let z = rw t at h in omega arith))
+    (λ t. rw (t, q) (used_each xs k (let z = rw (t, q) at h in omega arith)))
 
-    pub places-none : p ≡ 0 → places_from l i j ≡ []
-    places-none z = next g ∙ rw (← e, z)
+module _ (l : List ℕ) {r : Option ℕ} {n : ℕ} (er : r ≡ position vacant l) (en : n ≡ unwrap_or r 8) (h : length l ≡ 8)
+  where
+    cut : take n l ≡ take (position_or_len vacant l) l
+    cut =
+        let p = position_or_len vacant l in
+        by-test (ltb p (length l))
+        (λ t. rw (en, er, t))
+        (λ t.
+        let a = take_all 8 l (omega arith) in
+        let b = take_all p l (ltb-false p (length l) t) in
+        rw (en, er, t, a, b))
 
-  pub places-end : 8 ≤ j → places_from l i j ≡ []
-  unfolding used_places
-  places-end g = rw (drop_of_length-le (eight_at l (8 * i)) {i = j} (omega (arith, eight-length l (8 * i) h)))
+    pub used-is : map place_in (take n l) ≡ used_places l
+    used-is = rw cut (used_take l)
 
--- a loop that counts them
-pub record Counted (l : List ℕ) (i j : ℕ) : Type 0 where
-  pub high : j ≤ 8
-  pub rest : length (item_places l i) ≡ j + length (places_from l i j)
-
-pub counted_start : (l : List ℕ) (i : ℕ) → Counted l i 0
-counted_start l i = record { high = omega arith; rest = omega arith }
-
-module _ {l : List ℕ} {i j : ℕ} (v : Counted l i j) (h : 8 * i + 8 ≤ length l) where
-  module _ {p : ℕ} (g : j < 8) (e : p ≡ place_in (get_or l (8 * i + j) 0)) where
-    pub counted-more : (p ≡ 0 → ⊥) → Counted l i (j + 1)
-    counted-more n =
-        record { high = omega arith; rest = omega (arith, v.rest, ap length (places-more l i j h g e n)) }
-
-    pub counted_none : p ≡ 0 → (j ≡ length (item_places l i)) × (j ≤ 8)
-    counted_none z = (omega (arith, v.rest, ap length (places-none l i j h g e z)), v.high)
-
-  pub counted-all : 8 ≤ j → (8 ≡ length (item_places l i)) × (8 ≤ 8)
-  counted-all g = (omega (arith, v.rest, v.high, ap length (places-end l i j h g)), omega arith)
+    pub used-placed : (k : ℕ) → k < length (take n l) → 1 ≤ place_in (get_or (take n l) k 0)
+    used-placed = rw cut (used_each l)
 
 -- ---- all items
 
@@ -105,13 +105,14 @@ module _ {m selection : ℕ} {l : List ℕ} {k i : ℕ} (v : Counting m selectio
     unfolding held_count
     count_next = let q : m - i ≡ suc (m - (i + 1)) = omega arith in rw (q, add-one i)
 
-    pub counting_more : {c : ℕ} → bit selection i ≡ true → (c ≡ length (item_places l i)) × (c ≤ 8)
-        → Counting m selection l (k + c) (i + 1)
-    counting_more b e =
+    pub counting_more : (u : List ℕ) → bit selection i ≡ true → map place_in u ≡ item_places l i → length u ≤ 8
+        → Counting m selection l (k + length u) (i + 1)
+    counting_more u b e g =
         let n : held_count selection l (m - i) i ≡ length (item_places l i) + held_count selection l (m - (i + 1))
         (i + 1) =
         count_next ∙ rw b in
-        record { high = omega arith; few = omega (arith, v.few, e.1); rest = omega (arith, v.rest, n, e.0) }
+        let c : length u ≡ length (item_places l i) = rw (← e, length-map u place_in) in
+        record { high = omega arith; few = omega (arith, v.few); rest = omega (arith, v.rest, n, c) }
 
     pub counting-skip : bit selection i ≡ false → Counting m selection l k (i + 1)
     counting-skip b =
@@ -138,18 +139,15 @@ module _ (m : ℕ) (st : List ℕ) (f i p : ℕ) where
       let g : q ≡ place (ring_size st) (base st) x = rw (hn, hb) at e in
       rw (le-ltb p 9 h, ← ex, hu, hw, hn) (numbered_is st x q g)
 
--- ---- an item's rows from its mark j on
+-- ---- an item's rows, where its used marks are those of u, from the j-th on
 
-abbrev pub rows_from : ℕ → List ℕ → ℕ → List ℕ → ℕ → ℕ → List (List ℕ)
-rows_from m st f l i j = map (row_of m st f i) (places_from l i j)
+abbrev pub rows_from : ℕ → List ℕ → ℕ → ℕ → List ℕ → ℕ → List (List ℕ)
+rows_from m st f i u j = map (row_of m st f i) (map place_in (drop j u))
 
-module _ (m : ℕ) (st : List ℕ) (f : ℕ) (l : List ℕ) (i j : ℕ) (h : 8 * i + 8 ≤ length l) where
-  module _ {p : ℕ} (g : j < 8) (e : p ≡ place_in (get_or l (8 * i + j) 0)) where
-    pub rows_more : (p ≡ 0 → ⊥) → rows_from m st f l i j ≡ row_of m st f i p ∷ rows_from m st f l i (j + 1)
-    rows_more n = ap (map (row_of m st f i)) (places-more l i j h g e n)
+module _ (m : ℕ) (st : List ℕ) (f i : ℕ) (u : List ℕ) (j : ℕ) where
+  pub rows_more : {p : ℕ} → j < length u → p ≡ place_in (get_or u j 0)
+      → rows_from m st f i u j ≡ row_of m st f i p ∷ rows_from m st f i u (j + 1)
+  rows_more h e = rw (drop-cons u j 0 h, e, add-one j)
 
-    pub rows_none : p ≡ 0 → rows_from m st f l i j ≡ []
-    rows_none z = ap (map (row_of m st f i)) (places-none l i j h g e z)
-
-  pub rows_end : 8 ≤ j → rows_from m st f l i j ≡ []
-  rows_end g = ap (map (row_of m st f i)) (places-end l i j h g)
+  pub rows_end : length u ≤ j → rows_from m st f i u j ≡ []
+  rows_end h = rw (drop_of_length-le u {i = j} h)

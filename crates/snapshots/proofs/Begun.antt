@@ -18,10 +18,10 @@ use Rattle.spec.proofs.Words.{by-test, and_left, and_right, every-no, every-yes,
 use Rattle.spec.proofs.Steps.{used-formed}
 use Rattle.marks.specs.Marks.{mark_of, key_of, eight_at}
 use Rattle.marks.proofs.Keys.{key-small, mark-place}
-use Rattle.entries.specs.Forms.{marks_of, filled}
-use Rattle.entries.specs.declared.Filled.TheVariants.{Used}
+use Rattle.marks.proofs.Laws.{eight-back}
+use borrow.Rule.Slice.PartMut.{put_mid}
+use Rattle.entries.specs.Forms.{marks_of}
 use Rattle.entries.proofs.Marks.{length-marks, form-zeros, marks-of}
-use Rattle.entries.proofs.Laws.{filled-used}
 use Rattle.entries.proofs.Filling.{rows-many}
 use Rattle.snapshot_rows.specs.Held.{row_of}
 use Rattle.snapshots.specs.Snapshots.{begun, forms_ok}
@@ -118,12 +118,16 @@ pub table_at : (m : ℕ) (st : List ℕ) {n t : ℕ} → t ≡ checkpoint_at n m
     → t ≡ checkpoint_at (ring_size st) m
 table_at m st e h = e ∙ rw h
 
-pub first-filled : (st : List ℕ) (t m i : ℕ) (l : List ℕ) {n : ℕ} {r : List ℕ} → Used n ≡ filled i (item_rows st t m i)
-    → (form_ok i 0 (item_rows st t m i) ≡ true → r ≡ sets l (8 * i) (marks_of i 1 (item_rows st t m i)))
-    → (true ≡ form_ok i 0 (item_rows st t m i)) × (r ≡ sets l (8 * i) (marks_of i 1 (item_rows st t m i)))
-first-filled st t m i l e g =
-    let f = (filled-used i (item_rows st t m i) e).0 in
-    (sym f, g f)
+-- an item's eight words, lent and filled
+pub first-filled : (st : List ℕ) (t m i : ℕ) (l : List ℕ) {r : List ℕ} → 8 * i + 8 ≤ length l
+    → form_ok i 0 (item_rows st t m i) ≡ true
+    → (form_ok i 0 (item_rows st t m i) ≡ true → r ≡ marks_of i 1 (item_rows st t m i))
+    → put_mid (8 * i) (8 * i + 8 - 8 * i) l r ≡ sets l (8 * i) (marks_of i 1 (item_rows st t m i))
+first-filled st t m i l {r} room f g =
+    let e = g f in
+    let n : length r ≡ 8 =
+    ap length e ∙ length-marks i 1 (item_rows st t m i) ∙ rows-many st t (8 * m) 8 (8 * i) in
+    eight-back (8 * i) l r n room ∙ ap (sets l (8 * i)) e
 
 -- ---- all items
 

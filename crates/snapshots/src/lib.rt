@@ -3,83 +3,81 @@
 // pass's first. A condition item's marks are stepped along the pass; of another the newest place is kept, by item.
 #![tactic(auto)]
 
-ghost use Rattle.std.specs.Prelude.{◌≡◌, true, ◌&&◌, ℕ, ◌+◌, ◌-◌, ◌*◌, ◌^◌, ◌<◌, ◌≤◌, length, get_or, replicate};
+ghost use Rattle.std.specs.Prelude.{◌≡◌, true, is_some, ◌&&◌, ℕ, ◌+◌, ◌-◌, ◌*◌, ◌^◌, ◌<◌, ◌≤◌};
+ghost use Rattle.std.specs.Prelude.{length, get_or, replicate};
 ghost use Rattle.std.proofs.lemmas.List.Edits.{sets};
-ghost use Rattle.spec.specs.Model.{Sizes, max_items, items, category};
+ghost use Rattle.spec.specs.Model.{max_items, items, category};
 ghost use Rattle.spec.specs.Entries.{form_ok};
-ghost use Rattle.history.specs.Observations.{Head, ring_size, base, checkpoint_at, item_rows, item_row};
+ghost use Rattle.history.specs.Observations.{ring_size, item_count, base, checkpoint_at, item_rows, item_row};
 ghost use Rattle.history.specs.Observations.{ring_ok, at_ok, at_rows};
 ghost use Rattle.marks.specs.Marks.{eight_at};
 ghost use Rattle.entries.specs.Forms.{marks_of};
 ghost use Rattle.snapshot_rows.specs.Held.{held_by};
 ghost use Rattle.snapshots.specs.Snapshots.{steps_of, begun, forms_ok, plain_place, settled};
 
-use entries::Filled;
+use model::Words;
+use observations::Store;
 
 // The selected condition items.
-fn steps_of(model: &[u32], selection: u64) -> u64
-    requires { Sizes model.now }
+fn steps_of(model: &Words<'_>, selection: u64) -> u64
     ensures { result ≡ steps_of (category model.now) selection (items model.now) }
 {
-    let m = model::items(model);
     let mut set: u64 = 0;
-    let mut i: u64 = 0;
-    while i < m {
-        let steps = selection::has(selection, i) && model::category(model, i) == spec::CONDITION;
+    for i in 0..model.items() {
+        let steps = selection::has(selection, i) && model.category(i) == spec::CONDITION;
         set = selection::with_if(steps, set, i);
-        i += 1;
     }
     set
 }
 
-// The marks of condition item i's checkpoint to its eight words, which are 0; false where it isn't in its written form.
-fn begin_item(st: &[u64], m: u64, t: u64, i: u64, marks: &mut [u64]) -> bool
-    requires head { Head m st.now }
-    requires m_le_max_items { (m ≤ max_items) × ((i < m) × (t ≡ checkpoint_at (ring_size st.now) m)) }
+// The marks of condition item i's checkpoint to its eight words, which are 0; None where it isn't in its written form.
+fn begin_item(st: &Store<'_>, i: u64, marks: &mut [u64]) -> Option<()>
+    requires i_lt_items { i < item_count st.now }
     requires marks_len { (length marks.old ≡ 8 * max_items) × (eight_at marks.old (8 * i) ≡ replicate 8 0) }
-    ensures value { result ≡ form_ok i 0 (item_rows st.now t m i) }
-    ensures marks_after { result ≡ true →
-        marks.new ≡ sets marks.old (8 * i) (marks_of i 1 (item_rows st.now t m i)) }
+    ensures value { let t = checkpoint_at (ring_size st.now) (item_count st.now) in
+        is_some result ≡ form_ok i 0 (item_rows st.now t (item_count st.now) i) }
+    ensures marks_after { let t = checkpoint_at (ring_size st.now) (item_count st.now) in
+        is_some result ≡ true →
+        marks.new ≡ sets marks.old (8 * i) (marks_of i 1 (item_rows st.now t (item_count st.now) i)) }
 {
-    let w = spec::ENTRIES * m;
+    let words = st.slice();
+    let w = spec::ENTRIES * st.items();
+    let t = st.checkpoint_at();
     let x = spec::ENTRIES * i;
-    let Filled::Used(_) = entries::fill(st, w, t, x, i, marks, x as usize) else {
-        return false;
+    let at = x as usize;
+    let eight = &mut marks[at..at + spec::ENTRY_SLOTS];
+    let Some(_) = entries::fill(words, w, t, x, i, eight) else {
+        return None;
     };
-    true
+    Some(())
 }
 
-// The marks of the condition items' checkpoints; false where one isn't in its written form.
-fn begin(st: &[u64], m: u64, steps: u64, marks: &mut [u64]) -> bool
-    requires head { Head m st.now }
-    requires m_le_max_items { m ≤ max_items }
+// The marks of the condition items' checkpoints; None where one isn't in its written form.
+fn begin(st: &Store<'_>, steps: u64, marks: &mut [u64]) -> Option<()>
     requires marks_value { marks.old ≡ replicate (8 * max_items) 0 }
-    ensures value { result ≡ forms_ok steps m st.now }
-    ensures marks_after { result ≡ true → marks.new ≡ begun steps m st.now m 0 marks.old }
+    ensures value { is_some result ≡ forms_ok steps (item_count st.now) st.now }
+    ensures marks_after { is_some result ≡ true →
+        marks.new ≡ begun steps (item_count st.now) st.now (item_count st.now) 0 marks.old }
 {
-    let t = observations::checkpoint_at(observations::ring_size(st, m), m);
-    let mut i: u64 = 0;
-    while i < m {
+    for i in 0..st.items() {
         if selection::has(steps, i) {
-            if !begin_item(st, m, t, i, marks) {
-                return false;
-            }
+            begin_item(st, i, marks)?;
         }
-        i += 1;
     }
-    true
+    Some(())
 }
 
-// The place of item i, which is not in `steps`: of its newest number, or of its checkpoint's first entry; 0 for none.
-fn plain_place(st: &[u64], m: u64, t: u64, i: u64, seen: u64) -> u64
-    requires head { Head m st.now }
-    requires m_le_max_items { (m ≤ max_items) × ((i < m) × (t ≡ checkpoint_at (ring_size st.now) m)) }
-    ensures { (result ≡ plain_place (item_row st.now t m i) seen) × (result ≤ seen + 1) }
+// The place of item i, which is not in `steps`: of its newest number, or of its checkpoint's first entry; 0 for none,
+// as an unused mark has it.
+fn plain_place(st: &Store<'_>, i: u64, seen: u64) -> u64
+    requires i_bound { (i < item_count st.now) × (i < max_items) }
+    ensures { let t = checkpoint_at (ring_size st.now) (item_count st.now) in
+        (result ≡ plain_place (item_row st.now t (item_count st.now) i) seen) × (result ≤ seen + 1) }
 {
     if seen != 0 {
         return seen;
     }
-    let row = observations::row_at(st, spec::ENTRIES * m, t, spec::ENTRIES * i);
+    let row = st.checkpoint_row(spec::ENTRIES * i);
     if row.number == 0 {
         return 0;
     }
@@ -87,52 +85,52 @@ fn plain_place(st: &[u64], m: u64, t: u64, i: u64, seen: u64) -> u64
 }
 
 // The marks of the selected items that are not in `steps`, by their newest places.
-fn settle(st: &[u64], m: u64, selection: u64, steps: u64, seen: &[u64], marks: &mut [u64])
-    requires head { Head m st.now }
-    requires m_le_max_items { (m ≤ max_items) × ((length seen.now ≡ max_items) × (length marks.old ≡ 8 * max_items)) }
+fn settle(st: &Store<'_>, selection: u64, steps: u64, seen: &[u64], marks: &mut [u64])
+    requires lens { (length seen.now ≡ max_items) × (length marks.old ≡ 8 * max_items) }
     requires by_index { (i : ℕ) → get_or seen.now i 0 + 1 < 2 ^ 31 }
     ensures { marks.new
-        ≡ settled selection steps m st.now seen.now m 0 marks.old }
+        ≡ settled selection steps (item_count st.now) st.now seen.now (item_count st.now) 0 marks.old }
 {
-    let t = observations::checkpoint_at(observations::ring_size(st, m), m);
-    let mut i: u64 = 0;
-    while i < m {
+    for i in 0..st.items() {
         if selection::has(selection, i) && !selection::has(steps, i) {
-            let place = plain_place(st, m, t, i, seen[i as usize]);
+            let place = plain_place(st, i, seen[i as usize]);
             marks[(spec::ENTRIES * i) as usize] = marks::mark_of(place, 0);
         }
-        i += 1;
     }
 }
 
-// Whether the numbers from f up to e, at most a ring of them, have items of the model, the selected condition items'
-// checkpoints are in their written form, and none comes to nine entries; if so, the marks, 0 before, hold the rows.
-pub fn hold(model: &[u32], st: &[u64], selection: u64, f: u64, e: u64, marks: &mut [u64]) -> bool
-    requires sizes { Sizes model.now }
-    requires head { Head (items model.now) st.now }
+// The rows behind the numbers from f up to e, at most a ring of them, to the marks, which are 0. None where a number
+// has no item of the model, a selected condition item's checkpoint isn't in its written form, or one comes to nine
+// entries.
+pub fn hold(
+    model: &Words<'_>,
+    st: &Store<'_>,
+    selection: u64,
+    f: u64,
+    e: u64,
+    marks: &mut [u64],
+) -> Option<()>
+    requires agree { item_count st.now ≡ items model.now }
     requires st_bound { (base st.now ≤ f) × ((f ≤ e) × (e - f ≤ ring_size st.now)) }
     requires marks_value { marks.old ≡ replicate (8 * max_items) 0 }
     ensures result_value { let st = st.entry.now in
         let m = items model.now in
         let cat = category model.now in
-        result
+        is_some result
         ≡ (ring_ok (ring_size st) m (base st) st (e - f) f
         && at_ok cat (ring_size st) m (base st) st selection (e - f) f) }
-    ensures fact { result ≡ true →
+    ensures fact { is_some result ≡ true →
         let st = st.entry.now in
         let m = items model.now in
         let cat = category model.now in
         held_by m st f marks.new selection ≡ at_rows cat (ring_size st) m (base st) st selection (e - f) f }
 {
+    // behind it the head is known
+    let _ = st.slice();
     let mut seen = [0u64; spec::ITEM_SLOTS];
-    let m = model::items(model);
     let steps = steps_of(model, selection);
-    if !begin(st, m, steps, marks) {
-        return false;
-    }
-    if !passes::pass(st, m, steps, f, e, &mut seen, marks) {
-        return false;
-    }
-    settle(st, m, selection, steps, &seen, marks);
-    true
+    begin(st, steps, marks)?;
+    passes::pass(st, steps, f, e, &mut seen, marks)?;
+    settle(st, selection, steps, &seen, marks);
+    Some(())
 }

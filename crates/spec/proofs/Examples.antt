@@ -6,7 +6,6 @@ use Prim.Native.Nat.{ℕ, zero, suc, ◌+◌, ◌*◌}
 use mathlib.Core.Path.{◌≡◌, refl}
 use mathlib.Core.Bool.{Bool, true, false}
 use mathlib.Core.List.{List, [], ◌∷◌, ◌++◌, map}
-use mathlib.Core.Option.{none, some}
 use lib.IntN.{pos, negsuc}
 use lib.ListN.{length, replicate}
 use Rattle.spec.specs.Bytes.{bytes, pad}
@@ -24,13 +23,11 @@ use Rattle.spec.specs.Answers.{refusal_number, observe_word, store_word}
 use Rattle.spec.specs.declared.Level.TheVariants.{Normal, Warning, Fault}
 use Rattle.spec.specs.declared.Value.{Value}
 use Rattle.spec.specs.declared.Value.TheVariants.{Unavailable, Sample, Event, Condition}
-use Rattle.spec.specs.declared.Selection.{Selection}
-use Rattle.spec.specs.declared.Selection.TheVariants.{Items, NotFound}
+use Rattle.std.specs.Prelude.{Ok, Err, Option, Some, None}
+use Rattle.spec.specs.declared.Noted.TheVariants.{Recorded, Same}
 use Rattle.spec.specs.declared.Refusal.TheVariants.{Model, Store, Size, Item, Kind, Spent, InvalidUri}
 use Rattle.spec.specs.declared.Refusal.TheVariants.{InvalidRequest, Unsupported, TooMany, InvalidXpath}
 use Rattle.spec.specs.declared.Refusal.TheVariants.{AssetNotFound, Asset, Space, Batch, Late, Early, Crowded}
-use Rattle.spec.specs.declared.ObserveAnswer.TheVariants.{Recorded, Same, Refused as Unrecorded}
-use Rattle.spec.specs.declared.StoreAnswer.TheVariants.{Stored, Refused as Unstored}
 use Rattle.spec.proofs.Opened.{opened}
 
 -- names, a cell each
@@ -66,8 +63,8 @@ refusal-numbers = refl
 
 -- answers as words: number, Same, spent; cell, asset
 pub answer-words :
-    (observe_word (Recorded 3) ∷ observe_word Same ∷ observe_word (Unrecorded Spent)
-    ∷ store_word (Stored 2) ∷ store_word (Unstored Asset) ∷ [])
+    (observe_word (Ok (Recorded 3)) ∷ observe_word (Ok Same) ∷ observe_word (Err Spent)
+    ∷ store_word (Ok 2) ∷ store_word (Err Asset) ∷ [])
     ≡ 3 ∷ 0 ∷ 9223372036854775814 ∷ 2 ∷ 9223372036854775822 ∷ []
 answer-words = refl
 
@@ -180,24 +177,24 @@ names-counted = (λ names h. rw h, λ names h. rw h)
 -- ---- paths
 
 -- each of the paths is answered so
-abbrev Selects : Selection → List (List ℕ) → Type 0
-Selects s ps = map (λ p. select tree tree_names (some p)) ps ≡ replicate (length ps) s
+abbrev Selects : Option ℕ → List (List ℕ) → Type 0
+Selects s ps = map (λ p. select tree tree_names (Some p)) ps ≡ replicate (length ps) s
 
 -- no path; //T of the root, of a part, of a leaf, of a component without items; items of a type; no component's type
 -- or no item of that type; other forms
 pub paths-select :
-    (select tree tree_names none ≡ Items 15)
-    × Selects (Items 15) (bytes "//Device" ∷ [])
-    × Selects (Items 14) (bytes "//Axes" ∷ [])
-    × Selects (Items 10) (bytes "//Linear" ∷ [])
-    × Selects (Items 0) (bytes "//Controller" ∷ [])
-    × Selects (Items 6) (bytes "//Axes//DataItem[@type=\"POSITION\"]" ∷ [])
-    × Selects (Items 8) (bytes "//Linear//DataItem[@type=\"LOAD\"]" ∷ [])
-    × Selects NotFound
+    (select tree tree_names None ≡ Some 15)
+    × Selects (Some 15) (bytes "//Device" ∷ [])
+    × Selects (Some 14) (bytes "//Axes" ∷ [])
+    × Selects (Some 10) (bytes "//Linear" ∷ [])
+    × Selects (Some 0) (bytes "//Controller" ∷ [])
+    × Selects (Some 6) (bytes "//Axes//DataItem[@type=\"POSITION\"]" ∷ [])
+    × Selects (Some 8) (bytes "//Linear//DataItem[@type=\"LOAD\"]" ∷ [])
+    × Selects None
     (bytes "//Linear//DataItem[@type=\"AVAILABILITY\"]"
     ∷ bytes "//Spindle//DataItem[@type=\"LOAD\"]"
     ∷ bytes "//axes" ∷ bytes "//Axe" ∷ bytes "//Axess" ∷ bytes "//LOAD" ∷ [])
-    × Selects NotFound
+    × Selects None
     ([] ∷ bytes "//" ∷ bytes "/Axes" ∷ bytes "///Axes" ∷ bytes "//Axes/" ∷ bytes "//Device//Axes"
     ∷ bytes "//DataItem[@type=\"LOAD\"]" ∷ bytes "////DataItem[@type=\"LOAD\"]"
     ∷ bytes "//Axes//DataItem[@type=\"LOAD\"" ∷ bytes "//Axes//DataItem[@type=\"]"
@@ -208,8 +205,8 @@ paths-select = (refl, refl, refl, refl, refl, refl, refl, refl, refl)
 
 -- a name that fills its cell is found by its 24 bytes, and not by 23 or 25
 pub full-name :
-    map (λ n. select (1 ∷ 1 ∷ 0 ∷ 0 ∷ []) (replicate 24 65) (some (47 ∷ 47 ∷ replicate n 65))) (23 ∷ 24 ∷ 25 ∷ [])
-    ≡ NotFound ∷ Items 1 ∷ NotFound ∷ []
+    map (λ n. select (1 ∷ 1 ∷ 0 ∷ 0 ∷ []) (replicate 24 65) (Some (47 ∷ 47 ∷ replicate n 65))) (23 ∷ 24 ∷ 25 ∷ [])
+    ≡ None ∷ Some 1 ∷ None ∷ []
 unfolding opened
 full-name = refl
 
@@ -223,8 +220,8 @@ chain (suc (suc n)) i = (i * 256) ∷ chain (suc n) (suc i)
 pub largest-selected :
     map (select (64 ∷ 64 ∷ 0 ∷ (chain 63 0 ++ (replicate 63 0 ++ (16128 ∷ []))))
     (cells_of (bytes "A" ∷ bytes "B" ∷ [])))
-    (none ∷ some (bytes "//A") ∷ some (bytes "//B") ∷ [])
-    ≡ Items 18446744073709551615 ∷ Items 18446744073709551615 ∷ Items 9223372036854775808 ∷ []
+    (None ∷ Some (bytes "//A") ∷ Some (bytes "//B") ∷ [])
+    ≡ Some 18446744073709551615 ∷ Some 18446744073709551615 ∷ Some 9223372036854775808 ∷ []
 unfolding opened
 largest-selected = refl
 
@@ -273,8 +270,8 @@ pub texts-asked :
     map read_text
     (bytes "/sample" ∷ bytes "/sample?count=9&path=//A&from=7" ∷ bytes "/current" ∷ bytes "/current?path=x=y"
     ∷ bytes "/current?at=8&path=z" ∷ bytes "/asset/a;bc;a" ∷ bytes "/assets" ∷ [])
-    ≡ asked (sample none 0 0) ∷ asked (sample (some (bytes "//A")) 7 9) ∷ asked (current none)
-    ∷ asked (current (some (bytes "x=y"))) ∷ asked (current_at (some (bytes "z")) 8)
+    ≡ asked (sample None 0 0) ∷ asked (sample (Some (bytes "//A")) 7 9) ∷ asked (current None)
+    ∷ asked (current (Some (bytes "x=y"))) ∷ asked (current_at (Some (bytes "z")) 8)
     ∷ asked (assets (bytes "a" ∷ bytes "bc" ∷ bytes "a" ∷ [])) ∷ asked all_assets ∷ []
 unfolding opened
 texts-asked = refl

@@ -1,5 +1,6 @@
 -- What is proved of the terms, whatever calls there are.
 pub mod Words
+pub mod Found
 pub mod Tables
 pub mod Blocks
 pub mod Bits

@@ -65,6 +65,14 @@ pub enum Value {
     Condition(Level, u32),
 }
 
+// An observation's number, time and packed word.
+#[derive(Clone, Copy)]
+pub struct Row {
+    pub number: u64,
+    pub time: u64,
+    pub packed: u64,
+}
+
 // A record of a batch: an item, a time and a value's word, laid out as C has it.
 #[repr(C)]
 #[derive(Clone, Copy)]
@@ -74,71 +82,47 @@ pub struct Record {
     pub value: u64,
 }
 
-// The refusals, in the order of their numbers: 1 to 21, of which 12 is none's.
-#[derive(Clone, Copy)]
+// The refusals, each with its number: 12 is none's.
+#[derive(Clone, Copy, PartialEq, Eq, Debug)]
 pub enum Refusal {
-    Model,
-    Store,
-    Size,
-    Item,
-    Kind,
-    Spent,
-    InvalidUri,
-    InvalidRequest,
-    Unsupported,
-    TooMany,
-    InvalidXpath,
-    AssetNotFound,
-    Asset,
-    Space,
-    Batch,
-    Late,
-    Early,
-    Crowded,
-    Line,
-    Stamp,
+    Model = 1,
+    Store = 2,
+    Size = 3,
+    Item = 4,
+    Kind = 5,
+    Spent = 6,
+    InvalidUri = 7,
+    InvalidRequest = 8,
+    Unsupported = 9,
+    TooMany = 10,
+    InvalidXpath = 11,
+    AssetNotFound = 13,
+    Asset = 14,
+    Space = 15,
+    Batch = 16,
+    Late = 17,
+    Early = 18,
+    Crowded = 19,
+    Line = 20,
+    Stamp = 21,
 }
 
-// The answer of start, request and observe_batch: how many rows the reply has or records were observed, or the
-// refusal.
-#[derive(Clone, Copy)]
-pub enum Answer {
-    Done(u64),
-    Refused(Refusal),
-}
+// The answer of start, request and observe_batch: how many rows the reply has or records were observed; that of
+// store_asset: the cell that now holds the asset; that of the calls that write text: how many bytes.
+pub type Answer = Result<u64, Refusal>;
 
-// The answer of observe: the observation's number, Same where nothing was added, or the refusal.
-#[derive(Clone, Copy)]
-pub enum ObserveAnswer {
+// What observe has done: the observation has a number, or it says nothing new and isn't added.
+#[derive(Clone, Copy, PartialEq, Eq, Debug)]
+pub enum Noted {
     Recorded(u64),
     Same,
-    Refused(Refusal),
 }
 
-// The answer of store_asset: the cell that now holds the asset, or the refusal.
-#[derive(Clone, Copy)]
-pub enum StoreAnswer {
-    Stored(u64),
-    Refused(Refusal),
-}
+pub type ObserveAnswer = Result<Noted, Refusal>;
 
-// What a check gives: nothing against it, or the refusal.
-#[derive(Clone, Copy)]
-pub enum Verdict {
-    Fine,
-    Refused(Refusal),
-}
-
-// What a path selects: a set of items, one bit each, or none where the path is refused.
-#[derive(Clone, Copy)]
-pub enum Selection {
-    Items(u64),
-    NotFound,
-}
-
-// A part of the asset store, by its start and its length.
-#[derive(Clone, Copy)]
-pub enum Place {
-    At(usize, usize),
-    Nothing,
+// A part of a store's bytes.
+#[derive(Clone, Copy, PartialEq, Eq, Debug)]
+pub struct Span {
+    pub start: usize,
+    pub len: usize,
 }

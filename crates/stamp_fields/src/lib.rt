@@ -1,96 +1,59 @@
 // The form of a stamp's 24 bytes, and the date that stands in them.
 #![tactic(auto)]
 
-ghost use Rattle.std.specs.Prelude.{cond, ◌≡◌, ◌+◌, ◌-◌, ◌≤◌, eqb, length};
-ghost use Rattle.spec.specs.Bytes.{digit};
-ghost use Rattle.lines.specs.Stamps.{formed, stamp_form, field, date_in};
+ghost use Rattle.std.specs.Prelude.{cond, ◌≡◌, ◌≤◌, eqb, length};
+ghost use Rattle.std.specs.List.{list_all, zip};
+ghost use Rattle.spec.specs.Bytes.{digit, value_from};
+ghost use Rattle.lines.specs.Stamps.{formed, stamp_form, date_in};
 
 use lines::Date;
-use scan::is_digit;
 
-// Whether a byte is as the form's has it: any digit for 'd'.
-fn fits(f: u8, x: u8) -> bool
-    ensures { result ≡ cond (eqb f 100) (digit x) (eqb x f) }
-{
-    if f == 100 {
-        return is_digit(x);
-    }
-    x == f
-}
-
-// Whether the bytes are as the form has them.
+// Whether the bytes are as the form has them, any digit for 'd'.
+#[tactic(auto, unfolding(spec::specs::Bytes::digit))]
 fn has_form(form: &[u8], s: &[u8]) -> bool
-    ensures { result ≡ formed form.now s.now }
+    ensures { result ≡ list_all (λ p. cond (eqb p.0 100) (digit p.1) (eqb p.1 p.0)) (zip form.now s.now) }
 {
-    if form.len() != s.len() {
-        return false;
-    }
-    let mut i = 0;
-    while i < form.len() {
-        if !fits(form[i], s[i]) {
-            return false;
-        }
-        i += 1;
-    }
-    true
+    form.iter().zip(s).all(|(f, x)| if *f == b'd' {
+        x.is_ascii_digit()
+    } else {
+        x == f
+    })
 }
 
 // Whether the bytes have the form of a stamp.
+#[tactic(auto, using(crate::proofs::Laws::formed_zip, crate::proofs::Laws::formed_length))]
 pub fn stamp_formed(s: &[u8]) -> bool
     ensures { result ≡ formed stamp_form s.now }
 {
-    has_form(b"dddd-dd-ddTdd:dd:dd.dddZ", s)
+    let form = b"dddd-dd-ddTdd:dd:dd.dddZ";
+    s.len() == form.len() && has_form(form, s)
 }
 
-// The number of a digit.
-fn figure(x: u8) -> u64
-    ensures value { result ≡ x - 48 }
-    ensures upper_bound { result ≤ 255 }
+// The number that up to four digits spell.
+fn number(s: &[u8]) -> u64
+    requires { length s.now ≤ 4 }
+    ensures { result ≡ value_from 0 s.now }
 {
-    if x < 48 {
-        return 0;
+    let mut n = 0;
+    for x in s {
+        n = n * 10 + u64::from(x.saturating_sub(b'0'));
     }
-    (x - 48) as u64
-}
-
-// The number that two bytes spell.
-fn two(s: &[u8], at: usize) -> u64
-    requires { at + 2 ≤ length s.now }
-    ensures value { result ≡ field s.now at 2 }
-    ensures upper_bound { result ≤ 3000 }
-{
-    figure(s[at]) * 10 + figure(s[at + 1])
-}
-
-// The number that three bytes spell.
-fn three(s: &[u8], at: usize) -> u64
-    requires { at + 3 ≤ length s.now }
-    ensures value { result ≡ field s.now at 3 }
-    ensures upper_bound { result ≤ 40000 }
-{
-    two(s, at) * 10 + figure(s[at + 2])
-}
-
-// The number that four bytes spell.
-fn four(s: &[u8], at: usize) -> u64
-    requires { at + 4 ≤ length s.now }
-    ensures { result ≡ field s.now at 4 }
-{
-    three(s, at) * 10 + figure(s[at + 3])
+    n
 }
 
 // The date of the 24 bytes.
+#[tactic(auto, unfolding(lines::specs::Stamps::date_in))]
 pub fn date_in(s: &[u8]) -> Date
     requires { length s.now ≡ 24 }
     ensures { result ≡ date_in s.now }
 {
     Date {
-        year: four(s, 0),
-        month: two(s, 5),
-        day: two(s, 8),
-        hour: two(s, 11),
-        minute: two(s, 14),
-        second: two(s, 17),
-        milli: three(s, 20),
+        year: number(&s[..4]),
+        month: number(&s[5..7]),
+        day: number(&s[8..10]),
+        hour: number(&s[11..13]),
+        minute: number(&s[14..16]),
+        second: number(&s[17..19]),
+        milli: number(&s[20..23]),
     }
 }

@@ -2,11 +2,12 @@
 #![tactic(auto)]
 
 ghost use Rattle.std.specs.Prelude.{◌≡◌, ◌≤◌, length};
-ghost use Rattle.spec.specs.Model.{Sizes, max_items, items, category};
+ghost use Rattle.spec.specs.Model.{max_items, items, category};
 ghost use Rattle.history.specs.Observations.{store_words, start_store};
 ghost use Rattle.history.specs.Calls.{start_ok, start_both};
 ghost use Rattle.starting.specs.Start.{Starting};
 
+use model::Words;
 use spec::{Answer, MAX_ASSETS, MAX_NUMBER, MAX_RING, Refusal, Value};
 
 // Whether the sizes, the first number and the stores' lengths are ones that start takes.
@@ -41,21 +42,18 @@ fn start_ok(m: u64, n: u64, a: u64, b: u64, words: u64, size: u64) -> bool
 
 // The store that start makes, whatever stood there: each item in turn Unavailable, the first with number b. It is its
 // item's first, so one row takes it. The place is counted: a division for each item would cost more than all else.
-fn start_store(model: &[u32], st: &mut [u64], n: u64, b: u64, host: u64)
-    requires sizes { Sizes model.now }
+fn start_store(model: &Words<'_>, st: &mut [u64], n: u64, b: u64, host: u64)
     requires starting { Starting n (items model.now) b }
     requires st_len { length st.old ≡ store_words n (items model.now) }
     ensures { st.new ≡ start_store (category model.now) n (items model.now) b host }
 {
-    let m = model::items(model);
+    let m = model.items();
     observations::make_blank(st, n, m, b);
-    let mut item: u64 = 0;
     let mut p: u64 = 0;
-    while item < m {
+    for item in 0..m {
         let word = value::pack(item, Value::Unavailable);
         evicting::evict(model, st, n, b, b + item, p);
         plain::put_number(st, n, m, p, item, b + item, host, word);
-        item += 1;
         p += 1;
         if p == n {
             p = 0;
@@ -65,7 +63,7 @@ fn start_store(model: &[u32], st: &mut [u64], n: u64, b: u64, host: u64)
 
 // Both stores anew: one Unavailable for each item from number b on, at the host's time, and no asset.
 pub fn start_both(
-    model: &[u32],
+    model: &Words<'_>,
     observations: &mut [u64],
     assets: &mut [u8],
     n: u64,
@@ -73,17 +71,16 @@ pub fn start_both(
     b: u64,
     host: u64,
 ) -> Answer
-    requires { Sizes model.now }
     ensures { let m = items model.now in
         let cat = category model.now in
         let x = start_both cat m observations.old assets.old n a b host in
         (result ≡ x.answer) × (observations.new ≡ x.observations) × (assets.new ≡ x.assets) }
 {
-    let m = model::items(model);
+    let m = model.items();
     if !start_ok(m, n, a, b, observations.len() as u64, assets.len() as u64) {
-        return Answer::Refused(Refusal::Size);
+        return Err(Refusal::Size);
     }
     start_store(model, observations, n, b, host);
     assets::start(assets, a);
-    Answer::Done(0)
+    Ok(0)
 }

@@ -38,7 +38,7 @@ takes-broken own rs word f = rw f
 
 -- the change that the marks give is Full, or not
 pub takes-by : {own : ℕ} {rs : List (List ℕ)} {marks : List ℕ} {n : ℕ} → FilledBy own rs marks n → (word : ℕ)
-    → {h : Change} → h ≡ change_for own (eight_at marks 0) word → {full : Bool} → is_full h ≡ full
+    → {h : Change} → h ≡ change_for own marks word → {full : Bool} → is_full h ≡ full
     → not full ≡ takes_one own rs word
 unfolding takes_one
 takes-by {own} {rs} {marks} by word e f =
@@ -46,7 +46,7 @@ takes-by {own} {rs} {marks} by word e f =
     rw (
       ← f,
       e,
-      change-full own (used_rows rs) (eight_at marks 0) r (by-formed by) (by-marked by) (by-eight by),
+      change-full own (used_rows rs) marks r (by-formed by) (by-marked by) (by-eight by),
       by.form,
     )
     (not-not (leb (length (step own (used_rows rs) r)) 8))

@@ -9,7 +9,7 @@ ghost use Rattle.entries.specs.Forms.{Table};
 ghost use Rattle.stepping.specs.Taking.{takes_one};
 
 use changes::Change;
-use entries::Filled;
+use spec::ENTRY_SLOTS;
 
 // Whether item own's eight entries have their written form and take one more observation without a ninth.
 pub fn takes_one(st: &[u64], w: u64, t: u64, k: u64, own: u64, word: u64) -> bool
@@ -17,14 +17,11 @@ pub fn takes_one(st: &[u64], w: u64, t: u64, k: u64, own: u64, word: u64) -> boo
     requires own_bound { own < 2 ^ 24 }
     ensures { result ≡ takes_one own (table_rows st.now t w 8 k) word }
 {
-    let mut marks = [0u64; spec::ENTRY_SLOTS];
-    let Filled::Used(_) = entries::fill(st, w, t, k, own, &mut marks, 0) else {
+    let mut marks = [0u64; ENTRY_SLOTS];
+    if entries::fill(st, w, t, k, own, &mut marks).is_none() {
         return false;
-    };
-    match changes::change_for(&marks, 0, own, word) {
-        Change::Full => false,
-        _ => true,
     }
+    !matches!(changes::change_for(&marks, own, word), Change::Full)
 }
 
 // The step of item own's eight entries by an observation, in place.
@@ -34,11 +31,13 @@ pub fn step(st: &mut [u64], w: u64, t: u64, k: u64, own: u64, number: u64, time:
     ensures { let es = used_rows (table_rows st.old t w 8 k) in
         st.new ≡ put_rows st.old t w k (padded 8 (step own es (number ∷ time ∷ word ∷ []))) }
 {
-    let mut marks = [0u64; spec::ENTRY_SLOTS];
-    entries::fill(st, w, t, k, own, &mut marks, 0);
-    let change = changes::change_for(&marks, 0, own, word);
-    let at = (t + k) as usize;
-    eights::apply(st, at, change, number);
-    eights::apply(st, at + (w as usize), change, time);
-    eights::apply(st, at + (w as usize) + (w as usize), change, word);
+    let mut marks = [0u64; ENTRY_SLOTS];
+    entries::fill(st, w, t, k, own, &mut marks);
+    let change = changes::change_for(&marks, own, word);
+    let numbers = (t + k) as usize;
+    let times = numbers + (w as usize);
+    let words = times + (w as usize);
+    eights::apply(&mut st[numbers..numbers + ENTRY_SLOTS], change, number);
+    eights::apply(&mut st[times..times + ENTRY_SLOTS], change, time);
+    eights::apply(&mut st[words..words + ENTRY_SLOTS], change, word);
 }

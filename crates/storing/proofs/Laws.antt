@@ -1,17 +1,20 @@
 -- The asset change item, its event, and the cell that the event names.
-use Prim.Native.Nat.{ℕ, ◌≤◌, ◌<◌}
+use Prim.Native.Nat.{ℕ, ◌<◌}
 use mathlib.Core.Path.{◌≡◌}
 use mathlib.Core.Bool.{true, false}
 use mathlib.Core.List.{List}
 use native.Mathlib.Omega.{arith}
 use borrow.Author.Tests.{eqb-true, lt-ltb, le-ltb}
 use Rattle.spec.specs.Model.{items, category, asset_change, is_change, change_item, has_change}
+use Rattle.spec.specs.Found.{found_below}
 use Rattle.spec.specs.Value.{pack}
+use Rattle.std.specs.Prelude.{Some, None}
 use Rattle.spec.specs.Assets.{AssetHead, max_assets, capacity, used, find, out_for, cell_for}
 use Rattle.history.specs.Observations.{latest_ok}
 use Rattle.history.specs.Calls.{added}
 use Rattle.spec.specs.declared.Value.TheVariants.{Event}
 use Rattle.spec.proofs.Words.{first_holds}
+use Rattle.spec.proofs.Found.{found-is, found-not}
 use Rattle.spec.proofs.Assets.{given-up-room, given-up-max, used-after-max}
 
 -- the cell of an asset is below the largest capacity
@@ -23,12 +26,14 @@ cell_below id bs h =
     let u = used-after-max (capacity bs) (used bs) (out_for id bs) r k h.u_max in
     omega arith
 
-module _ (model : List ℕ) (m i : ℕ) (em : m ≡ items model) (ei : i ≡ change_item model) where
-  pub no_change : m ≤ i → has_change model ≡ false
-  no_change h = rw (← em, ← ei) (le-ltb _ _ h)
+module _ (model : List ℕ) where
+  pub no_change : None ≡ found_below (items model) (change_item model) → has_change model ≡ false
+  no_change e = le-ltb _ _ (found-not (items model) e)
 
-  pub change : i < m → has_change model ≡ true
-  change h = rw (← em, ← ei) (lt-ltb _ _ h)
+  -- the item that was found is the asset change item, and one of the model's
+  pub change : {i : ℕ} → Some i ≡ found_below (items model) (change_item model)
+      → (has_change model ≡ true) × ((i ≡ change_item model) × (i < items model))
+  change e = let f = found-is (items model) e in (lt-ltb _ _ f.1, (f.0, rw f.0 f.1))
 
 -- the item that is found is of its category, and so no condition item, whose latest would have a form
 pub change-latest : (model st : List ℕ) (n i : ℕ) → i ≡ change_item model → i < items model

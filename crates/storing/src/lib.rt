@@ -3,56 +3,51 @@
 #![tactic(auto)]
 
 ghost use Rattle.std.specs.Prelude.{◌≡◌, true, ◌<◌};
-ghost use Rattle.spec.specs.Model.{Sizes, items, category, change_item};
+ghost use Rattle.spec.specs.Model.{max_items, items, category, change_item};
 ghost use Rattle.history.specs.Observations.{Head};
 ghost use Rattle.spec.specs.Assets.{AssetHead, asset_ok};
 ghost use Rattle.history.specs.Calls.{room_for, keep_by, keep_asset};
 
-use spec::{Refusal, StoreAnswer, Value, Verdict};
+use model::Words;
+use spec::{Answer, Refusal, Value};
 
 // The asset goes into its cell, and the event with that cell's number is added to the asset change item, where there
 // is room for it.
 fn keep_changed(
-    model: &[u32],
+    model: &Words<'_>,
     observations: &mut [u64],
     assets: &mut [u8],
     change: u64,
     id: &[u8],
     body: &[u8],
     host: u64,
-) -> StoreAnswer
-    requires sizes { Sizes model.now }
+) -> Answer
     requires head { Head (items model.now) observations.old }
     requires asset_head { AssetHead assets.old }
     requires body_value { asset_ok id.now body.now ≡ true }
     requires change_value { (change ≡ change_item model.now) × (change < items model.now) }
+    requires change_low { change < max_items }
     ensures { let st = observations.old in
         let room = room_for (category model.now) (items model.now) st in
         let x = keep_by room model.now st assets.old id.now body.now host in
         (result ≡ x.answer) × (observations.new ≡ x.observations) × (assets.new ≡ x.assets) }
 {
-    let verdict = recording::room_for(model, observations);
-    match verdict {
-        Verdict::Refused(refusal) => StoreAnswer::Refused(refusal),
-        Verdict::Fine => {
-            let cell = assets::store(assets, id, body);
-            let word = value::pack(change, Value::Event(cell as u32));
-            recording::add(model, observations, change, host, word);
-            StoreAnswer::Stored(cell)
-        }
-    }
+    recording::room_for(model, observations)?;
+    let cell = assets::store(assets, id, body);
+    let word = value::pack(change, Value::Event(cell as u32));
+    recording::add(model, observations, change, host, word);
+    Ok(cell)
 }
 
 // An asset's id and body: refused, or stored in their cell.
 pub fn keep_asset(
-    model: &[u32],
+    model: &Words<'_>,
     observations: &mut [u64],
     assets: &mut [u8],
     id: &[u8],
     body: &[u8],
     host: u64,
-) -> StoreAnswer
-    requires sizes { Sizes model.now }
+) -> Answer
     requires head { Head (items model.now) observations.old }
     requires asset_head { AssetHead assets.old }
     ensures { let x = keep_asset model.now observations.old assets.old
@@ -60,11 +55,10 @@ pub fn keep_asset(
         (result ≡ x.answer) × (observations.new ≡ x.observations) × (assets.new ≡ x.assets) }
 {
     if !assets::asset_ok(id, body) {
-        return StoreAnswer::Refused(Refusal::Asset);
+        return Err(Refusal::Asset);
     }
-    let change = model::change_item(model);
-    if model::items(model) <= change {
-        return StoreAnswer::Stored(assets::store(assets, id, body));
-    }
+    let Some(change) = model.change_item() else {
+        return Ok(assets::store(assets, id, body));
+    };
     keep_changed(model, observations, assets, change, id, body, host)
 }

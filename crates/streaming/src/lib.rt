@@ -21,14 +21,12 @@ pub fn streams(
         (streams model.now names.now reply.now n instance_id creation_time
         text.old) }
 {
-    if !model::model_ok(model, names) {
-        return Answer::Refused(Refusal::Model);
-    }
-    if !reply_rows::reply_ok(model, reply) {
-        return Answer::Refused(Refusal::Store);
+    let words = model::checked(model, names)?;
+    if !reply_rows::reply_ok(&words, reply) {
+        return Err(Refusal::Store);
     }
     if !reply_rows::times_ok(creation_time, reply) {
-        return Answer::Refused(Refusal::Stamp);
+        return Err(Refusal::Stamp);
     }
-    document::write_document(model, names, reply, n, instance_id, creation_time, text)
+    document::write_document(&words, names, reply, n, instance_id, creation_time, text)
 }

@@ -11,8 +11,9 @@ use borrow.Author.Tests.{leb-true, ltb-true, eqb-true, eq-eqb, ne_eqb, lt-ltb}
 use Rattle.spec.specs.Bytes.{bytes, same, split, join_first}
 use Rattle.spec.specs.Value.{item_of, takes, decode, decode_kind}
 use Rattle.spec.specs.Model.{components, items, category, model_ok, Checked}
+use Rattle.spec.specs.Answers.{Answer}
 use Rattle.spec.specs.Reply.{Replied, refuse, written, read_rows, rows_of}
-use Rattle.spec.specs.declared.Answer.TheVariants.{Done}
+use Rattle.std.specs.Prelude.{Ok}
 use Rattle.spec.specs.declared.Refusal.{Refusal}
 use Rattle.spec.proofs.Words.{and_left, and_right, by_cond}
 use Rattle.spec.proofs.Model.{checked}
@@ -346,7 +347,7 @@ module _ (model names reply : List ℕ) (N instance creation : ℕ)
 -- of the call: an accepted one leaves such a text in the buffer's first bytes
 module _ (model names reply : List ℕ) (N instance creation : ℕ) (w : Held reply) (n : N < 2 ^ 64)
     (i : instance < 2 ^ 64) (text : List ℕ) where
-  pub call-reads : (k : ℕ) → (streams model names reply N instance creation text).answer ≡ Done k
+  pub call-reads : (k : ℕ) → (streams model names reply N instance creation text).answer ≡ Ok k
       → ReadsBack model reply N instance creation (take k (streams model names reply N instance creation text).reply)
   unfolding streams written
   call-reads =
@@ -364,10 +365,10 @@ module _ (model names reply : List ℕ) (N instance creation : ℕ) (w : Held re
       doc = document model names reply N instance creation
 
       Exact : Replied → Type 0
-      Exact x = (k : ℕ) → x.answer ≡ Done k → ReadsBack model reply N instance creation (take k x.reply)
+      Exact x = (k : ℕ) → x.answer ≡ Ok k → ReadsBack model reply N instance creation (take k x.reply)
 
       reads : model_ok model names ≡ true → reply_ok model reply ≡ true → times_ok creation reply ≡ true
-          → (k : ℕ) → Done (length doc) ≡ Done k
+          → (k : ℕ) → ◌≡◌ {A = Answer} (Ok (length doc)) (Ok k)
           → ReadsBack model reply N instance creation (take k (doc ++ drop (length doc) text))
       reads m r t k e =
           let z : k ≡ length doc = cc in

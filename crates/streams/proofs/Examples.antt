@@ -14,7 +14,7 @@ use Rattle.spec.specs.Bytes.{bytes, all}
 use Rattle.spec.specs.Reply.{Replied, refuse}
 use Rattle.spec.specs.declared.Level.TheVariants.{Normal, Warning, Fault}
 use Rattle.spec.specs.declared.Value.TheVariants.{Unavailable, Sample, Event, Condition}
-use Rattle.spec.specs.declared.Answer.TheVariants.{Done}
+use Rattle.std.specs.Prelude.{Ok}
 use Rattle.spec.specs.declared.Refusal.{Refusal}
 use Rattle.spec.specs.declared.Refusal.TheVariants.{Model, Store, Stamp, Space}
 use Rattle.spec.proofs.Words.{and_left, and_right}
@@ -366,8 +366,8 @@ late = 4102444800000
 -- room: one byte short, exact, and more, which stays as it was
 pub room-refused :
     Refuses Space bench_reply 2000 749
-    × (called bench_reply 2000 750 ≡ record { answer = Done 750; reply = ended bench_lines })
-    × (called bench_reply 2000 752 ≡ record { answer = Done 750; reply = ended bench_lines ++ 7 ∷ 7 ∷ [] })
+    × (called bench_reply 2000 750 ≡ record { answer = Ok 750; reply = ended bench_lines })
+    × (called bench_reply 2000 752 ≡ record { answer = Ok 750; reply = ended bench_lines ++ 7 ∷ 7 ∷ [] })
 unfolding opened_streams
 room-refused = (refl, refl, refl)
 
@@ -375,9 +375,9 @@ room-refused = (refl, refl, refl)
 pub short-refused :
     Refuses Store [] 2000 750
     × Refuses Store (0 ∷ 2 ∷ 4 ∷ []) 2000 750
-    × ((called (0 ∷ 2 ∷ 4 ∷ 5 ∷ []) 2000 295).answer ≡ Done 295)
+    × ((called (0 ∷ 2 ∷ 4 ∷ 5 ∷ []) 2000 295).answer ≡ Ok 295)
     × Refuses Store (1 ∷ 2 ∷ 2 ∷ 3 ∷ 2 ∷ 0 ∷ []) 2000 750
-    × ((called (one 0 zeroed) 2000 557).answer ≡ Done 557)
+    × ((called (one 0 zeroed) 2000 557).answer ≡ Ok 557)
     × Refuses Store (18446744073709551615 ∷ 2 ∷ 2 ∷ 3 ∷ 2 ∷ 0 ∷ zeroed ∷ []) 2000 750
     × Refuses Store (6148914691236517205 ∷ 2 ∷ 2 ∷ 3 ∷ 2 ∷ 0 ∷ zeroed ∷ []) 2000 750
     × (called (one 0 zeroed ++ late ∷ absent ∷ absent ∷ []) 2000 750 ≡ called (one 0 zeroed) 2000 750)
@@ -386,9 +386,9 @@ short-refused = (refl, refl, refl, refl, refl, refl, refl, refl)
 
 -- packed words: the last item and the one behind it, kind 0 with a low word, another category's kind, the second row
 pub words-refused :
-    ((called (one 0 zeroed) 2000 557).answer ≡ Done 557)
+    ((called (one 0 zeroed) 2000 557).answer ≡ Ok 557)
     × Refuses Store (one 0 absent) 2000 750
-    × ((called (one 0 (1 * 2 ^ 40)) 2000 567).answer ≡ Done 567)
+    × ((called (one 0 (1 * 2 ^ 40)) 2000 567).answer ≡ Ok 567)
     × Refuses Store (one 0 (1 * 2 ^ 40 + 1)) 2000 750
     × Refuses Store (one 0 event) 2000 750
     × Refuses Store (two 0 zeroed 0 event) 2000 1000
@@ -397,7 +397,7 @@ words-refused = (refl, refl, refl, refl, refl, refl)
 
 -- levels: a condition's item of the document above, at the most of level 2 and at the least of level 3
 pub levels-refused :
-    ((streams mixed_model mixed_names (one 0 (3 * 2 ^ 32 + 50331647)) 3 1 0 (replicate 587 7)).answer ≡ Done 587)
+    ((streams mixed_model mixed_names (one 0 (3 * 2 ^ 32 + 50331647)) 3 1 0 (replicate 587 7)).answer ≡ Ok 587)
     × (streams mixed_model mixed_names (one 0 (3 * 2 ^ 32 + 50331648)) 3 1 0 (replicate 587 7)
     ≡ refuse Store (replicate 587 7))
 unfolding opened_streams
@@ -405,10 +405,10 @@ levels-refused = (refl, refl)
 
 -- times: the last of 2099 and the next, in a row, in the second of two and of creation
 pub times-refused :
-    ((called (one max_time zeroed) 2000 557).answer ≡ Done 557)
+    ((called (one max_time zeroed) 2000 557).answer ≡ Ok 557)
     × Refuses Stamp (one late zeroed) 2000 750
     × Refuses Stamp (two 0 zeroed late zeroed) 2000 1000
-    × ((called (one 0 zeroed) max_time 557).answer ≡ Done 557)
+    × ((called (one 0 zeroed) max_time 557).answer ≡ Ok 557)
     × Refuses Stamp (one 0 zeroed) late 750
     × (late ≡ max_time + 1)
 unfolding opened_streams

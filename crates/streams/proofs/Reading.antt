@@ -16,7 +16,7 @@ use Rattle.spec.proofs.Packing.{taken-coded}
 use Rattle.spec.proofs.Bytes.{Lacks, all_append, split-last, split-more}
 use Rattle.spec.proofs.Digits.{decimal-spells}
 use Rattle.lines.specs.Stamps.{max_time, stamp_text, date_of}
-use Rattle.lines.specs.Lines.{form_of, value_for, value_text}
+use Rattle.lines.specs.Lines.{form_of, value_read, value_text}
 use Rattle.lines.proofs.Stamps.{time-back, date-real, text-back}
 use Rattle.lines.proofs.Lines.{text-form, line-back}
 use Rattle.streams.specs.Streams.{Row, element_name, attribute, end_tag, empty_tag, row_attributes, text_line}
@@ -37,7 +37,7 @@ stamp-back t h = rw (text-back (date_of t) (date-real t h)) (time-back t)
 
 -- a category's own value reads back from its text
 value-back : (category : ℕ) (v : Value) → takes category v ≡ true → Fits v
-    → value_for category (form_of (value_text v)) ≡ v
+    → value_read category (form_of (value_text v)) ≡ v
 value-back category v h f =
     rw (text-form v (taken-coded category v h f)) (line-back category 0 0 v (omega arith) (omega arith) h f).value
 
@@ -203,7 +203,7 @@ condition-in (Condition Fault c) ps h e d = rw (e, d, number-back c (omega (arit
 
 module _ (type : List ℕ) (named : all name_byte type ≡ true) (filled : Fill type) (r : Row) where
   text-reads : (g : ℕ) → Good g r
-      → ((ps : List (List ℕ)) → value_in g ps ≡ value_for g (form_of (content (part ps 6))))
+      → ((ps : List (List ℕ)) → value_in g ps ≡ value_read g (form_of (content (part ps 6))))
       → Reads g (text_line (element_name type) r) r
   text-reads g h v =
       let e = element_name type in

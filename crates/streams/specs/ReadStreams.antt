@@ -3,7 +3,7 @@
 use Rattle.std.specs.Prelude.{ℕ, zero, suc, Bool, cond, List, [], ◌∷◌, get_or, drop}
 use Rattle.spec.specs.Bytes.{bytes, same, split, value_from}
 use Rattle.lines.specs.Stamps.{date_in, time_of}
-use Rattle.lines.specs.Lines.{form_of, value_for}
+use Rattle.lines.specs.Lines.{form_of, value_read}
 use Rattle.streams.specs.Streams.{Row}
 use Rattle.spec.specs.declared.Level.{Level}
 use Rattle.spec.specs.declared.Level.TheVariants.{Normal, Warning, Fault}
@@ -45,8 +45,8 @@ state_named name code =
 
 -- in Samples and Events by the content, read as an adapter line's value is; in Condition by the element
 unfoldable pub value_in : ℕ → List (List ℕ) → Value
-value_in zero ps = value_for 0 (form_of (content (part ps 6)))
-value_in (suc zero) ps = value_for 1 (form_of (content (part ps 6)))
+value_in zero ps = value_read 0 (form_of (content (part ps 6)))
+value_in (suc zero) ps = value_read 1 (form_of (content (part ps 6)))
 value_in (suc (suc g)) ps = state_named (drop 1 (part (opening ps) 0)) (part ps 9)
 
 -- dataItemId behind its 'i', sequence and timestamp

@@ -3,20 +3,36 @@
 
 ghost use Rattle.std.specs.Prelude.{◌≡◌, ◌+◌, ◌*◌, ◌<◌, ◌^◌};
 ghost use Rattle.spec.specs.Value.{low_word, level_number, value_word, pack, item_of, native_ok, takes};
-ghost use Rattle.spec.specs.Value.{sample_of, level_of, decode_kind, decode};
+ghost use Rattle.spec.specs.Value.{decode_kind, decode};
 
 use spec::{Level, Value};
+
+// How many native codes there are.
+const CODES: u32 = 16777216;
+
+// The units of a packed word: of its item, of its value's kind, and of the level above a condition's code.
+const ITEM: u64 = 1099511627776;
+
+const KIND: u64 = 4294967296;
+
+const LEVEL: u64 = CODES as u64;
+
+// The kinds that have a low word.
+const SAMPLE: u64 = 1;
+
+const EVENT: u64 = 2;
+
+const CONDITION: u64 = 3;
+
+// What no item takes.
+const NO_VALUE: Value = Value::Condition(Level::Normal, u32::MAX);
 
 // The low word of a sample: the sample, plus 2^32 if it is negative.
 pub fn low_word(x: i32) -> u64
     ensures value { result ≡ low_word x }
     ensures upper_bound { result < 2 ^ 32 }
 {
-    if x < 0 {
-        ((x as i64) + 4294967296) as u64
-    } else {
-        x as u64
-    }
+    u64::from(x.cast_unsigned())
 }
 
 // A level's number.
@@ -24,11 +40,7 @@ pub fn level_number(l: Level) -> u64
     ensures value { result ≡ level_number l }
     ensures upper_bound { result < 3 }
 {
-    match l {
-        Level::Normal => 0,
-        Level::Warning => 1,
-        Level::Fault => 2,
-    }
+    l as u64
 }
 
 // The value's word: the packed word without its item.
@@ -38,9 +50,9 @@ pub fn value_word(v: Value) -> u64
 {
     match v {
         Value::Unavailable => 0,
-        Value::Sample(x) => 4294967296 + low_word(x),
-        Value::Event(c) => 8589934592 + (c as u64),
-        Value::Condition(l, c) => 12884901888 + (level_number(l) * 16777216 + (c as u64)),
+        Value::Sample(x) => SAMPLE * KIND + low_word(x),
+        Value::Event(c) => EVENT * KIND + u64::from(c),
+        Value::Condition(l, c) => CONDITION * KIND + (level_number(l) * LEVEL + u64::from(c)),
     }
 }
 
@@ -49,21 +61,21 @@ pub fn pack(item: u64, v: Value) -> u64
     requires { item < 2 ^ 24 }
     ensures { result ≡ pack item v }
 {
-    item * 1099511627776 + value_word(v)
+    item * ITEM + value_word(v)
 }
 
 // The item of a packed word.
 pub fn item_of(word: u64) -> u64
     ensures { result ≡ item_of word }
 {
-    word / 1099511627776
+    word / ITEM
 }
 
 // Whether a condition may have the native code c.
 fn native_ok(c: u32) -> bool
     ensures { result ≡ native_ok c }
 {
-    c < 16777216
+    c < CODES
 }
 
 // Whether an item of the category takes the value.
@@ -78,42 +90,16 @@ pub fn takes(category: u64, v: Value) -> bool
     }
 }
 
-// The sample that a low word stands for.
-fn sample_of(low: u64) -> i32
-    requires { low < 2 ^ 32 }
-    ensures { result ≡ sample_of low }
-{
-    if low < 2147483648 {
-        low as i32
-    } else {
-        ((low as i64) - 4294967296) as i32
-    }
-}
-
-// The level of a number, Fault from 2 on.
-fn level_of(n: u64) -> Level
-    ensures { result ≡ level_of n }
-{
-    if n == 0 {
-        return Level::Normal;
-    }
-    if n == 1 {
-        return Level::Warning;
-    }
-    Level::Fault
-}
-
 // The condition of a low word, or what no item takes where its level is above 2.
-fn condition_of(low: u64) -> Value
-    requires { low < 2 ^ 32 }
+fn condition_of(low: u32) -> Value
     ensures { result ≡ decode_kind 3 low }
 {
-    let level = low / 16777216;
-    if level <= 2 {
-        let l = level_of(level);
-        Value::Condition(l, (low % 16777216) as u32)
-    } else {
-        Value::Condition(Level::Normal, 4294967295)
+    let code = low % CODES;
+    match low / CODES {
+        0 => Value::Condition(Level::Normal, code),
+        1 => Value::Condition(Level::Warning, code),
+        2 => Value::Condition(Level::Fault, code),
+        _ => NO_VALUE,
     }
 }
 
@@ -124,33 +110,29 @@ pub fn decode(word: u64) -> Value
     if word == 0 {
         return Value::Unavailable;
     }
-    let kind = word / 4294967296;
-    let low = word % 4294967296;
-    if kind == 1 {
-        return Value::Sample(sample_of(low));
+    let kind = word / KIND;
+    let low = (word % KIND) as u32;
+    match kind {
+        SAMPLE => Value::Sample(low.cast_signed()),
+        EVENT => Value::Event(low),
+        CONDITION => condition_of(low),
+        _ => NO_VALUE,
     }
-    if kind == 2 {
-        return Value::Event(low as u32);
-    }
-    if kind == 3 {
-        return condition_of(low);
-    }
-    Value::Condition(Level::Normal, 4294967295)
 }
 
 // Whether an item of the category takes the value of a word: takes of decode, by the word alone.
 pub fn takes_word(category: u64, word: u64) -> bool
     ensures { result ≡ takes category (decode word) }
 {
-    let kind = word / 4294967296;
+    let kind = word / KIND;
     if category < 2 {
         return kind == category + 1 || word == 0;
     }
     if category == spec::CONDITION {
-        let front = word / 16777216;
+        let front = word / LEVEL;
         return word == 0 || (768 <= front && front <= 770);
     }
-    category == spec::DISCRETE && (kind == 2 || word == 0)
+    category == spec::DISCRETE && (kind == EVENT || word == 0)
 }
 
 // The packed word of an item and the word of a value: any item below 2^24 fits.
@@ -158,5 +140,5 @@ pub fn pack_word(item: u64, word: u64) -> u64
     requires { (item < 2 ^ 24) × (word < 2 ^ 40) }
     ensures { result ≡ item * 2 ^ 40 + word }
 {
-    item * 1099511627776 + word
+    item * ITEM + word
 }

@@ -1,8 +1,8 @@
 -- A text written in two passes, the first of them over no bytes: whole, or not at all, as the calls answer it.
 use Prim.Native.Nat.{ℕ, ◌<◌, ◌≤◌}
-use mathlib.Core.Path.{◌≡◌, refl, ◌∙◌}
+use mathlib.Core.Path.{◌≡◌, refl}
 use mathlib.Core.Bool.{Bool, true, false}
-use mathlib.Core.List.{List, [], ◌++◌}
+use mathlib.Core.List.{List}
 use native.Mathlib.Nat.{zero-add}
 use native.Mathlib.Omega.{arith}
 use lib.Dec.{leb}
@@ -10,35 +10,26 @@ use lib.ListN.{length}
 use lib.Seq.{sets-eq}
 use borrow.Author.Tests.{leb-true, le-leb, lt-leb}
 use Rattle.spec.specs.Reply.{Gives, written}
-use Rattle.spec.specs.declared.Answer.{Answer}
-use Rattle.spec.specs.declared.Answer.TheVariants.{Done, Refused}
+use Rattle.std.specs.Prelude.{Ok, Err}
+use Rattle.spec.specs.Answers.{Answer}
 use Rattle.spec.specs.declared.Refusal.TheVariants.{Space}
-use Rattle.writer.specs.Puts.{stop, Put}
+use Rattle.writer.specs.Puts.{stop, onward, Put}
+use Rattle.writer.specs.declared.Output.{Output}
 use Rattle.writer.specs.Whole.{text_after, bytes_of}
-use Rattle.writer.proofs.Laws.{sets-out}
 
--- the first pass puts nothing, x, and its place is the text's length as far as places go
-module _ (s buffer x : List ℕ) (n : ℕ) (a : Put [] 0 s x n) where
-  nothing : x ≡ []
-  nothing = a.stands ∙ sets-out [] 0 s (omega arith)
-
-  pub too_short : length (x ++ buffer) < n
-      → (x ++ buffer ≡ text_after s buffer) × (Refused Space ≡ bytes_of s buffer)
+-- the first pass gives the text's length as far as places go
+module _ (s buffer : List ℕ) {n : ℕ} (e : n ≡ onward 0 (length s)) (r : length buffer < stop) where
+  pub too_short : length buffer < n → (buffer ≡ text_after s buffer) × (Err Space ≡ bytes_of s buffer)
   unfolding text_after bytes_of
-  too_short h =
-      let k : length buffer < n = rw nothing at h in
-      let f = lt-leb (length s) (length buffer) (omega (arith, a.place)) in
-      (rw (nothing, f), rw f)
+  too_short h = let f = lt-leb (length s) (length buffer) (omega arith) in (rw f, rw f)
 
-  pub fitting : length buffer < stop → n ≤ length (x ++ buffer) → (exit : List ℕ) (m : ℕ)
-      → Put (x ++ buffer) 0 s exit m
-      → (exit ≡ text_after s buffer) × (Done m ≡ bytes_of s buffer)
+  pub fitting : n ≤ length buffer → {a b : Output} → a.bytes.now ≡ buffer → a.at ≡ 0 → Put a s b
+      → (b.bytes.now ≡ text_after s buffer) × (Ok b.at ≡ bytes_of s buffer)
   unfolding text_after bytes_of
-  fitting r h exit m p =
-      let k : n ≤ length buffer = rw nothing at h in
-      let f = le-leb (length s) (length buffer) (omega (arith, a.place)) in
-      let q : m ≡ length s = omega (arith, a.place, p.place) in
-      (rw f (rw nothing at p.stands), rw (f, q))
+  fitting h {a} {b} w z q =
+      let f = le-leb (length s) (length buffer) (omega arith) in
+      let m : b.at ≡ length s = omega (arith, q.place) in
+      (rw f (rw (w, z) at q.stands), rw (f, m))
 
 -- what a call says of it
 pub written_is : (s buffer : List ℕ) {r : Answer} {out : List ℕ}

@@ -1,130 +1,158 @@
-// Text written into a lent buffer. Each function writes from a place on, as far as the buffer reaches, and gives the
-// place behind: over an empty buffer it gives the length alone.
+// Text written into a lent buffer: bytes, digits, numbers.
 #![tactic(auto)]
 
-ghost use Rattle.std.specs.Prelude.{[], ◌∷◌, ◌≡◌, ◌+◌, ◌≤◌, length};
-ghost use Rattle.std.proofs.lemmas.List.Edits.{sets};
+ghost use Rattle.std.specs.Prelude.{ℕ, List, [], ◌∷◌, ◌≡◌, ◌+◌, ◌^◌, ◌<◌, ◌≤◌, length};
 ghost use Rattle.spec.specs.Bytes.{decimal};
 ghost use Rattle.lines.specs.Digits.{fixed};
-ghost use Rattle.writer.specs.Puts.{stop, onward, Put};
+ghost use Rattle.writer.specs.Puts.{onward, Put};
+ghost use Rattle.writer.specs.Whole.{Puts, text_after, bytes_of};
+
+use spec::{Answer, Refusal};
 
 // No buffer has as many bytes, so a place stops here.
 const STOP: usize = 9223372036854775808;
 
-// The place n bytes on.
+// The place n bytes on; it stops at 2^63.
+#[inline]
 fn onward(at: usize, n: usize) -> usize
-    requires { n ≤ stop }
     ensures { result ≡ onward at n }
 {
-    if STOP <= at {
-        return at;
+    at.max(at.saturating_add(n).min(STOP))
+}
+
+// A lent buffer and the place in it behind the text so far. What is put is written as far as the buffer reaches, and
+// the place goes on behind its end: over an empty buffer it gives the length alone.
+#[derive(Drop)]
+pub struct Output<'a> {
+    bytes: &'a mut [u8],
+    at: usize,
+}
+
+impl<'a> Output<'a> {
+    pub fn new(bytes: &'a mut [u8]) -> Output<'a>
+        ensures same { result.bytes.ghost_name ≡ bytes.entry.ghost_name }
+        ensures bytes { result.bytes.now ≡ bytes.old }
+        ensures at { result.at ≡ 0 }
+    {
+        Output { bytes, at: 0 }
     }
-    if STOP <= at + n {
-        return STOP;
+
+    // How long the text so far is.
+    #[inline]
+    pub fn len(&self) -> usize
+        ensures { result ≡ self.now.at }
+    {
+        self.at
     }
-    at + n
-}
 
-// The place behind one byte; it stops at 2^63.
-fn next(at: usize) -> usize
-    ensures { result ≡ onward at 1 }
-{
-    if at < 9223372036854775808 { at + 1 } else { at }
-}
-
-// One byte.
-pub fn put_byte(out: &mut [u8], at: usize, b: u8) -> usize
-    ensures { Put out.old at (b ∷ []) out.new result }
-{
-    if out.len() <= at {
-        return next(at);
+    // One byte.
+    #[inline]
+    pub fn put_byte(&mut self, b: u8)
+        ensures { Put self.old (b ∷ []) self.new }
+    {
+        if self.bytes.len() <= self.at {
+            self.at = onward(self.at, 1);
+            return;
+        }
+        self.bytes[self.at] = b;
+        self.at += 1;
     }
-    out[at] = b;
-    next(at)
-}
 
-// The bytes of s, which fit: a plain copy.
-fn copy_in(out: &mut [u8], at: usize, s: &[u8])
-    requires { at + length s.now ≤ length out.old }
-    ensures { out.new ≡ sets out.old at s.now }
-{
-    let mut i = 0;
-    while i < s.len() {
-        out[at + i] = s[i];
-        i += 1;
+    // The bytes of s, which fit: a plain copy.
+    #[inline]
+    fn copy_in(&mut self, s: &[u8])
+        requires { self.old.at + length s.now ≤ length self.old.bytes.now }
+        ensures { Put self.old s.now self.new }
+    {
+        let end = self.at + s.len();
+        let bytes = &mut *self.bytes;
+        bytes[self.at..end].copy_from_slice(s);
+        self.at = end;
+    }
+
+    // The bytes of s, each tested.
+    fn put_each(&mut self, s: &[u8])
+        ensures { Put self.old s.now self.new }
+    {
+        for x in s {
+            self.put_byte(*x);
+        }
+    }
+
+    // The bytes of s: none where the buffer ends before, and at once where they fit.
+    #[inline]
+    pub fn put_bytes(&mut self, s: &[u8])
+        ensures { Put self.old s.now self.new }
+    {
+        if self.bytes.len() <= self.at {
+            self.at = onward(self.at, s.len());
+            return;
+        }
+        if self.bytes.len() - self.at < s.len() {
+            self.put_each(s);
+            return;
+        }
+        self.copy_in(s);
+    }
+
+    // The last K digits of n. A slice of the array asks for the clause: no array is known to be that short.
+    #[inline]
+    pub fn put_fixed<const K: usize>(&mut self, n: u64)
+        requires { K < 2 ^ 63 }
+        ensures { Put self.old (fixed K n) self.new }
+    {
+        let mut digits = [0; K];
+        let mut rest = n;
+        for i in (0..K).rev() {
+            digits[i] = 48 + ((rest % 10) as u8);
+            rest /= 10;
+        }
+        self.put_bytes(&digits);
+    }
+
+    // The digits of n, made from the last one on.
+    pub fn put_decimal(&mut self, n: u64)
+        ensures { Put self.old (decimal n) self.new }
+    {
+        let mut digits = [0; 20];
+        let mut i = 19;
+        digits[i] = 48 + ((n % 10) as u8);
+        let mut left = n / 10;
+        // No range is plainer: what is left of n ends the loop, not a count.
+        while 0 < left {
+            i -= 1;
+            digits[i] = 48 + ((left % 10) as u8);
+            left /= 10;
+        }
+        self.put_bytes(&digits[i..]);
     }
 }
 
-// The bytes of s, each tested.
-fn put_each(out: &mut [u8], at: usize, s: &[u8]) -> usize
-    ensures { Put out.old at s.now out.new result }
+// The length of what `put` puts, which is put over no bytes; it stops at 2^63.
+fn length_of<F: Fn(&mut Output)>(put: &F) -> usize
+    ghost s: { List ℕ }
+    requires callable { F.IsAlwaysCallable put.now }
+    requires puts { Puts F.Fn put.now s }
+    ensures { result ≡ onward 0 (length s) }
 {
-    let mut p = at;
-    let mut i = 0;
-    while i < s.len() {
-        p = put_byte(out, p, s[i]);
-        i += 1;
+    let mut out = Output::new(&mut []);
+    put(&mut out);
+    out.len()
+}
+
+// What `put` puts, whole or not at all.
+pub fn write_whole<F: Fn(&mut Output)>(text: &mut [u8], put: F) -> Answer
+    ghost s: { List ℕ }
+    requires callable { F.IsAlwaysCallable put }
+    requires puts { Puts F.Fn put s }
+    ensures text_after { text.new ≡ text_after s text.old }
+    ensures value { result ≡ bytes_of s text.old }
+{
+    let length = length_of(&put);
+    if text.len() < length {
+        return Err(Refusal::Space);
     }
-    p
-}
-
-// The bytes of s: none where the buffer ends before, and at once where they fit.
-pub fn put_bytes(out: &mut [u8], at: usize, s: &[u8]) -> usize
-    ensures { Put out.old at s.now out.new result }
-{
-    if out.len() <= at {
-        return onward(at, s.len());
-    }
-    if out.len() - at < s.len() {
-        return put_each(out, at, s);
-    }
-    copy_in(out, at, s);
-    at + s.len()
-}
-
-// The last digit of n.
-pub fn put_digit(out: &mut [u8], at: usize, n: u64) -> usize
-    ensures { Put out.old at (fixed 1 n) out.new result }
-{
-    put_byte(out, at, 48 + ((n % 10) as u8))
-}
-
-// The last two digits of n.
-pub fn put_two(out: &mut [u8], at: usize, n: u64) -> usize
-    ensures { Put out.old at (fixed 2 n) out.new result }
-{
-    let p = put_digit(out, at, n / 10);
-    put_digit(out, p, n)
-}
-
-// The last three digits of n.
-pub fn put_three(out: &mut [u8], at: usize, n: u64) -> usize
-    ensures { Put out.old at (fixed 3 n) out.new result }
-{
-    let p = put_two(out, at, n / 10);
-    put_digit(out, p, n)
-}
-
-// The last four digits of n.
-pub fn put_four(out: &mut [u8], at: usize, n: u64) -> usize
-    ensures { Put out.old at (fixed 4 n) out.new result }
-{
-    let p = put_three(out, at, n / 10);
-    put_digit(out, p, n)
-}
-
-// The digits of n, made from the last one on.
-pub fn put_decimal(out: &mut [u8], at: usize, n: u64) -> usize
-    ensures { Put out.old at (decimal n) out.new result }
-{
-    let mut digits: [u8; 20] = [0; 20];
-    let mut i: usize = 19;
-    digits[i] = 48 + ((n % 10) as u8);
-    let mut left = n / 10;
-    while 0 < left {
-        i -= 1;
-        digits[i] = 48 + ((left % 10) as u8);
-        left = left / 10;
-    }
-    put_bytes(out, at, &digits[i..])
+    let mut out = Output::new(text);
+    put(&mut out);
+    Ok(out.len() as u64)
 }

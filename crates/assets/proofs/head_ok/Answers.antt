@@ -1,4 +1,5 @@
 -- A refused byte or length leaves no head; behind the tests of A and u the length decides.
+use borrow.Author.Rules.{rules}
 use native.Mathlib.Omega.{arith}
 use Rattle.spec.proofs.Assets.{no-asset-head}
 use Rattle.assets.proofs.Laws.{head-last}
@@ -16,11 +17,11 @@ pub returns-then-a-gt-MAX_ASSETS : goal.returns-then-a-gt-MAX_ASSETS
 returns-then-a-gt-MAX_ASSETS c =
     no-asset-head _ (λ h. omega arith)
 
-pub returns-then-a-wide : goal.returns-then-a-wide
-returns-then-a-wide c =
+pub returns-then-a-from : goal.returns-then-a-from
+returns-then-a-from c =
     no-asset-head _ (λ h. omega arith)
 
 pub returns : goal.returns
 returns c =
-    head-last _ _ c.wide-a.ensures.value (omega arith) (omega arith)
+    head-last _ _ (search rules) (omega arith) (omega arith)
     (omega arith) _ c.bytes_for.ensures

@@ -3,8 +3,8 @@ use Rattle.bench.proofs.word_count.Goals as goal
 
 pub words_of-requires : goal.words_of-requires
 words_of-requires c =
-    rw c.in-Done.is at c.requires
+    rw c.in-Ok.is at c.requires
 
-pub returns-in-Done : goal.returns-in-Done
-returns-in-Done c =
-    rw c.in-Done.is c.words_of.ensures
+pub returns-in-Ok : goal.returns-in-Ok
+returns-in-Ok c =
+    rw c.in-Ok.is c.words_of.ensures

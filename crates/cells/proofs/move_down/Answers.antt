@@ -7,34 +7,6 @@ pub loop-j-init : goal.loop-j-init
 loop-j-init c =
     writing-none _ _ _
 
-pub overflow_add-bs : goal.overflow_add-bs
-overflow_add-bs c =
-    omega arith
-
-pub overflow_add-bs-in-loop-j : goal.overflow_add-bs-in-loop-j
-overflow_add-bs-in-loop-j c =
-    omega arith
-
-pub bounds-bs-at : goal.bounds-bs-at
-bounds-bs-at c =
-    omega arith
-
-pub overflow_add-bs-in-loop-j-2 : goal.overflow_add-bs-in-loop-j-2
-overflow_add-bs-in-loop-j-2 c =
-    omega arith
-
-pub bounds-bs-at-in-loop-j : goal.bounds-bs-at-in-loop-j
-bounds-bs-at-in-loop-j c =
-    omega arith
-
-pub overflow_add-j : goal.overflow_add-j
-overflow_add-j c =
-    omega arith
-
-pub loop-j-smaller : goal.loop-j-smaller
-loop-j-smaller c =
-    omega arith
-
 pub loop-j-preserved : goal.loop-j-preserved
 loop-j-preserved c =
     let l = c.loop-j in

@@ -1,14 +1,18 @@
 -- Each way out is one way through the definition.
-use Rattle.marks.specs.Marks.{eight_at}
+use mathlib.Core.Path.{refl, sym, ◌∙◌}
+use native.Mathlib.Omega.{arith}
+use Rattle.marks.proofs.Laws.{found-some, found-none}
 use Rattle.changes.proofs.Laws.{raised-full, raised-put}
 use Rattle.changes.proofs.raised.Goals as goal
 
-pub returns-then-j-eq-ENTRIES : goal.returns-then-j-eq-ENTRIES
-returns-then-j-eq-ENTRIES c =
+pub returns-in_default : goal.returns-in_default
+returns-in_default c =
     let z = c.args in
-    raised-full z.key (eight_at z.marks.now z.k) c.find-j.ensures.0 c.if-j-eq-ENTRIES.true
+    let p = found-none z.key z.marks.now c.in_default.ensures in
+    raised-full z.key z.marks.now refl (sym p ∙ c.requires)
 
 pub returns : goal.returns
 returns c =
     let z = c.args in
-    raised-put z.key (eight_at z.marks.now z.k) c.find-j.ensures.0 c.if-j-eq-ENTRIES.false
+    let f = found-some z.key z.marks.now c.in-Some.ensures in
+    raised-put z.key z.marks.now f.0 (λ e. omega (arith, f.1))

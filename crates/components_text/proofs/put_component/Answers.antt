@@ -11,8 +11,8 @@ returns-then-not-has_rows c =
     (omega (arith, c.requires.documented.checked.sizes.c_max)) c.has_rows.ensures c.if-not-has_rows.true
     (omega arith)
 
-pub put_groups-q-requires : goal.put_groups-q-requires
-put_groups-q-requires c =
+pub put_groups-requires : goal.put_groups-requires
+put_groups-requires c =
     record {
       documented = c.requires.documented;
       marked = c.requires.marked;
@@ -24,5 +24,5 @@ returns c =
     let a = c.args in
     component-put a.model.now a.names.now (reply_rows a.reply.now) a.present.now c.requires.marked a.c
     (omega (arith, c.requires.documented.checked.sizes.c_max)) c.has_rows.ensures
-    c.if-not-has_rows.false c.put_start-p.ensures c.put_groups-q.ensures
+    c.if-not-has_rows.false c.put_start.ensures c.put_groups.ensures
     c.put_bytes.ensures

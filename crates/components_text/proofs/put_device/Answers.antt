@@ -14,4 +14,4 @@ returns c =
     device-put a.model.now a.names.now _
     (type-is a.model.now a.names.now 0 _ _ _ c.component_word.ensures
     c.component_name.ensures c.name_text-t.ensures)
-    c.put_text-a.ensures c.put_text-b.ensures c.put_bytes.ensures
+    c.put_text.ensures c.put_text-2.ensures c.put_bytes.ensures

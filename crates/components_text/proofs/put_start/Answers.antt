@@ -13,4 +13,4 @@ returns c =
     start-put a.model.now a.names.now _ a.c
     (type-is a.model.now a.names.now a.c _ _ _ c.component_word.ensures
     c.component_name.ensures c.name_text-t.ensures)
-    c.put_text-a.ensures c.put_text-b.ensures c.put_number-d.ensures c.put_bytes.ensures
+    c.put_text.ensures c.put_text-2.ensures c.put_number.ensures c.put_bytes.ensures

@@ -6,4 +6,4 @@ use Rattle.document.proofs.put_given.Goals as goal
 pub returns : goal.returns
 returns c =
     put_is (given-text _ _ _)
-    (put-append c.put_time-p.ensures (put-append c.put_number-q.ensures c.put_number.ensures))
+    (put-append c.put_time.ensures (put-append c.put_number.ensures c.put_number-2.ensures))

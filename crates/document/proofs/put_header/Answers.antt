@@ -20,4 +20,4 @@ bounds-reply-2 c =
 pub returns : goal.returns
 returns c =
     put_is (header-text _ _ _ _)
-    (put-append c.put_given-p.ensures (put-append c.put_numbers-q.ensures c.put_bytes.ensures))
+    (put-append c.put_given.ensures (put-append c.put_numbers.ensures c.put_bytes.ensures))

@@ -6,4 +6,4 @@ use Rattle.document.proofs.put_numbers.Goals as goal
 pub returns : goal.returns
 returns c =
     put_is (numbers-text _ _ _)
-    (put-append c.put_number-p.ensures (put-append c.put_number-q.ensures c.put_number.ensures))
+    (put-append c.put_number.ensures (put-append c.put_number-2.ensures c.put_number-3.ensures))

@@ -6,4 +6,4 @@ use Rattle.document.proofs.put_start.Goals as goal
 pub returns : goal.returns
 unfolding ended
 returns c =
-    put-append c.put_bytes-p.ensures c.put_bytes.ensures
+    put-append c.put_bytes.ensures c.put_bytes-2.ensures

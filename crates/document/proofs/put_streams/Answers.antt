@@ -12,16 +12,16 @@ pub returns-then-rows-eq0 : goal.returns-then-rows-eq0
 returns-then-rows-eq0 c =
     put_is (none-text _ _ c.args.reply.now _ c.rows.ensures.0 c.if-rows-eq0.true) c.put_bytes.ensures
 
-pub put_device-q-requires : goal.put_device-q-requires
-put_device-q-requires c =
+pub put_device-requires : goal.put_device-requires
+put_device-requires c =
     c.requires.documented.checked
 
-pub put_components-r-requires : goal.put_components-r-requires
-put_components-r-requires c =
+pub put_components-requires : goal.put_components-requires
+put_components-requires c =
     record { documented = c.requires.documented; marked = c.requires.marked }
 
 pub returns : goal.returns
 returns c =
     put_is (some-text _ _ c.args.reply.now _ c.rows.ensures.0 c.if-rows-eq0.false)
-    (put-append c.put_bytes-p.ensures
-    (put-append c.put_device-q.ensures (put-append c.put_components-r.ensures c.put_bytes-2.ensures)))
+    (put-append c.put_bytes-2.ensures
+    (put-append c.put_device.ensures (put-append c.put_components.ensures c.put_bytes-3.ensures)))

@@ -1,6 +1,6 @@
 -- Nothing, a capital or a small letter.
 use native.Mathlib.Omega.{arith}
-use Rattle.element.proofs.Laws.{case-none, case-some}
+use Rattle.element.proofs.Laws.{case-none, case-upper, case-lower}
 use Rattle.element.proofs.put_case.Goals as goal
 
 pub returns-then-x-eq95 : goal.returns-then-x-eq95
@@ -9,8 +9,8 @@ returns-then-x-eq95 c =
 
 pub returns-then-start : goal.returns-then-start
 returns-then-start c =
-    case-some _ _ c.if-x-eq95.false c.if-start.true c.upper.ensures c.put_byte.ensures
+    case-upper _ c.if-x-eq95.false c.if-start.true c.to_ascii_uppercase.ensures.value c.put_byte.ensures
 
 pub returns : goal.returns
 returns c =
-    case-some _ _ c.if-x-eq95.false c.if-start.false c.lower.ensures c.put_byte-2.ensures
+    case-lower _ c.if-x-eq95.false c.if-start.false c.to_ascii_lowercase.ensures.value c.put_byte-2.ensures

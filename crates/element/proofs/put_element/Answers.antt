@@ -10,5 +10,5 @@ returns-then-not-is_bare c =
 
 pub returns : goal.returns
 returns c =
-    t-before _ (sym c.is_bare.ensures ∙ c.if-not-is_bare.false) c.put_byte-p.ensures
+    t-before _ (sym c.is_bare.ensures ∙ c.if-not-is_bare.false) c.put_byte.ensures
     c.put_pascal-2.ensures

@@ -1,11 +1,6 @@
--- The bytes before the one in turn are put. The measure is what is left of s.
-use Prim.Native.Nat.{◌-◌}
-use lib.ListN.{length}
+-- The bytes before the one in turn are put.
 use Rattle.element.proofs.Laws.{Cased}
 use Rattle.element.proofs.put_pascal.Given as goal
 
-abbrev pub invariant-loop-i : goal.invariant-loop-i
-invariant-loop-i l = Cased l.initial.out l.at l.s l.i l.start l.out l.p
-
-abbrev pub decreases-loop-i : goal.decreases-loop-i
-decreases-loop-i l = length l.s - l.i
+abbrev pub invariant-loop-x : goal.invariant-loop-x
+invariant-loop-x l = Cased l.initial.out l.s l.x-index l.start l.out

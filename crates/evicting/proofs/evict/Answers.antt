@@ -7,7 +7,6 @@ use Rattle.evicting.proofs.evict.Goals as goal
 pub set_newest-requires : goal.set_newest-requires
 set_newest-requires c =
     record {
-      sizes = c.requires.sizes;
       in_table = rw (c.checkpoint_at-checkpoint.ensures, c.items.ensures.0)
           (goes_in _ _ _ _ _ _ _ _ c.requires.p_value.0 c.ring_word-word.ensures _ c.item_of-item.ensures (omega arith)
           c.requires.overwriting);

@@ -8,7 +8,7 @@ use Rattle.evicting.proofs.set_newest.Goals as goal
 
 pub step-requires : goal.step-requires
 step-requires c =
-    let whole = step_fits _ _ _ _ _ _ c.items-w.ensures.0 c.requires.in_table c.requires.sizes.m_max
+    let whole = step_fits _ _ _ _ _ _ c.items-w.ensures.0 c.requires.in_table c.items-w.ensures.1
     (told c.category-category.ensures c.if-category-eq-CONDITION.true) in
     record { table = whole.0; own_bound = whole.1 }
 

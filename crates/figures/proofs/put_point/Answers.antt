@@ -6,10 +6,10 @@ use Rattle.figures.proofs.put_point.Goals as goal
 
 pub returns-then-p-eq0 : goal.returns-then-p-eq0
 returns-then-p-eq0 c =
-    rw (no-point _ c.if-p-eq0.true) (put-none _ _ (omega arith))
+    rw (no-point _ c.if-p-eq0.true) (put-none _ (omega arith))
 
 pub returns : goal.returns
 returns c =
     rw (with-point _ c.if-p-eq0.false)
-    (put-append c.put_byte-q.ensures
+    (put-append c.put_byte.ensures
     c.put_part.ensures)

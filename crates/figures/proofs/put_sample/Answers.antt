@@ -22,5 +22,5 @@ returns c =
     (c.low_word-low.ensures.value ∙ ap low_word
     (to_z-of_z c.ranges.x))
     (omega arith))
-    (put-append c.put_byte-p.ensures
+    (put-append c.put_byte.ensures
     c.put_unsigned-2.ensures)

@@ -6,6 +6,6 @@ use Rattle.figures.proofs.put_state.Goals as goal
 pub returns : goal.returns
 unfolding value_text
 returns c =
-    put-append c.put_level-p.ensures
-    (put-append c.put_byte-q.ensures
-    c.put_decimal.ensures)
+    put-append c.put_level.ensures
+    (put-append c.put_byte.ensures
+    (rw c.from.ensures at c.put_decimal.ensures))

@@ -4,5 +4,5 @@ use Rattle.figures.proofs.put_unsigned.Goals as goal
 
 pub returns : goal.returns
 returns c =
-    put-append c.put_decimal-p.ensures
+    put-append c.put_decimal.ensures
     c.put_point.ensures

@@ -21,7 +21,7 @@ returns-in-Sample c =
 pub returns-in-Event : goal.returns-in-Event
 unfolding value_text
 returns-in-Event c =
-    rw c.in-Event.is c.put_decimal.ensures
+    rw c.in-Event.is (rw c.from.ensures at c.put_decimal.ensures)
 
 pub returns-in-Condition : goal.returns-in-Condition
 returns-in-Condition c =

@@ -1,24 +1,32 @@
 -- The place of the key decides, and the row there.
-use lib.Seq.{get_or-take}
-use Rattle.entries.proofs.Filling.{row_of}
-use Rattle.judging.proofs.Laws.{raised-none, raised-free, raised_by}
-use native.Mathlib.Omega.{arith}
+use mathlib.Core.Path.{refl, sym, ◌∙◌}
 use Prim.Native.Nat.{◌<◌}
-use mathlib.Core.Path.{sym, ◌∙◌}
+use native.Mathlib.Omega.{arith}
+use Rattle.entries.proofs.Filling.{row_of}
+use Rattle.marks.proofs.Laws.{found-some, found-none}
+use Rattle.judging.proofs.Laws.{raised-none, raised-free, raised_by}
 use Rattle.judging.proofs.judge_raised.Goals as goal
 
-pub returns-then-j-eq-ENTRIES : goal.returns-then-j-eq-ENTRIES
-returns-then-j-eq-ENTRIES c =
-    raised-none _ _ c.find-j.ensures.0 _ _ c.if-j-eq-ENTRIES.true
+pub returns-in_default : goal.returns-in_default
+returns-in_default c =
+    let p = found-none c.args.key c.args.marks.now c.in_default.ensures in
+    raised-none _ _ refl _ _ (sym p ∙ c.requires.eight)
+
+pub offset_bounds-marks-j : goal.offset_bounds-marks-j
+offset_bounds-marks-j c =
+    let f = found-some c.args.key c.args.marks.now c.in-Some.ensures in omega (arith, f.1)
+
+pub bounds-marks-j : goal.bounds-marks-j
+bounds-marks-j c = (found-some c.args.key c.args.marks.now c.in-Some.ensures).1
 
 pub returns-then-marks-j-eq0 : goal.returns-then-marks-j-eq0
 returns-then-marks-j-eq0 c =
-    raised-free _ _ c.find-j.ensures.0 _ _ c.if-j-eq-ENTRIES.false
-    (get_or-take 8 c.args.marks.now c.find-j.result 0 (omega (arith, c.if-j-eq-ENTRIES.false)) ∙ c.if-marks-j-eq0.true)
+    let f = found-some c.args.key c.args.marks.now c.in-Some.ensures in
+    raised-free _ _ f.0 _ _ (λ e. omega (arith, f.1)) c.if-marks-j-eq0.true
 
 pub returns : goal.returns
 returns c =
-    let h : c.find-j.result < 8 = omega (arith, c.if-j-eq-ENTRIES.false) in
-    let t = get_or-take 8 c.args.marks.now c.find-j.result 0 h in
-    raised_by _ _ c.find-j.ensures.0 _ _ c.if-j-eq-ENTRIES.false (λ z. c.if-marks-j-eq0.false (sym t ∙ z))
+    let f = found-some c.args.key c.args.marks.now c.in-Some.ensures in
+    let h : c.in-Some.j < 8 = omega (arith, f.1) in
+    raised_by _ _ f.0 _ _ (λ e. omega (arith, f.1)) c.if-marks-j-eq0.false
     (row_of c.args.st.now _ _ 8 _ _ h ∙ c.row_at-row.ensures) c.repeated_if.ensures

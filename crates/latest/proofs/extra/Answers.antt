@@ -1,5 +1,5 @@
 use Prim.Native.Nat.{ℕ, ◌<◌}
-use mathlib.Core.Path.{◌≡◌, ◌∙◌}
+use mathlib.Core.Path.{◌≡◌, refl, ◌∙◌}
 use mathlib.Core.Bool.{true}
 use mathlib.Core.List.{List}
 use native.Mathlib.Omega.{arith}
@@ -10,7 +10,7 @@ use Rattle.spec.proofs.Words.{told}
 use Rattle.latest.proofs.Laws.{latest-table, Beyond, beyond-start, beyond-few, beyond-out, beyond-plain}
 use Rattle.latest.proofs.Laws.{beyond-end, Turn, beyond-unformed, beyond-empty, beyond-more}
 use Rattle.latest.proofs.extra.Goals as goal
-use Rattle.latest.proofs.extra.Goals.{then-has+then-category-eq-CONDITION+in-Used+else-n-eq0, else-has}
+use Rattle.latest.proofs.extra.Goals.{then-has+then-category-eq-CONDITION+in-Some+else-n-eq0, else-has}
 use Rattle.latest.proofs.extra.Goals.{else-has-via-then-has+else-category-eq-CONDITION, else-has-via-else-has}
 
 turn : {cat : ℕ → ℕ} {m : ℕ} {st : List ℕ} {selection x i a n t : ℕ} → Beyond cat m st selection x i → i < m
@@ -27,11 +27,12 @@ count-requires c =
     let h : c.loop-i.i < items c.args.model.now = omega arith in
     let v =
     turn c.loop-i.invariant h (told c.has.ensures c.if-has.true)
-    (told c.category.ensures c.if-category-eq-CONDITION.true) c.items-m.ensures.0 c.ring_size.ensures.is
+    (told c.category.ensures c.if-category-eq-CONDITION.true) c.items-m.ensures.0 refl
     c.latest_at-t.ensures in
     record {
-      table = latest-table _ _ c.requires.head v.many v.ring v.table v.below;
-      own_bound = omega (arith, v.below, c.requires.sizes.m_max);
+      table = rw c.slice-words.ensures.value
+          (latest-table _ _ (rw c.requires.agree at c.slice-words.ensures.head.head) v.many v.ring v.table v.below);
+      own_bound = omega (arith, v.below, c.items-m.ensures);
     }
 
 pub returns-in_default : goal.returns-in_default
@@ -39,39 +40,40 @@ returns-in_default c =
     let h : c.loop-i.i < items c.args.model.now = omega arith in
     let v =
     turn c.loop-i.invariant h (told c.has.ensures c.if-has.true)
-    (told c.category.ensures c.if-category-eq-CONDITION.true) c.items-m.ensures.0 c.ring_size.ensures.is
+    (told c.category.ensures c.if-category-eq-CONDITION.true) c.items-m.ensures.0 refl
     c.latest_at-t.ensures in
-    beyond-unformed v (told c.in_default.is c.count.ensures)
+    beyond-unformed v (rw c.slice-words.ensures.value at c.in_default.ensures)
 
 pub returns-then-n-eq0 : goal.returns-then-n-eq0
 returns-then-n-eq0 c =
     let h : c.loop-i.i < items c.args.model.now = omega arith in
     let v =
     turn c.loop-i.invariant h (told c.has.ensures c.if-has.true)
-    (told c.category.ensures c.if-category-eq-CONDITION.true) c.items-m.ensures.0 c.ring_size.ensures.is
+    (told c.category.ensures c.if-category-eq-CONDITION.true) c.items-m.ensures.0 refl
     c.latest_at-t.ensures in
-    beyond-empty v (told c.in-Used.is c.count.ensures) c.if-n-eq0.true
+    beyond-empty v (rw c.slice-words.ensures.value at c.in-Some.ensures) c.if-n-eq0.true
 
 pub overflow_add-extra : goal.overflow_add-extra
 overflow_add-extra c =
     let h : c.loop-i.i < items c.args.model.now = omega arith in
     let v =
     turn c.loop-i.invariant h (told c.has.ensures c.if-has.true)
-    (told c.category.ensures c.if-category-eq-CONDITION.true) c.items-m.ensures.0 c.ring_size.ensures.is
+    (told c.category.ensures c.if-category-eq-CONDITION.true) c.items-m.ensures.0 refl
     c.latest_at-t.ensures in
-    let more = beyond-more v (told c.in-Used.is c.count.ensures) c.if-n-eq0.false in
-    omega (arith, beyond-few more c.requires.sizes.m_max)
+    let more = beyond-more v (rw c.slice-words.ensures.value at c.in-Some.ensures) c.if-n-eq0.false in
+    omega (arith, beyond-few more (omega (arith, c.items-m.ensures)))
 
 pub loop-i-preserved : goal.loop-i-preserved
 loop-i-preserved c =
     let h : c.loop-i.i < items c.args.model.now = omega arith in
     elim c.if-has.branch [
-      | then-has+then-category-eq-CONDITION+in-Used+else-n-eq0 w ↦
+      | then-has+then-category-eq-CONDITION+in-Some+else-n-eq0 w ↦
           let v =
           turn c.loop-i.invariant h (told c.has.ensures w.if-has.true)
-          (told w.category.ensures w.if-category-eq-CONDITION.true) c.items-m.ensures.0 c.ring_size.ensures.is
+          (told w.category.ensures w.if-category-eq-CONDITION.true) c.items-m.ensures.0 refl
           c.latest_at-t.ensures in
-          rw w.extra-is (beyond-more v (told w.in-Used.is w.count.ensures) w.if-n-eq0.false)
+          rw w.extra-is
+          (beyond-more v (told w.in-Some.is (rw c.slice-words.ensures.value at w.count.ensures)) w.if-n-eq0.false)
       | else-has w ↦
           rw w.extra-is
           (elim w.else-has.branch [

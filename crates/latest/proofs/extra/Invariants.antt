@@ -1,12 +1,8 @@
 -- The invariant: `extra` has the rows beyond the first of the selected items below i, whose entries have their form.
--- The measure is the items left.
-use Prim.Native.Nat.{◌-◌}
+--
 use Rattle.spec.specs.Model.{items, category}
 use Rattle.latest.proofs.Laws.{Beyond}
 use Rattle.latest.proofs.extra.Given as goal
 
 abbrev pub invariant-loop-i : goal.invariant-loop-i
 invariant-loop-i l = Beyond (category l.model) (items l.model) l.st l.selection l.extra l.i
-
-abbrev pub decreases-loop-i : goal.decreases-loop-i
-decreases-loop-i l = l.m - l.i

@@ -1,5 +1,5 @@
 use Prim.Native.Nat.{◌<◌}
-use mathlib.Core.Path.{◌∙◌}
+use mathlib.Core.Path.{refl, ◌∙◌}
 use native.Mathlib.Omega.{arith}
 use Rattle.spec.specs.Model.{items}
 use Rattle.spec.proofs.Words.{told}
@@ -17,11 +17,13 @@ pub write_entries-c-requires : goal.write_entries-c-requires
 write_entries-c-requires c =
     let v = c.loop-i.invariant in
     let h : c.loop-i.i < items c.args.model.now = omega arith in record {
-      table = latest-table _ _ c.requires.head c.items-m.ensures.0 c.ring_size.ensures.is c.latest_at-t.ensures h;
+      table = rw c.slice-words.ensures.value
+          (latest-table _ _ (rw c.requires.agree at c.slice-words.ensures.head.head) c.items-m.ensures.0 refl
+          c.latest_at-t.ensures h);
       x_bound = (
-        entries-room v h (told c.has.ensures c.if-has.true) c.items-m.ensures.0 c.ring_size.ensures.is
+        rw c.slice-words.ensures.value (entries-room v h (told c.has.ensures c.if-has.true) c.items-m.ensures.0 refl
             c.latest_at-t.ensures
-            (told c.category.ensures c.if-category-eq-CONDITION.true),
+            (told c.category.ensures c.if-category-eq-CONDITION.true)),
         omega (arith, v.put.len, c.requires.k_in_bounds),
       );
     }
@@ -30,9 +32,11 @@ pub write_first-requires : goal.write_first-requires
 write_first-requires c =
     let v = c.loop-i.invariant in
     let h : c.loop-i.i < items c.args.model.now = omega arith in record {
-      table = latest-table _ _ c.requires.head c.items-m.ensures.0 c.ring_size.ensures.is c.latest_at-t.ensures h;
+      table = rw c.slice-words.ensures.value
+          (latest-table _ _ (rw c.requires.agree at c.slice-words.ensures.head.head) c.items-m.ensures.0 refl
+          c.latest_at-t.ensures h);
       done_lt_k = (
-        first-room v h (told c.has.ensures c.if-has.true) c.items-m.ensures.0 c.ring_size.ensures.is
+        first-room v h (told c.has.ensures c.if-has.true) c.items-m.ensures.0 refl
             c.latest_at-t.ensures
             (λ z. c.if-category-eq-CONDITION.false (c.category.ensures ∙ z)),
         omega (arith, v.put.len, c.requires.k_in_bounds),
@@ -46,14 +50,15 @@ loop-i-preserved c =
     elim c.if-has.branch [
       | then-has+then-category-eq-CONDITION w ↦
           rw (w.out-is, w.c-is)
-          (entries-more v h (told c.has.ensures w.if-has.true) c.items-m.ensures.0 c.ring_size.ensures.is
+          (entries-more v h (told c.has.ensures w.if-has.true) c.items-m.ensures.0 refl
           c.latest_at-t.ensures (told w.category.ensures w.if-category-eq-CONDITION.true)
-          w.write_entries-c.ensures.value w.write_entries-c.ensures.out_after)
+          (rw c.slice-words.ensures.value at w.write_entries-c.ensures.value)
+          (rw c.slice-words.ensures.value at w.write_entries-c.ensures.out_after))
       | then-has+else-category-eq-CONDITION w ↦
           rw (w.out-is, w.c-is)
-          (first_more v h (told c.has.ensures w.if-has.true) c.items-m.ensures.0 c.ring_size.ensures.is
+          (first_more v h (told c.has.ensures w.if-has.true) c.items-m.ensures.0 refl
           c.latest_at-t.ensures (λ z. w.if-category-eq-CONDITION.false (w.category.ensures ∙ z))
-          w.write_first.ensures)
+          (rw c.slice-words.ensures.value at w.write_first.ensures))
       | else-has w ↦ rw (w.out-is, w.c-is) (written_out v h (told c.has.ensures w.if-has.false))
     ]
 

@@ -1,5 +1,4 @@
--- The invariant: the first c rows, those of the selected items below i, are written. The measure is the items left.
-use Prim.Native.Nat.{◌-◌}
+-- The invariant: the first c rows, those of the selected items below i, are written.
 use Rattle.spec.specs.Model.{items, category}
 use Rattle.latest.proofs.Laws.{Written}
 use Rattle.latest.proofs.write_each.Given as goal
@@ -7,6 +6,3 @@ use Rattle.latest.proofs.write_each.Given as goal
 abbrev pub invariant-loop-i : goal.invariant-loop-i
 invariant-loop-i l =
     Written (category l.model) (items l.model) l.st l.selection l.k l.initial.out l.out l.c l.i
-
-abbrev pub decreases-loop-i : goal.decreases-loop-i
-decreases-loop-i l = l.m - l.i

@@ -1,5 +1,5 @@
--- The invariant: the used entries before the j-th are written, the next is row c. The measure is the entries left.
-use Prim.Native.Nat.{◌+◌, ◌-◌, ◌≤◌, ◌<◌}
+-- The invariant: the used entries before the j-th are written, the next is row c.
+use Prim.Native.Nat.{◌+◌}
 use mathlib.Core.Path.{◌≡◌}
 use Rattle.spec.specs.Blocks.{table_rows}
 use Rattle.spec.specs.Entries.{used_rows}
@@ -9,9 +9,6 @@ use Rattle.latest.proofs.write_entries.Given as goal
 
 abbrev pub invariant-loop-j : goal.invariant-loop-j
 invariant-loop-j l =
-    (l.most ≤ 8) × (l.most < 8 → l.most ≡ l.k - l.done) × (l.c ≡ l.done + l.j)
+    (l.c ≡ l.done + l.j)
     × Left (used_rows (table_rows l.st l.t l.w 8 l.x)) l.k l.done l.initial.out l.out l.c
     (used_from l.st l.t l.w l.x l.j)
-
-abbrev pub decreases-loop-j : goal.decreases-loop-j
-decreases-loop-j l = l.most - l.j

@@ -12,11 +12,12 @@ loop-i-init c =
 
 pub write_first-requires : goal.write_first-requires
 write_first-requires c =
-    let v = c.loop-i.invariant in record {
-      table = latest-table _ _ c.requires.head refl c.ring_size.ensures.is c.latest_at-t.ensures
-          c.loop-i-test.true;
+    let v = c.loop-i.invariant in
+    let h = rw c.items-m.ensures.0 at c.loop-i-test.true in record {
+      table = rw c.slice-words.ensures.value
+          (latest-table _ _ c.slice-words.ensures.head.head c.items-m.ensures.0 refl c.latest_at-t.ensures h);
       done_lt_k = (
-        firsts-room v c.loop-i-test.true (told c.has.ensures c.if-has.true),
+        firsts-room v h (told c.has.ensures c.if-has.true),
         omega (arith, v.put.len, c.requires.k_value.1),
       );
     }
@@ -24,12 +25,12 @@ write_first-requires c =
 pub loop-i-preserved : goal.loop-i-preserved
 loop-i-preserved c =
     let v = c.loop-i.invariant in
-    let h = c.loop-i-test.true in
+    let h = rw c.items-m.ensures.0 at c.loop-i-test.true in
     elim c.if-has.branch [
       | then-has w ↦
           rw (w.out-is, w.c-is)
-          (firsts_more v h (told c.has.ensures w.if-has.true) c.ring_size.ensures.is c.latest_at-t.ensures
-          w.write_first.ensures)
+          (firsts_more v h (told c.has.ensures w.if-has.true) refl c.latest_at-t.ensures
+          (rw (c.slice-words.ensures.value, c.items-m.ensures.0) at w.write_first.ensures))
       | else-has w ↦ rw (w.out-is, w.c-is) (firsts-out v h (told c.has.ensures w.if-has.false))
     ]
 

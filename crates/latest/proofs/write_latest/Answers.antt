@@ -1,18 +1,15 @@
 -- As many rows as selected items: one of each, and it is the first.
 use mathlib.Core.Path.{◌∙◌}
 use Rattle.spec.specs.Model.{category}
-use Rattle.history.proofs.Observations.{head_of}
 use Rattle.latest.proofs.Laws.{first_count, first-all}
 use Rattle.latest.proofs.write_latest.Goals as goal
 
 pub write_firsts-requires : goal.write_firsts-requires
 write_firsts-requires c =
     record {
-      head = head_of c.items.ensures.0 _ c.requires.head;
-      m_le_max_items = c.items.ensures.1;
       k_value = (
         first_count (category c.args.model.now) _ _ _ c.requires.fact.1 c.requires.fact.0 c.requires.k_value
-            (c.if-k-count.true ∙ c.count.ensures.0) c.items.ensures.0,
+            (c.if-k-count.true ∙ c.count.ensures.0) c.requires.agree,
         c.requires.k_in_bounds,
       );
     }
@@ -20,4 +17,4 @@ write_firsts-requires c =
 pub returns-then-k-count : goal.returns-then-k-count
 returns-then-k-count c =
     first-all (category c.args.model.now) _ _ _ c.requires.fact.1 c.requires.fact.0 c.requires.k_value
-    (c.if-k-count.true ∙ c.count.ensures.0) c.items.ensures.0 _ c.write_firsts.ensures
+    (c.if-k-count.true ∙ c.count.ensures.0) c.requires.agree _ c.write_firsts.ensures

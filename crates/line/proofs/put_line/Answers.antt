@@ -6,6 +6,6 @@ use Rattle.line.proofs.put_line.Goals as goal
 pub returns : goal.returns
 unfolding line_of
 returns c =
-    put-append c.put_time-a.ensures
-    (put-append c.put_byte-b.ensures
-    (put-append c.put_decimal-c.ensures (put-append c.put_byte-d.ensures c.put_value.ensures)))
+    put-append c.put_time.ensures
+    (put-append c.put_byte.ensures
+    (put-append c.put_decimal.ensures (put-append c.put_byte-2.ensures c.put_value.ensures)))

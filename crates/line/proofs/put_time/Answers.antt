@@ -6,7 +6,7 @@ use Rattle.line.proofs.put_time.Goals as goal
 
 pub returns-then-t-eq0 : goal.returns-then-t-eq0
 returns-then-t-eq0 c =
-    rw (no-time _ c.if-t-eq0.true) (put-none _ _ (omega arith))
+    rw (no-time _ c.if-t-eq0.true) (put-none _ (omega arith))
 
 pub returns : goal.returns
 returns c =

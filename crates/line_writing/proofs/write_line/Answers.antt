@@ -1,54 +1,45 @@
 -- The tests decide, and behind them the line is written where there is room.
 use mathlib.Core.Path.{refl}
+use Rattle.std.proofs.lemmas.Result.{err_from_is_err_and}
 use Rattle.history.specs.Calls.{write_line}
-use Rattle.spec.proofs.Model.{checked}
-use Rattle.spec.proofs.Words.{told}
-use Rattle.line_writing.proofs.Laws.{item_refused, kind-refused, time-refused, passed, written_is}
+use Rattle.line_writing.proofs.Laws.{item_refused, kind-refused, time-refused, passed}
+use Rattle.writer.proofs.Whole.{written_is}
 use Rattle.line_writing.proofs.write_line.Goals as goal
 
-pub returns-then-not-model_ok : goal.returns-then-not-model_ok
+pub returns-in_err-words : goal.returns-in_err-words
 unfolding write_line
-returns-then-not-model_ok c =
-    rw (told c.model_ok.ensures c.if-not-model_ok.true) (refl, refl)
-
-pub items-requires : goal.items-requires
-items-requires c =
-    (checked _ _ (told c.model_ok.ensures c.if-not-model_ok.false)).sizes
+returns-in_err-words c =
+    let p = err_from_is_err_and c.from_residual.result c.from_residual.ensures.1 in
+    let n = rw c.in_err-words.was at c.checked.ensures in
+    rw (p.1, p.2, n.0, n.1) (refl, refl)
 
 pub returns-then-items-item : goal.returns-then-items-item
 returns-then-items-item c =
+    let n = rw c.in_ok-words.was at c.checked.ensures in
     rw
-    (item_refused _ _ _ _ _ _ (told c.model_ok.ensures c.if-not-model_ok.false) _
-    c.items.ensures.0 c.if-items-item.true)
+    (item_refused _ _ _ _ _ _ n.1 _ (rw n.0 at c.items.ensures.0) c.if-items-item.true)
     (refl, refl)
-
-pub category-requires : goal.category-requires
-category-requires c =
-    record {
-      sizes = (checked _ _ (told c.model_ok.ensures c.if-not-model_ok.false)).sizes;
-      j_bound = rw c.items.ensures.0 at c.if-items-item.false;
-    }
 
 pub returns-then-not-takes : goal.returns-then-not-takes
 returns-then-not-takes c =
+    let n = rw c.in_ok-words.was at c.checked.ensures in
     rw
-    (kind-refused _ _ _ _ _ _ (told c.model_ok.ensures c.if-not-model_ok.false) _
-    c.items.ensures.0 c.if-items-item.false _ c.category.ensures
-    c.takes.ensures c.if-not-takes.true)
+    (kind-refused _ _ _ _ _ _ n.1 _ (rw n.0 at c.items.ensures.0) c.if-items-item.false
+    _ (rw n.0 at c.category.ensures) c.takes.ensures c.if-not-takes.true)
     (refl, refl)
 
 pub returns-then-time-gt-MAX_TIME : goal.returns-then-time-gt-MAX_TIME
 returns-then-time-gt-MAX_TIME c =
+    let n = rw c.in_ok-words.was at c.checked.ensures in
     rw
-    (time-refused _ _ _ _ _ _ (told c.model_ok.ensures c.if-not-model_ok.false) _
-    c.items.ensures.0 c.if-items-item.false _ c.category.ensures
-    c.takes.ensures c.if-not-takes.false c.if-time-gt-MAX_TIME.true)
+    (time-refused _ _ _ _ _ _ n.1 _ (rw n.0 at c.items.ensures.0) c.if-items-item.false
+    _ (rw n.0 at c.category.ensures) c.takes.ensures c.if-not-takes.false c.if-time-gt-MAX_TIME.true)
     (refl, refl)
 
 pub returns : goal.returns
 returns c =
+    let n = rw c.in_ok-words.was at c.checked.ensures in
     rw
-    (passed _ _ _ _ _ _ (told c.model_ok.ensures c.if-not-model_ok.false) _
-    c.items.ensures.0 c.if-items-item.false _ c.category.ensures
-    c.takes.ensures c.if-not-takes.false c.if-time-gt-MAX_TIME.false)
+    (passed _ _ _ _ _ _ n.1 _ (rw n.0 at c.items.ensures.0) c.if-items-item.false
+    _ (rw n.0 at c.category.ensures) c.takes.ensures c.if-not-takes.false c.if-time-gt-MAX_TIME.false)
     (written_is _ _ (c.write_line.ensures.text_after, c.write_line.ensures.value))

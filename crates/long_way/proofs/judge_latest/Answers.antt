@@ -6,7 +6,7 @@ use Rattle.long_way.proofs.judge_latest.Goals as goal
 
 pub returns-then-cat-ne-CONDITION : goal.returns-then-cat-ne-CONDITION
 returns-then-cat-ne-CONDITION c =
-    c.requires.fact c.if-cat-ne-CONDITION.true
+    c.requires.new_if_plain c.if-cat-ne-CONDITION.true
 
 pub returns : goal.returns
 returns c =

@@ -1,8 +1,8 @@
 -- The verdict decides; room for a number is what an addition needs.
-use mathlib.Core.Path.{refl}
+use mathlib.Core.Path.{refl, sym}
 use native.Mathlib.Numerals.{add-one}
+use Rattle.std.proofs.lemmas.Result.{err_from_is_err_and}
 use Rattle.history.proofs.Observations.{head_of}
-use Rattle.spec.proofs.Words.{told}
 use Rattle.long_way.proofs.record.Goals as goal
 
 pub last-number-requires : goal.last-number-requires
@@ -12,17 +12,17 @@ last-number-requires c =
 pub add-requires : goal.add-requires
 add-requires c =
     record {
-      sizes = c.requires.sizes;
       head = c.requires.head;
-      st_value = told c.room_for-verdict.ensures c.in-Fine.is;
+      st_value = sym c.in_ok-room_for.ensures;
       item_bound = c.requires.item_bound;
       item_value = c.requires.item_value;
     }
 
-pub returns-in-Refused : goal.returns-in-Refused
-returns-in-Refused c =
-    rw (told c.room_for-verdict.ensures c.in-Refused.is) (refl, refl)
+pub returns-in_err-room_for : goal.returns-in_err-room_for
+returns-in_err-room_for c =
+    let p = err_from_is_err_and c.from_residual.result c.from_residual.ensures.1 in
+    rw (sym c.in_err-room_for.ensures, p.1, p.2) (refl, refl)
 
-pub returns-in-Fine : goal.returns-in-Fine
-returns-in-Fine c =
-    rw (told c.room_for-verdict.ensures c.in-Fine.is) (rw (c.last-number.ensures.is, add-one), c.add.ensures)
+pub returns : goal.returns
+returns c =
+    rw (sym c.in_ok-room_for.ensures) (rw (c.last-number.ensures.is, add-one), c.add.ensures)

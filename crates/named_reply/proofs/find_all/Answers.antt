@@ -1,34 +1,39 @@
 use native.Mathlib.Omega.{arith}
+use borrow.Author.Rules.{rules}
+use mathlib.Core.Path.{refl}
+use Rattle.spec.proofs.Found.{found-is, found-not}
 use Rattle.named_reply.proofs.Laws.{finding-none, finding-room, finding-missing, finding-more}
 use Rattle.named_reply.proofs.Laws.{finding-last}
 use Rattle.named_reply.proofs.find_all.Goals as goal
 
-pub loop-start-init : goal.loop-start-init
-loop-start-init c =
-    finding-none _ _ _ _ c.requires.start_in_bounds.0 c.requires.cells_len c.requires.text_value
+pub loop-cell-init : goal.loop-cell-init
+loop-cell-init c =
+    rw c.requires.none_found
+    (finding-none _ _ _ _ c.requires.start_in_bounds.0 (search rules) c.requires.text_value)
 
-pub returns-then-u-cell : goal.returns-then-u-cell
-returns-then-u-cell c =
-    finding-missing _ _ _ _ c.id_end-end.ensures.value c.loop-start.invariant
-    c.requires.start_in_bounds.1 c.id_end-end.ensures.lower_bound.1
-    c.find-cell.ensures.value (omega (arith, c.if-u-cell.true))
+pub returns-in_default : goal.returns-in_default
+returns-in_default c =
+    let e = finding-missing _ _ _ _ c.id_end-end.ensures.value c.loop-cell.invariant
+    c.requires.start_in_bounds.1 c.id_end-end.ensures.lower_bound.1 refl (found-not _ c.in_default.ensures.value) in
+    (refl, e)
 
-pub bounds-cells-k : goal.bounds-cells-k
-bounds-cells-k c =
-    finding-room _ _ _ _ c.id_end-end.ensures.value c.loop-start.invariant
-    c.requires.start_in_bounds.1 c.id_end-end.ensures.lower_bound.1
-    c.find-cell.ensures.value
+pub push-requires : goal.push-requires
+push-requires c =
+    let f = found-is _ c.in-Some.ensures.value in
+    finding-room _ _ _ _ c.id_end-end.ensures.value c.loop-cell.invariant
+    c.requires.start_in_bounds.1 c.id_end-end.ensures.lower_bound.1 f.0
 
 pub returns-then-text-end : goal.returns-then-text-end
 returns-then-text-end c =
-    finding-last _ _ _ _ c.id_end-end.ensures.value c.loop-start.invariant
-    c.requires.start_in_bounds.1 c.id_end-end.ensures.lower_bound.1
-    c.find-cell.ensures.value
-    (omega (arith, c.if-u-cell.false)) c.if-text-end.true
+    let f = found-is _ c.in-Some.ensures.value in
+    rw (c.push.ensures.count, c.push.ensures.cells)
+    (finding-last _ _ _ _ c.id_end-end.ensures.value c.loop-cell.invariant
+    c.requires.start_in_bounds.1 c.id_end-end.ensures.lower_bound.1 f.0 (omega arith) c.if-text-end.true
+    c.find.ensures.room)
 
-pub loop-start-preserved : goal.loop-start-preserved
-loop-start-preserved c =
-    finding-more _ _ _ _ c.id_end-end.ensures.value c.loop-start.invariant
-    c.requires.start_in_bounds.1 c.id_end-end.ensures.lower_bound.1
-    c.find-cell.ensures.value
-    (omega (arith, c.if-u-cell.false)) c.if-text-end.false
+pub loop-cell-preserved : goal.loop-cell-preserved
+loop-cell-preserved c =
+    let f = found-is _ c.in-Some.ensures.value in
+    rw (c.push.ensures.count, c.push.ensures.cells)
+    (finding-more _ _ _ _ c.id_end-end.ensures.value c.loop-cell.invariant
+    c.requires.start_in_bounds.1 c.id_end-end.ensures.lower_bound.1 f.0 (omega arith) c.if-text-end.false)

@@ -1,40 +1,19 @@
--- The ids found are those of the text; the rest is the reply of their cells.
-use Prim.Native.Nat.{ℕ}
-use lib.ListN.{drop, length-replicate}
-use Rattle.spec.specs.Bytes.{split}
-use Rattle.spec.specs.Assets.{max_assets}
+use Rattle.std.proofs.lemmas.Result.{err_from_is_err_and}
 use Rattle.reply.proofs.Laws.{both, passed}
-use Rattle.named_reply.proofs.Laws.{named-missing, named-found, told-missing, told-cells}
+use Rattle.named_reply.proofs.Laws.{named-missing, named-found}
 use Rattle.named_reply.proofs.reply_named.Goals as goal
 
-pub find_all-requires : goal.find_all-requires
-find_all-requires c =
-    record {
-      asset_head = c.requires.asset_head;
-      start_in_bounds = c.requires.start_in_bounds;
-      text_value = c.requires.text_value;
-      cells_len = length-replicate {A = ℕ} max_assets 0;
-    }
-
-pub returns-in_default : goal.returns-in_default
-returns-in_default c =
-    let a = c.args in
-    let f = c.find_all in
-    both _
-    (named-missing a.assets.now (split 59 (drop a.start a.text.now)) a.reply.now
-    (told-missing _ _ f.new.cells f.result f.ensures c.in_default.is))
+pub returns-in_err-find_all : goal.returns-in_err-find_all
+returns-in_err-find_all c =
+    let h = c.in_err-find_all.ensures in
+    let p = err_from_is_err_and c.from_residual.result c.from_residual.ensures.1 in
+    rw (p.1, p.2, h.0) (both _ (named-missing _ _ _ h.1))
 
 pub reply_cells-requires : goal.reply_cells-requires
 reply_cells-requires c =
-    let f = c.find_all in
-    let ids = split 59 (drop c.args.start c.args.text.now) in record {
-      asset_head = c.requires.asset_head;
-      cells = (told-cells c.args.assets.now ids f.new.cells f.result _ f.ensures c.in-Cells.is).0;
-    }
+    c.in_ok-find_all.ensures.0
 
 pub returns : goal.returns
 returns c =
-    let f = c.find_all in
-    let ids = split 59 (drop c.args.start c.args.text.now) in
-    let t = told-cells c.args.assets.now ids f.new.cells f.result _ f.ensures c.in-Cells.is in
-    passed _ _ (named-found c.args.assets.now ids c.args.reply.now _ t.1.0 t.1.1) c.reply_cells.ensures
+    let t = c.in_ok-find_all.ensures in
+    passed _ _ (named-found _ _ c.args.reply.now _ t.1.0 t.1.1) c.reply_cells.ensures

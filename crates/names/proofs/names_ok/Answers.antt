@@ -24,43 +24,30 @@ returns-then-not-cell_bytes c =
     no_names _ (λ h. false≢true (sym c.if-not-cell_bytes.true ∙ (c.cell_bytes.ensures ∙ names-bytes _ h)))
 
 pub loop-k-init : goal.loop-k-init
-loop-k-init c = (
-  omega arith,
-  (
-    sym c.cell_bytes.ensures ∙ c.if-not-cell_bytes.false,
-    names-start c.args.names.now c.if-l-lt1.false c.if-l-gt-MAX_BYTES.false c.if-l-ne0.false,
-  ),
-)
+loop-k-init c = names-start c.args.names.now c.if-l-lt1.false c.if-l-gt-MAX_BYTES.false c.if-l-ne0.false
 
 pub overflow_mul-at : goal.overflow_mul-at
 overflow_mul-at c =
-    omega (arith, cells_fit (length c.args.names.now) c.loop-k.k c.loop-k-test.true)
+    omega (arith, cells_fit (length c.args.names.now) c.loop-k.k)
 
 pub overflow_add-at : goal.overflow_add-at
 overflow_add-at c =
-    omega (arith, cells_fit (length c.args.names.now) c.loop-k.k c.loop-k-test.true)
+    omega (arith, cells_fit (length c.args.names.now) c.loop-k.k)
 
 pub returns-then-not-zeros_last : goal.returns-then-not-zeros_last
 returns-then-not-zeros_last c =
     let l = c.loop-k in
-    let w = c.loop-k-test.true in
-    every-no _ _ _ _ l.invariant.1.1 w
-    (cell_at c.args.names.now _ w _ _ l.invariant.1.0 c.zeros_last.ensures
-    c.if-not-zeros_last.true)
+    let b = sym c.cell_bytes.ensures ∙ c.if-not-cell_bytes.false in
+    every-no _ _ _ _ l.invariant (omega arith)
+    (cell_at c.args.names.now _ (omega arith) _ _ b c.zeros_last.ensures c.if-not-zeros_last.true)
 
 pub loop-k-preserved : goal.loop-k-preserved
 loop-k-preserved c =
     let l = c.loop-k in
-    let w = c.loop-k-test.true in (
-      omega arith,
-      (
-        l.invariant.1.0,
-        every-yes _ _ _ _ l.invariant.1.1 w
-            (cell_at c.args.names.now _ w _ _ l.invariant.1.0 c.zeros_last.ensures
-            c.if-not-zeros_last.false),
-      ),
-    )
+    let b = sym c.cell_bytes.ensures ∙ c.if-not-cell_bytes.false in
+    every-yes _ _ _ _ l.invariant (omega arith)
+    (cell_at c.args.names.now _ (omega arith) _ _ b c.zeros_last.ensures c.if-not-zeros_last.false)
 
 pub returns : goal.returns
 returns c =
-    every-end _ _ _ _ c.loop-k.invariant.1.1 c.loop-k-test.false
+    every-end _ _ _ _ c.loop-k.invariant (omega arith)

@@ -7,21 +7,15 @@ use Prim.Native.Nat.{◌+◌}
 use Rattle.names.proofs.zeros_last.Goals as goal
 
 pub loop-i-init : goal.loop-i-init
-loop-i-init c =
-    (omega arith, (omega arith, last-start c.args.cell.now))
+loop-i-init c = last-start c.args.cell.now
 
 pub loop-i-preserved : goal.loop-i-preserved
 loop-i-preserved c =
     let s = c.args.cell.now in
-    let l = c.loop-i in (
-      omega arith,
-      (
-        l.invariant.1.0,
-        every-keep (λ k. follows (get_or s k 0) (get_or s (k + 1) 0)) _ l.fine _ _ l.invariant.1.1 _
-            c.loop-i-test.true c.follows-fine.ensures,
-      ),
-    )
+    let l = c.loop-i in
+    every-keep (λ k. follows (get_or s k 0) (get_or s (k + 1) 0)) _ l.fine _ _ l.invariant _ (omega arith)
+    c.follows-fine.ensures
 
 pub returns : goal.returns
 returns c =
-    every-kept _ _ _ _ _ c.loop-i.invariant.1.1 c.loop-i-test.false
+    every-kept _ _ _ _ _ c.loop-i.invariant (omega arith)

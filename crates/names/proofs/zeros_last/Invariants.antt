@@ -1,18 +1,13 @@
--- The invariant: the answer so far and the pairs from i on decide the whole. The measure is how many pairs are left.
+-- The answer so far and the pairs from i on decide the whole.
 use Rattle.names.specs.Cells.{follows, zeros_last}
 use Rattle.spec.specs.Words.{every}
 use mathlib.Core.Bool.{◌&&◌}
-use lib.ListN.{length, get_or}
-use Prim.Native.Nat.{◌+◌, ◌-◌, ◌≤◌}
+use lib.ListN.{get_or}
+use Prim.Native.Nat.{◌+◌, ◌-◌}
 use mathlib.Core.Path.{◌≡◌}
 use Rattle.names.proofs.zeros_last.Given as goal
 
 abbrev pub invariant-loop-i : goal.invariant-loop-i
 invariant-loop-i l =
-    (l.i ≤ l.last)
-    × ((l.last ≡ length l.cell - 1)
-    × (zeros_last l.cell
-    ≡ (l.fine && every (λ k. follows (get_or l.cell k 0) (get_or l.cell (k + 1) 0)) (l.last - l.i) l.i)))
-
-abbrev pub decreases-loop-i : goal.decreases-loop-i
-decreases-loop-i l = l.last - l.i
+    zeros_last l.cell
+    ≡ (l.fine && every (λ k. follows (get_or l.cell k 0) (get_or l.cell (k + 1) 0)) (l.last - l.i) l.i)

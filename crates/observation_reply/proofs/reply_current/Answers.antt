@@ -1,61 +1,66 @@
 -- A row for each of the selected items, and the further ones that were counted, are written behind the sizes.
+use mathlib.Core.Path.{ap, ◌∙◌}
 use native.Mathlib.Omega.{arith}
 use Rattle.spec.specs.Model.{category}
-use Rattle.spec.proofs.Words.{told}
+use Rattle.std.proofs.lemmas.Result.{err_from_is_err_and}
+use Rattle.std.specs.Prelude.{is_ok}
 use Rattle.latest.proofs.Laws.{extra-few, extra-ok}
-use Rattle.reply.proofs.Laws.{behind, lends, both}
+use Rattle.reply.proofs.Laws.{behind, lends, both, none-of, some-of}
 use Rattle.observation_reply.proofs.Laws.{current-broken, current-many, current-short, current-whole}
 use Rattle.observation_reply.proofs.reply_current.Goals as goal
 
-pub returns-in_default : goal.returns-in_default
-returns-in_default c =
-    both _
-    (current-broken _ _ c.args.st.now c.args.selection c.args.reply.now
-    (told c.in_default.is c.extra.ensures))
+pub returns-in_err-extra : goal.returns-in_err-extra
+returns-in_err-extra c =
+    let p = err_from_is_err_and c.from_residual.result c.from_residual.ensures.1 in
+    let n = none-of c.extra.result c.ok_or.ensures.value c.in_err-extra.was in
+    rw (p.1, p.2, n.1)
+    (both _
+    (current-broken _ _ c.args.st.now c.args.selection c.args.reply.now (n.0 ∙ c.extra.ensures)))
 
 pub overflow_add-k : goal.overflow_add-k
 overflow_add-k c =
-    let n = told c.in-Count.is c.extra.ensures in
-    omega (arith, extra-few (category c.args.model.now) _ _ _ n c.requires.sizes.m_max)
+    let n = some-of c.extra.result _ c.ok_or.ensures.value c.in_ok-extra.was ∙ c.extra.ensures in
+    omega (arith, extra-few (category c.args.model.now) _ _ _ n c.slice.ensures.sizes.m_max)
 
 pub overflow_mul-k : goal.overflow_mul-k
 overflow_mul-k c =
-    let n = told c.in-Count.is c.extra.ensures in
-    omega (arith, extra-few (category c.args.model.now) _ _ _ n c.requires.sizes.m_max)
+    let n = some-of c.extra.result _ c.ok_or.ensures.value c.in_ok-extra.was ∙ c.extra.ensures in
+    omega (arith, extra-few (category c.args.model.now) _ _ _ n c.slice.ensures.sizes.m_max)
 
 pub fit_sizes-requires : goal.fit_sizes-requires
 fit_sizes-requires c =
-    let n = told c.in-Count.is c.extra.ensures in
-    omega (arith, extra-few (category c.args.model.now) _ _ _ n c.requires.sizes.m_max)
+    let n = some-of c.extra.result _ c.ok_or.ensures.value c.in_ok-extra.was ∙ c.extra.ensures in
+    omega (arith, extra-few (category c.args.model.now) _ _ _ n c.slice.ensures.sizes.m_max)
 
-pub returns-then-not-fit_sizes : goal.returns-then-not-fit_sizes
-returns-then-not-fit_sizes c =
-    let n = told c.in-Count.is c.extra.ensures in
-    both _
+pub returns-in_err-fit_sizes : goal.returns-in_err-fit_sizes
+returns-in_err-fit_sizes c =
+    let n = some-of c.extra.result _ c.ok_or.ensures.value c.in_ok-extra.was ∙ c.extra.ensures in
+    let w = c.in_err-fit_sizes.was in
+    let p = err_from_is_err_and c.from_residual-in_err-fit_sizes.result c.from_residual-in_err-fit_sizes.ensures.1 in
+    rw (p.1, p.2, c.fit_sizes.ensures.refused _ w)
+    (both _
     (current-short _ _ c.args.st.now c.args.selection c.args.reply.now n c.requires.selection_bound
-    c.count.ensures.0 c.first-first.ensures.is c.last-last.ensures.is c.fit_sizes.ensures
-    c.if-not-fit_sizes.true)
+    c.count.ensures.0 c.first-first.ensures.is c.last-last.ensures.is c.fit_sizes.ensures.fitted (ap is_ok w)))
 
 pub slice_bounds-write_latest-count : goal.slice_bounds-write_latest-count
 slice_bounds-write_latest-count c =
-    omega (arith, behind c.fit_sizes.ensures c.if-not-fit_sizes.false)
+    omega (arith, behind c.fit_sizes.ensures.fitted (ap is_ok c.in_ok-fit_sizes.was))
 
 pub write_latest-requires : goal.write_latest-requires
 write_latest-requires c =
-    let n = told c.in-Count.is c.extra.ensures in
+    let n = some-of c.extra.result _ c.ok_or.ensures.value c.in_ok-extra.was ∙ c.extra.ensures in
     record {
-      sizes = c.requires.sizes;
-      head = c.requires.head;
+      agree = c.requires.agree;
       fact = (c.requires.selection_bound, extra-ok (category c.args.model.now) _ _ _ n);
       k_value = current-many _ _ c.args.st.now c.args.selection c.args.reply.now n c.requires.selection_bound
           c.count.ensures.0;
-      k_in_bounds = lends c.fit_sizes.ensures c.if-not-fit_sizes.false _ (omega arith);
+      k_in_bounds = lends c.fit_sizes.ensures.fitted (ap is_ok c.in_ok-fit_sizes.was) _ (omega arith);
     }
 
 pub returns : goal.returns
 returns c =
-    let n = told c.in-Count.is c.extra.ensures in
+    let n = some-of c.extra.result _ c.ok_or.ensures.value c.in_ok-extra.was ∙ c.extra.ensures in
     both _
     (current-whole _ _ c.args.st.now c.args.selection c.args.reply.now n c.requires.selection_bound
-    c.count.ensures.0 c.first-first.ensures.is c.last-last.ensures.is c.fit_sizes.ensures _
-    c.if-not-fit_sizes.false c.write_latest.ensures)
+    c.count.ensures.0 c.first-first.ensures.is c.last-last.ensures.is c.fit_sizes.ensures.fitted _
+    (ap is_ok c.in_ok-fit_sizes.was) c.write_latest.ensures)

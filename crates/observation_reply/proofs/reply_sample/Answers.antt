@@ -1,66 +1,68 @@
 -- The rows that were counted are written behind the sizes.
-use mathlib.Core.Path.{sym, ◌∙◌}
+use mathlib.Core.Path.{ap, ◌∙◌}
 use native.Mathlib.Omega.{arith}
+use Rattle.std.proofs.lemmas.Result.{err_from_is_err_and}
+use Rattle.std.specs.Prelude.{is_ok}
+use Rattle.history.specs.Observations.{item_count}
 use Rattle.rows.proofs.Laws.{counted-count}
-use Rattle.reply.proofs.Laws.{behind, lends, both}
+use Rattle.reply.proofs.Laws.{behind, lends, both, none-of, some-of}
 use Rattle.observation_reply.proofs.Laws.{in-ring, in-ring-few, sample-broken, sample-short, sample-whole}
 use Rattle.observation_reply.proofs.reply_sample.Goals as goal
 
 pub count_rows-requires : goal.count_rows-requires
 count_rows-requires c =
     let r = in-ring c.args.st.now c.args.f c.args.e c.requires.st_bound.0 c.requires.st_bound.1.1 in
-    record {
-      head = c.requires.head;
-      m_le_max_items = (c.requires.m_le_max_items, r.0);
-      f_le_e = (c.requires.st_bound.1.0, r.1);
-    }
+    record { st_bound = (r.0, (c.requires.st_bound.1.0, r.1)) }
 
-pub returns-in_default : goal.returns-in_default
-returns-in_default c =
-    let n = sym c.in_default.is ∙ c.count_rows.ensures in
-    both _
-    (sample-broken c.args.m c.args.st.now c.args.selection c.args.f c.args.e
-    c.args.reply.now n)
+pub returns-in_err-k : goal.returns-in_err-k
+returns-in_err-k c =
+    let p = err_from_is_err_and c.from_residual.result c.from_residual.ensures.1 in
+    let n = none-of c.count_rows.result c.ok_or.ensures.value c.in_err-k.was in
+    rw (p.1, p.2, n.1)
+    (both _
+    (sample-broken (item_count c.args.st.now) c.args.st.now c.args.selection c.args.f c.args.e
+    c.args.reply.now (n.0 ∙ c.count_rows.ensures)))
 
 pub overflow_mul-k : goal.overflow_mul-k
 overflow_mul-k c =
-    let n = sym c.in-Count.is ∙ c.count_rows.ensures in
-    omega (arith, in-ring-few _ _ _ _ _ c.requires.head c.requires.st_bound.0 c.requires.st_bound.1.1 n)
+    let n = some-of c.count_rows.result _ c.ok_or.ensures.value c.in_ok-k.was ∙ c.count_rows.ensures in
+    omega (arith, in-ring-few _ _ _ _ _ c.slice.ensures.head.head c.requires.st_bound.0 c.requires.st_bound.1.1 n)
 
 pub fit_sizes-requires : goal.fit_sizes-requires
 fit_sizes-requires c =
-    let n = sym c.in-Count.is ∙ c.count_rows.ensures in
-    omega (arith, in-ring-few _ _ _ _ _ c.requires.head c.requires.st_bound.0 c.requires.st_bound.1.1 n)
+    let n = some-of c.count_rows.result _ c.ok_or.ensures.value c.in_ok-k.was ∙ c.count_rows.ensures in
+    omega (arith, in-ring-few _ _ _ _ _ c.slice.ensures.head.head c.requires.st_bound.0 c.requires.st_bound.1.1 n)
 
-pub returns-then-not-fit_sizes : goal.returns-then-not-fit_sizes
-returns-then-not-fit_sizes c =
-    let n = sym c.in-Count.is ∙ c.count_rows.ensures in
-    both _
-    (sample-short c.args.m c.args.st.now c.args.selection c.args.f c.args.e
-    c.args.reply.now n c.first-first.ensures.is c.last-last.ensures.is c.fit_sizes.ensures c.if-not-fit_sizes.true)
+pub returns-in_err-fit_sizes : goal.returns-in_err-fit_sizes
+returns-in_err-fit_sizes c =
+    let n = some-of c.count_rows.result _ c.ok_or.ensures.value c.in_ok-k.was ∙ c.count_rows.ensures in
+    let w = c.in_err-fit_sizes.was in
+    let p = err_from_is_err_and c.from_residual-in_err-fit_sizes.result c.from_residual-in_err-fit_sizes.ensures.1 in
+    rw (p.1, p.2, c.fit_sizes.ensures.refused _ w)
+    (both _
+    (sample-short (item_count c.args.st.now) c.args.st.now c.args.selection c.args.f c.args.e
+    c.args.reply.now n c.first-first.ensures.is c.last-last.ensures.is c.fit_sizes.ensures.fitted (ap is_ok w)))
 
 pub slice_bounds-write_rows-count : goal.slice_bounds-write_rows-count
 slice_bounds-write_rows-count c =
-    omega (arith, behind c.fit_sizes.ensures c.if-not-fit_sizes.false)
+    omega (arith, behind c.fit_sizes.ensures.fitted (ap is_ok c.in_ok-fit_sizes.was))
 
 pub write_rows-requires : goal.write_rows-requires
 write_rows-requires c =
     let r = in-ring c.args.st.now c.args.f c.args.e c.requires.st_bound.0 c.requires.st_bound.1.1 in
-    let g = counted-count c.args.m c.args.st.now c.args.selection c.args.f c.args.e
-    (sym c.in-Count.is ∙ c.count_rows.ensures) in
-    let y = c.if-not-fit_sizes.false in
+    let g = counted-count (item_count c.args.st.now) c.args.st.now c.args.selection c.args.f c.args.e
+    (some-of c.count_rows.result _ c.ok_or.ensures.value c.in_ok-k.was ∙ c.count_rows.ensures) in
+    let y = (ap is_ok c.in_ok-fit_sizes.was) in
     record {
-      head = c.requires.head;
-      m_le_max_items = (c.requires.m_le_max_items, r.0);
-      f_le_e = (c.requires.st_bound.1.0, r.1);
+      st_bound = (r.0, (c.requires.st_bound.1.0, r.1));
       e_value = g.0;
-      k_value = (g.1, lends c.fit_sizes.ensures y _ (omega arith));
+      k_value = (g.1, lends c.fit_sizes.ensures.fitted y _ (omega arith));
     }
 
 pub returns : goal.returns
 returns c =
-    let n = sym c.in-Count.is ∙ c.count_rows.ensures in
+    let n = some-of c.count_rows.result _ c.ok_or.ensures.value c.in_ok-k.was ∙ c.count_rows.ensures in
     both _
-    (sample-whole c.args.m c.args.st.now c.args.selection c.args.f c.args.e
-    c.args.reply.now n c.first-first.ensures.is c.last-last.ensures.is c.fit_sizes.ensures _
-    c.if-not-fit_sizes.false c.write_rows.ensures)
+    (sample-whole (item_count c.args.st.now) c.args.st.now c.args.selection c.args.f c.args.e
+    c.args.reply.now n c.first-first.ensures.is c.last-last.ensures.is c.fit_sizes.ensures.fitted _
+    (ap is_ok c.in_ok-fit_sizes.was) c.write_rows.ensures)

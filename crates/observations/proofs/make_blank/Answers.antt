@@ -18,4 +18,4 @@ bounds-st-3 c =
 
 pub returns : goal.returns
 returns c =
-    rw c.clear.ensures (blank-words _ _ _ _ c.requires.st_len)
+    rw (c.fill.ensures.after (λ y e. e)) (blank-words _ _ _ _ c.requires.st_len)

@@ -1,43 +1,16 @@
-use Rattle.passes.proofs.Laws.{front-no, both, run-to}
-use native.Mathlib.Omega.{arith}
-use borrow.Author.Rules.{rules}
+use mathlib.Core.Path.{ap}
+use Rattle.std.specs.Prelude.{is_some}
+use Rattle.passes.proofs.Laws.{front-no, both}
 use Rattle.passes.proofs.pass.Goals as goal
 
-pub pass_run-requires : goal.pass_run-requires
-pass_run-requires c =
-    let w = c.requires.m_le_max_items in
-    record {
-      head = c.requires.head;
-      m_le_max_items = (w.0, record { seen = w.1.0; picks = search rules; marks = w.1.1 });
-      part = record {
-        run = c.runs-r.ensures.front;
-        from = omega arith;
-        near = omega (arith, c.runs-r.ensures.low, c.runs-r.ensures.high, c.requires.st_bound.1.1);
-      };
-    }
-
-pub returns-then-not-pass_run : goal.returns-then-not-pass_run
-returns-then-not-pass_run c =
-    front-no c.runs-r.ensures.low c.runs-r.ensures.high c.pass_run.ensures c.if-not-pass_run.true
-
-pub pass_run-requires-2 : goal.pass_run-requires-2
-pass_run-requires-2 c =
-    let w = c.requires.m_le_max_items in
-    record {
-      head = c.requires.head;
-      m_le_max_items = (
-        w.0,
-        record { seen = omega (arith, w.1.0); picks = search rules; marks = omega (arith, w.1.1) },
-      );
-      part = record {
-        run = run-to c.runs-r.ensures.back (omega (arith, c.runs-r.ensures.high))
-            (omega (arith, c.runs-r.ensures.high));
-        from = c.runs-r.ensures.low;
-        near = omega (arith, c.runs-r.ensures.high, c.requires.st_bound.1.1);
-      };
-    }
+pub returns-in_err-pass_run : goal.returns-in_err-pass_run
+returns-in_err-pass_run c =
+    let r = c.runs.ensures in
+    rw c.from_residual.ensures
+    (front-no r.low r.high (rw r.begins at c.pass_run.ensures) (ap is_some c.in_err-pass_run.was))
 
 pub returns : goal.returns
 returns c =
-    both c.runs-r.ensures.low c.runs-r.ensures.high c.pass_run.ensures c.if-not-pass_run.false
-    c.pass_run-2.ensures
+    let r = c.runs.ensures in
+    both r.low r.high (rw r.begins at c.pass_run.ensures) (ap is_some c.in_ok-pass_run.was)
+    (rw (r.meets, r.ends) at c.pass_run-2.ensures)

@@ -1,21 +1,22 @@
+use Prim.Native.Nat.{◌+◌, ◌-◌}
+use mathlib.Core.Path.{◌≡◌, refl, sym, ◌∙◌}
+use native.Mathlib.Omega.{arith}
 use Rattle.passes.proofs.Laws.{skipping-start, skipping-more}
-use mathlib.Core.Path.{refl, sym, ◌∙◌}
 use Rattle.passes.proofs.plain_run.Goals as goal
 
-pub loop-x-init : goal.loop-x-init
-loop-x-init c =
-    skipping-start _ _ _ _ _ _ _ _ c.requires.part.run c.requires.s_le_e c.requires.m_le_max_items.1
+pub loop-number-init : goal.loop-number-init
+loop-number-init c =
+    let r = c.args.run in
+    let q : r.place + (r.from - r.from) ≡ r.place = omega arith in
+    rw q (skipping-start _ _ _ _ _ _ _ _ c.requires.part.run c.requires.from_le_to c.requires.seen_len)
 
-pub returns-then-m-i : goal.returns-then-m-i
-returns-then-m-i c =
-    let v = c.loop-x.invariant in record { lower_bound = (v.low, v.high); skipped = v.skipped }
-
-pub loop-x-preserved : goal.loop-x-preserved
-loop-x-preserved c =
-    skipping-more c.loop-x.invariant c.loop-x-test.true c.ring_size-n.ensures.is
-    c.ring_word.ensures c.item_of-i.ensures c.if-m-i.false (sym c.has.ensures ∙
-    c.if-has.false) refl
-
-pub returns : goal.returns
-returns c =
-    let v = c.loop-x.invariant in record { lower_bound = (v.low, v.high); skipped = v.skipped }
+pub loop-number-preserved : goal.loop-number-preserved
+loop-number-preserved c =
+    let r = c.args.run in
+    let q : r.place + (c.loop-number.number + 1 - r.from) ≡ r.place + (c.loop-number.number - r.from) + 1 =
+    omega arith in
+    let w = rw c.slice-words.ensures.value at c.ring_word-word.ensures in
+    rw q
+    (skipping-more c.loop-number.invariant c.loop-number-test.true c.ring_size-n.ensures.is w
+    c.item_of-i.ensures (rw c.items-m.ensures.0 at c.if-m-i.false) (sym c.has.ensures ∙
+    c.if-has.false) refl)

@@ -1,35 +1,39 @@
-use Rattle.picks.specs.Picks.{block}
-use Rattle.picks.proofs.Gathers.{gathering-start, gathering-broken, gathering-more, gathering-end}
+use Prim.Native.Nat.{◌+◌, ◌-◌}
 use mathlib.Core.Bool.{false≢true}
-use lib.ListN.{length-set}
-use mathlib.Core.Path.{refl, sym, ◌∙◌}
+use mathlib.Core.Path.{◌≡◌, refl}
+use native.Mathlib.Omega.{arith}
+use Rattle.picks.proofs.Gathers.{gathering-start, gathering-broken, gathering-more, gathering-end}
 use Rattle.picks.proofs.gather.Goals as goal
 
-pub loop-x-init : goal.loop-x-init
-loop-x-init c =
-    gathering-start _ _ _ _ _ _ _ _ _ c.requires.part.run c.requires.s_le_e.0 c.requires.m_le_max_items.1.0
-    c.requires.m_le_max_items.1.1
+pub loop-number-init : goal.loop-number-init
+loop-number-init c =
+    let r = c.args.run in
+    let q : r.place + (r.from - r.from) ≡ r.place = omega arith in
+    rw q
+    (gathering-start _ _ _ _ _ _ _ _ _ c.requires.part.run c.requires.from_le_to.0 c.requires.room.0
+    c.requires.room.1)
 
 pub returns-then-m-i : goal.returns-then-m-i
 returns-then-m-i c =
+    let w = rw c.slice-words.ensures.value at c.ring_word.ensures in
     record {
-      value = gathering-broken c.loop-x.invariant c.loop-x-test.true c.ring_size-n.ensures.is
-          c.ring_word.ensures c.item_of-i.ensures c.if-m-i.true;
+      value = gathering-broken c.loop-number.invariant c.loop-number-test.true c.ring_size-n.ensures.is
+          w c.item_of-i.ensures (rw c.items-m.ensures.0 at c.if-m-i.true);
       gathered = λ z. absurd (false≢true z);
     }
 
-pub loop-x-preserved : goal.loop-x-preserved
-loop-x-preserved c =
-    gathering-more c.loop-x.invariant c.loop-x-test.true c.ring_size-n.ensures.is
-    c.ring_word.ensures c.item_of-i.ensures c.if-m-i.false c.requires.s_le_e.1 refl refl
-    c.bit_of-c.ensures
-
-pub shape_of-picks : goal.shape_of-picks
-shape_of-picks c =
-    let v = c.loop-x.invariant in
-    length-set c.loop-x.picks c.loop-x.c block ∙ (v.room ∙ sym c.requires.m_le_max_items.1.1)
+pub loop-number-preserved : goal.loop-number-preserved
+loop-number-preserved c =
+    let r = c.args.run in
+    let q : r.place + (c.loop-number.number + 1 - r.from) ≡ r.place + (c.loop-number.number - r.from) + 1 =
+    omega arith in
+    let w = rw c.slice-words.ensures.value at c.ring_word.ensures in
+    rw q
+    (gathering-more c.loop-number.invariant c.loop-number-test.true c.ring_size-n.ensures.is
+    w c.item_of-i.ensures (rw c.items-m.ensures.0 at c.if-m-i.false) c.requires.from_le_to.1 refl refl
+    c.bit_of-count.ensures)
 
 pub returns : goal.returns
 returns c =
-    let w = gathering-end c.loop-x.invariant c.loop-x-test.false c.requires.s_le_e.1 in
+    let w = gathering-end c.loop-number.invariant c.loop-number-test.false c.requires.from_le_to.1 in
     record { value = w.0; gathered = λ z. w.1 }

@@ -1,9 +1,9 @@
+use Prim.Native.Nat.{◌+◌, ◌-◌}
+use Rattle.history.specs.Observations.{item_count}
 use Rattle.picks.proofs.Gathers.{Gathering}
-use Prim.Native.Nat.{◌-◌}
 use Rattle.picks.proofs.gather.Given as goal
 
-abbrev pub invariant-loop-x : goal.invariant-loop-x
-invariant-loop-x l = Gathering l.steps l.m l.st l.f l.s l.e l.initial.seen l.seen l.picks l.c l.x l.q
-
-abbrev pub decreases-loop-x : goal.decreases-loop-x
-decreases-loop-x l = l.e - l.x
+abbrev pub invariant-loop-number : goal.invariant-loop-number
+invariant-loop-number l =
+    Gathering l.steps (item_count l.st) l.st l.f l.run.from l.run.to l.initial.seen l.seen l.picks l.count l.number
+    (l.run.place + (l.number - l.run.from))

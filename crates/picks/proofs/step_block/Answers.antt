@@ -1,35 +1,23 @@
+use mathlib.Core.Path.{ap}
+use Rattle.std.specs.Prelude.{is_some}
+use Rattle.history.specs.Observations.{item_count}
 use Rattle.picks.proofs.Gathers.{block-broken, block-picks, block-passed}
 use Rattle.picks.proofs.step_block.Goals as goal
 
-pub gather-requires : goal.gather-requires
-gather-requires c =
-    let w = c.requires.m_le_max_items in
-    record {
-      head = c.requires.head;
-      m_le_max_items = (w.0, (w.1.seen, w.1.picks));
-      part = c.requires.part;
-      s_le_e = c.requires.s_le_e;
-    }
+pub returns-in_err-gather : goal.returns-in_err-gather
+returns-in_err-gather c =
+    rw c.from_residual.ensures
+    (block-broken c.args.steps (item_count c.args.st.now) c.args.st.now c.args.f c.args.run.from c.args.run.to
+    c.args.marks.now c.gather.ensures.value (ap is_some c.in_err-gather.was))
 
-pub returns-then-not-gather : goal.returns-then-not-gather
-returns-then-not-gather c =
-    block-broken c.args.steps c.args.m c.args.st.now c.args.f c.args.s c.args.e
-    c.args.marks.now c.gather.ensures.value c.if-not-gather.true
-
-pub step_picks-requires : goal.step_picks-requires
-step_picks-requires c =
-    let y = c.if-not-gather.false in
-    let g = c.gather.ensures.gathered y in record {
-      head = c.requires.head;
-      m_le_max_items = (c.requires.m_le_max_items.0, c.requires.m_le_max_items.1.marks);
-      f_le_s = (c.requires.part.from, g.ended);
-      each = block-picks c.args.steps c.args.m
-          c.args.st.now c.args.f c.args.s c.args.e c.gather.ensures.value y g c.requires.part;
-    }
+pub step_picks-requires-clause-each : goal.step_picks-requires-clause-each
+step_picks-requires-clause-each c =
+    let y = ap is_some c.in_ok-gather.was in
+    block-picks c.args.steps (item_count c.args.st.now) c.args.st.now c.args.f c.args.run.from c.args.run.to c.gather.ensures.value y
+    (c.gather.ensures.gathered y) c.requires.part
 
 pub returns : goal.returns
 returns c =
-    let y = c.if-not-gather.false in
-    let g = c.gather.ensures.gathered y in
-    block-passed c.args.steps c.args.m c.args.st.now c.args.f c.args.s c.args.e c.gather.ensures.value y g
-    c.args.marks.now c.step_picks.ensures.value c.step_picks.ensures.marks_after
+    let y = ap is_some c.in_ok-gather.was in
+    block-passed c.args.steps (item_count c.args.st.now) c.args.st.now c.args.f c.args.run.from c.args.run.to c.gather.ensures.value y
+    (c.gather.ensures.gathered y) c.args.marks.now c.step_picks.ensures.value c.step_picks.ensures.marks_after

@@ -14,7 +14,6 @@ returns-then-s-gt-MAX_NUMBER c =
 pub evict_plain-requires : goal.evict_plain-requires
 evict_plain-requires c =
     record {
-      sizes = c.requires.sizes;
       in_ring = next-ring c.ring_size-n.ensures.is c.base-b.ensures c.last-s.ensures.is c.requires.head;
     }
 

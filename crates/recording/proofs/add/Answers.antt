@@ -9,7 +9,6 @@ write-requires c =
     c.requires.st_value in
     let f = latest-form _ _ _ _ _ c.requires.item_value in
     record {
-      sizes = c.requires.sizes;
       overwriting = o;
       in_table = latest-in o c.requires.item_bound (rw c.ring_size-n.ensures.is f);
     }

@@ -6,7 +6,6 @@ use Rattle.recording.proofs.write.Goals as goal
 pub set_newest-requires : goal.set_newest-requires
 set_newest-requires c =
     record {
-      sizes = c.requires.sizes;
       in_table = still-in _ _ _ _ _ _ c.requires.overwriting _ _ _ _ _ _ _ c.evict.ensures c.place-p.ensures.low
           c.put_ring.ensures c.latest_at-latest.ensures c.requires.in_table;
     }

@@ -7,11 +7,7 @@ pub returns-then-not-words_ok : goal.returns-then-not-words_ok
 returns-then-not-words_ok c =
     reply-short _ _ (told c.words_ok.ensures c.if-not-words_ok.true)
 
-pub rows_ok-requires : goal.rows_ok-requires
-rows_ok-requires c =
-    (c.requires, told c.words_ok.ensures c.if-not-words_ok.false)
-
 pub returns : goal.returns
 returns c =
     reply-tested _ _ (told c.words_ok.ensures c.if-not-words_ok.false)
-    c.rows_ok.ensures
+    c.all_rows.ensures

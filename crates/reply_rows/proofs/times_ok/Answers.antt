@@ -8,4 +8,4 @@ returns-then-creation-gt-MAX_TIME c =
 
 pub returns : goal.returns
 returns c =
-    times-tested _ _ c.if-creation-gt-MAX_TIME.false c.row_times_ok.ensures
+    times-tested _ _ c.if-creation-gt-MAX_TIME.false c.all_rows.ensures

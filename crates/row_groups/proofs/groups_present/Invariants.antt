@@ -1,5 +1,4 @@
--- The invariant: the marks are those of the first i rows. The measure is the rows left.
-use Prim.Native.Nat.{◌-◌, ◌≤◌}
+-- The marks are those of the first i rows.
 use mathlib.Core.List.{map}
 use lib.ListN.{take}
 use Rattle.spec.specs.Reply.{rows_of}
@@ -8,7 +7,4 @@ use Rattle.row_groups.specs.Groups.{Marked}
 use Rattle.row_groups.proofs.groups_present.Given as goal
 
 abbrev pub invariant-loop-i : goal.invariant-loop-i
-invariant-loop-i l = (l.i ≤ l.k) × Marked l.model (map row_in (take l.i (rows_of l.reply))) l.present
-
-abbrev pub decreases-loop-i : goal.decreases-loop-i
-decreases-loop-i l = l.k - l.i
+invariant-loop-i l = Marked l.model (map row_in (take l.i (rows_of l.reply))) l.present

@@ -20,4 +20,4 @@ returns c =
     let says = mark-says _ _ _ c.requires.marked a.c a.g inside.0 inside.1 in
     group-put a.model.now a.names.now a.g (kept a.model.now a.c a.g (reply_rows a.reply.now))
     (sym says ∙ (sym c.is_marked.ensures ∙ c.if-not-is_marked.false))
-    c.put_start-p.ensures c.put_rows-q.ensures c.put_end.ensures
+    c.put_start.ensures c.put_rows.ensures c.put_end.ensures

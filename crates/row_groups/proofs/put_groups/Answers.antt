@@ -7,8 +7,8 @@ use Rattle.row_groups.specs.Groups.{reply_rows, kept}
 use Rattle.row_groups.proofs.Laws.{three-put}
 use Rattle.row_groups.proofs.put_groups.Goals as goal
 
-pub put_group-requires : goal.put_group-requires
-put_group-requires c =
+pub put_group-requires-3 : goal.put_group-requires-3
+put_group-requires-3 c =
     record {
       documented = c.requires.documented;
       marked = c.requires.marked;
@@ -20,4 +20,4 @@ returns c =
     let a = c.args in
     let f : ℕ → List (List ℕ) =
     λ g. group_lines a.model.now a.names.now g (kept a.model.now a.c g (reply_rows a.reply.now)) in
-    three-put f c.put_group-p.ensures c.put_group-q.ensures c.put_group.ensures
+    three-put f c.put_group.ensures c.put_group-2.ensures c.put_group-3.ensures

@@ -1,5 +1,4 @@
--- The invariant: the lines of the first i rows are put. The measure is the rows left.
-use Prim.Native.Nat.{◌-◌, ◌≤◌}
+-- The lines of the first i rows are put.
 use mathlib.Core.List.{map}
 use lib.ListN.{take}
 use Rattle.spec.specs.Reply.{rows_of}
@@ -10,8 +9,4 @@ use Rattle.row_groups.proofs.put_rows.Given as goal
 
 abbrev pub invariant-loop-i : goal.invariant-loop-i
 invariant-loop-i l =
-    let text = kept_text l.model l.names l.c l.g (map row_in (take l.i (rows_of l.reply))) in
-    (l.i ≤ l.k) × Put l.initial.out l.at text l.out l.p
-
-abbrev pub decreases-loop-i : goal.decreases-loop-i
-decreases-loop-i l = l.k - l.i
+    Put l.initial.out (kept_text l.model l.names l.c l.g (map row_in (take l.i (rows_of l.reply)))) l.out

@@ -7,4 +7,4 @@ pub returns : goal.returns
 unfolding row_attributes
 returns c =
     rw c.item_of.ensures at
-    (put-append c.put_number-p.ensures (put-append c.put_number-q.ensures c.put_time.ensures))
+    (put-append c.put_number.ensures (put-append c.put_number-2.ensures c.put_time.ensures))

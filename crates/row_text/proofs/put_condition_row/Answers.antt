@@ -6,8 +6,8 @@ use Rattle.row_text.proofs.put_condition_row.Goals as goal
 pub returns : goal.returns
 returns c =
     condition-put _ _ _ c.decode-v.ensures
-    (put-append c.put_byte-a.ensures
-    (put-append c.put_state-b.ensures
-    (put-append c.put_attributes-c.ensures
-    (put-append c.put_text-d.ensures
-    (put-append c.put_native-e.ensures c.put_bytes.ensures)))))
+    (put-append c.put_byte.ensures
+    (put-append c.put_state.ensures
+    (put-append c.put_attributes.ensures
+    (put-append c.put_text.ensures
+    (put-append c.put_native.ensures c.put_bytes.ensures)))))

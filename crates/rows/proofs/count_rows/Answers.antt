@@ -4,25 +4,30 @@ use native.Mathlib.Omega.{arith}
 use Rattle.rows.proofs.Laws.{front-broken, counted-few, back-broken, both-counted}
 use Rattle.rows.proofs.count_rows.Goals as goal
 
-pub returns-in_default : goal.returns-in_default
-returns-in_default c =
-    front-broken _ _ _ _ _ _ c.runs-r.ensures.low c.runs-r.ensures.high
-    (sym c.in_default.is ∙ c.count_run-front.ensures)
+pub returns-in_err-before : goal.returns-in_err-before
+returns-in_err-before c =
+    let r = c.runs.ensures in
+    let x = rw r.begins at c.count_run.ensures in
+    c.from_residual.ensures ∙ front-broken _ _ _ _ _ _ r.low r.high (sym c.in_err-before.was ∙ x)
 
-pub returns-in_default-back : goal.returns-in_default-back
-returns-in_default-back c =
-    let x = sym c.in-Count.is ∙ c.count_run-front.ensures in
-    back-broken _ _ _ _ _ _ c.runs-r.ensures.low c.runs-r.ensures.high x
-    (sym c.in_default-back.is ∙ c.count_run-back.ensures)
+pub returns-in_err-behind : goal.returns-in_err-behind
+returns-in_err-behind c =
+    let r = c.runs.ensures in
+    let x = rw r.begins at c.count_run.ensures in
+    let y = rw (r.meets, r.ends) at c.count_run-2.ensures in
+    c.from_residual-in_err-behind.ensures
+    ∙ back-broken _ _ _ _ _ _ r.low r.high (sym c.in_ok-before.was ∙ x) (sym c.in_err-behind.was ∙ y)
 
 pub overflow_add-result : goal.overflow_add-result
 overflow_add-result c =
-    let x = counted-few _ _ _ _ _ (sym c.in-Count.is ∙ c.count_run-front.ensures) in
-    let y = counted-few _ _ _ _ _ (sym c.in-Count-back.is ∙ c.count_run-back.ensures) in
-    omega (arith, c.runs-r.ensures.low, c.runs-r.ensures.high)
+    let r = c.runs.ensures in
+    let x = counted-few _ _ _ _ _ (sym c.in_ok-before.was ∙ c.count_run.ensures) in
+    let y = counted-few _ _ _ _ _ (sym c.in_ok-behind.was ∙ c.count_run-2.ensures) in
+    omega (arith, r.low, r.high, r.begins, r.meets, r.ends)
 
 pub returns : goal.returns
 returns c =
-    let x = sym c.in-Count.is ∙ c.count_run-front.ensures in
-    both-counted _ _ _ _ _ _ c.runs-r.ensures.low c.runs-r.ensures.high x
-    (sym c.in-Count-back.is ∙ c.count_run-back.ensures)
+    let r = c.runs.ensures in
+    let x = rw r.begins at c.count_run.ensures in
+    let y = rw (r.meets, r.ends) at c.count_run-2.ensures in
+    both-counted _ _ _ _ _ _ r.low r.high (sym c.in_ok-before.was ∙ x) (sym c.in_ok-behind.was ∙ y)

@@ -1,36 +1,36 @@
 -- The rows of two runs, one behind the other, are the rows of all the numbers.
+use Rattle.history.specs.Observations.{item_count}
 use Rattle.rows.proofs.Laws.{front-ok, back-ok, front_fits, back_fits, as_long, both-written}
 use Rattle.rows.proofs.write_rows.Goals as goal
 
-pub write_run-done-requires : goal.write_run-done-requires
-write_run-done-requires c =
-    let st = c.args.st.now in
-    let ok = front-ok c.args.m st _ _ _ c.runs-r.ensures.low c.runs-r.ensures.high c.requires.e_value in
-    let fits = front_fits st c.args.selection _ _ _ _ c.runs-r.ensures.low c.runs-r.ensures.high c.requires.k_value.0 in
-    record {
-      head = c.requires.head;
-      m_le_max_items = c.requires.m_le_max_items.0;
-      run = c.runs-r.ensures.front;
-      e_value = ok;
-      e_bound = (fits, c.requires.k_value.1);
-    }
+pub write_run-done-requires-clause-e_value : goal.write_run-done-requires-clause-e_value
+write_run-done-requires-clause-e_value c =
+    let r = c.runs.ensures in
+    rw r.begins (front-ok (item_count c.args.st.now) c.args.st.now _ _ _ r.low r.high c.requires.e_value)
 
-pub write_run-requires : goal.write_run-requires
-write_run-requires c =
-    let st = c.args.st.now in
-    let ok = back-ok c.args.m st _ _ _ c.runs-r.ensures.low c.runs-r.ensures.high c.requires.e_value in
-    let fits = back_fits st c.args.selection _ _ _ _ c.runs-r.ensures.low c.runs-r.ensures.high c.requires.k_value.0
-    c.write_run-done.ensures.value in
-    record {
-      head = c.requires.head;
-      m_le_max_items = c.requires.m_le_max_items.0;
-      run = c.runs-r.ensures.back;
-      e_value = ok;
-      e_bound = (fits, as_long _ _ _ _ _ _ c.write_run-done.ensures.out_after c.requires.k_value.1);
-    }
+pub write_run-done-requires-clause-e_bound : goal.write_run-done-requires-clause-e_bound
+write_run-done-requires-clause-e_bound c =
+    let r = c.runs.ensures in
+    rw r.begins (front_fits c.args.st.now c.args.selection _ _ _ _ r.low r.high c.requires.k_value.0, c.requires.k_value.1)
+
+pub write_run-requires-clause-e_value : goal.write_run-requires-clause-e_value
+write_run-requires-clause-e_value c =
+    let r = c.runs.ensures in
+    rw (r.meets, r.ends) (back-ok (item_count c.args.st.now) c.args.st.now _ _ _ r.low r.high c.requires.e_value)
+
+pub write_run-requires-clause-e_bound : goal.write_run-requires-clause-e_bound
+write_run-requires-clause-e_bound c =
+    let r = c.runs.ensures in
+    let x = rw r.begins at c.write_run-done.ensures.value in
+    rw (r.meets, r.ends) (
+      back_fits c.args.st.now c.args.selection _ _ _ _ r.low r.high c.requires.k_value.0 x,
+      as_long _ _ _ _ _ _ c.write_run-done.ensures.out_after c.requires.k_value.1,
+    )
 
 pub returns : goal.returns
 returns c =
-    both-written c.args.st.now c.args.selection _ _ _ _ c.runs-r.ensures.low c.runs-r.ensures.high
-    c.requires.k_value.0 c.write_run-done.ensures.value _ _ _ c.write_run-done.ensures.out_after
-    c.write_run.ensures.out_after
+    let r = c.runs.ensures in
+    let x = rw r.begins at c.write_run-done.ensures.value in
+    let y = rw r.begins at c.write_run-done.ensures.out_after in
+    let z = rw (r.meets, r.ends) at c.write_run.ensures.out_after in
+    both-written c.args.st.now c.args.selection _ _ _ _ r.low r.high c.requires.k_value.0 x c.args.out.now _ _ y z

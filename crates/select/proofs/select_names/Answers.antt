@@ -1,37 +1,29 @@
--- One law for each way out: no such type, the first form, the second without and with items.
-use Rattle.select.proofs.Laws.{type-unknown, subtree-items, typed-none, typed-items}
+-- One law for each way out: no such type, no item of a type that is given, and what was found.
+use Rattle.select.proofs.Laws.{type-unknown, none-typed, not-typed, some-items, given-is}
+use Rattle.select.specs.Choice.{type_given}
+use mathlib.Core.Path.{sym, ◌∙◌}
+use Rattle.select.proofs.select_names.Goals.{else-is_some-via-then-is_some+else-selection-eq0, else-is_some-via-else-is_some}
 use Rattle.select.proofs.select_names.Goals as goal
 
 pub returns-then-set-eq0 : goal.returns-then-set-eq0
 returns-then-set-eq0 c =
     let a = c.args in
-    type-unknown a.model.now a.names.now a.t.now a.y.now _
-    c.under_type-set.ensures
-    a.typed c.if-set-eq0.true
-
-pub returns-then-not-typed : goal.returns-then-not-typed
-returns-then-not-typed c =
-    let a = c.args in
-    let found =
-    subtree-items a.model.now a.names.now a.t.now a.y.now _
-    c.under_type-set.ensures
-    c.if-set-eq0.false _ _ c.items_of-selection.ensures in
-    found c.if-not-typed.true
+    type-unknown a.model.now a.names.now a.t.now _ c.under_type-set.ensures (type_given a.y) c.if-set-eq0.true
 
 pub returns-then-selection-eq0 : goal.returns-then-selection-eq0
 returns-then-selection-eq0 c =
     let a = c.args in
-    let found =
-    typed-none a.model.now a.names.now a.t.now a.y.now _
-    c.under_type-set.ensures
-    c.if-set-eq0.false _ _ c.items_of-selection.ensures in
-    found c.if-not-typed.false c.if-selection-eq0.true
+    none-typed a.model.now a.names.now a.t.now _ c.under_type-set.ensures c.if-set-eq0.false _ (type_given a.y)
+    c.items_of-selection.ensures (given-is a.y ∙ sym c.is_some.ensures ∙ c.if-is_some.true) c.if-selection-eq0.true
 
 pub returns : goal.returns
 returns c =
     let a = c.args in
-    let found =
-    typed-items a.model.now a.names.now a.t.now a.y.now _
-    c.under_type-set.ensures
-    c.if-set-eq0.false _ _ c.items_of-selection.ensures in
-    found c.if-not-typed.false c.if-selection-eq0.false
+    elim c.else-is_some.branch [
+      | else-is_some-via-then-is_some+else-selection-eq0 w ↦
+          some-items a.model.now a.names.now a.t.now _ c.under_type-set.ensures c.if-set-eq0.false _ (type_given a.y)
+          c.items_of-selection.ensures w.if-selection-eq0.false
+      | else-is_some-via-else-is_some w ↦
+          not-typed a.model.now a.names.now a.t.now _ c.under_type-set.ensures c.if-set-eq0.false _ (type_given a.y)
+          c.items_of-selection.ensures (given-is a.y ∙ sym c.is_some.ensures ∙ w.if-is_some.false)
+    ]

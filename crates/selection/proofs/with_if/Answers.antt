@@ -6,6 +6,6 @@ pub returns-then-taken : goal.returns-then-taken
 returns-then-taken c =
     rw c.if-taken.true (or_shifted c.args.set c.args.i c.requires.0 c.requires.1)
 
-pub returns : goal.returns
-returns c =
+pub returns-else-taken : goal.returns-else-taken
+returns-else-taken c =
     rw c.if-taken.false

@@ -13,11 +13,10 @@ loop-i-init c =
 pub write_item-c-requires : goal.write_item-c-requires
 write_item-c-requires c =
     let v = c.loop-i.invariant in
-    let h = c.loop-i-test.true in
+    let h = rw c.items-i-end.ensures.0 at c.loop-i-test.true in
     let fits = flat-room v h (told c.has.ensures c.if-has.true) in
     record {
-      head = c.requires.head;
-      m_le_max_items = (c.requires.m_le_max_items.0, (h, c.requires.m_le_max_items.1));
+      i_lt_items = (h, (omega (arith, c.loop-i-test.true, c.items-i-end.ensures.1), c.requires.marks_len));
       st_bound = c.requires.st_bound;
       i_bound = (fits, omega (arith, v.len));
     }
@@ -25,7 +24,7 @@ write_item-c-requires c =
 pub loop-i-preserved : goal.loop-i-preserved
 loop-i-preserved c =
     let v = c.loop-i.invariant in
-    let h = c.loop-i-test.true in
+    let h = rw c.items-i-end.ensures.0 at c.loop-i-test.true in
     elim c.if-has.branch [
       | then-has w ↦
           rw (w.out-is, w.c-is, w.write_item-c.ensures.value)
@@ -40,4 +39,4 @@ shape_of-out c =
 pub returns : goal.returns
 unfolding held_by
 returns c =
-    flat-end c.loop-i.invariant c.loop-i-test.false
+    flat-end c.loop-i.invariant (rw c.items-i-end.ensures.0 at c.loop-i-test.false)

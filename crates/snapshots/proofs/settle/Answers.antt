@@ -1,6 +1,6 @@
 use Rattle.spec.proofs.Words.{told}
-use Rattle.snapshots.proofs.Begun.{table_at}
 use Rattle.snapshots.proofs.Settled.{settling-start, settling-skip, settling-more, settling-end}
+use mathlib.Core.Path.{refl}
 use lib.Dec.{lit<}
 use native.Mathlib.Omega.{arith}
 use Rattle.snapshots.proofs.settle.Goals as goal
@@ -13,10 +13,12 @@ loop-i-init c =
 
 pub plain_place-place-requires : goal.plain_place-place-requires
 plain_place-place-requires c =
-    let t = table_at c.args.m c.args.st.now
-    c.checkpoint_at-t.ensures
-    c.ring_size.ensures.is in
-    record { head = c.requires.head; m_le_max_items = (c.requires.m_le_max_items.0, (c.loop-i-test.true, t)) }
+    record {
+      i_bound = (
+        rw c.items-i-end.ensures.0 at c.loop-i-test.true,
+        omega (arith, c.loop-i-test.true, c.items-i-end.ensures.1),
+      );
+    }
 
 pub mark_of-requires : goal.mark_of-requires
 mark_of-requires c = (omega (arith, c.plain_place-place.ensures.1, c.requires.by_index c.loop-i.i), lit< tt)
@@ -29,12 +31,11 @@ bounds-marks-i c =
 pub loop-i-preserved : goal.loop-i-preserved
 loop-i-preserved c =
     let v = c.loop-i.invariant in
-    let h = c.loop-i-test.true in
-    let t = table_at c.args.m c.args.st.now c.checkpoint_at-t.ensures c.ring_size.ensures.is in
+    let h = rw c.items-i-end.ensures.0 at c.loop-i-test.true in
     elim c.if-has.branch [
       | then-has+then-not-has w ↦
           rw w.marks-is
-          (settling-more v h (rw (told c.has.ensures w.if-has.true, told w.has-then-has.ensures w.if-not-has.true)) t
+          (settling-more v h (rw (told c.has.ensures w.if-has.true, told w.has-then-has.ensures w.if-not-has.true)) refl
           w.plain_place-place.ensures.0 w.mark_of.ensures)
       | else-has w ↦
           rw w.marks-is
@@ -52,4 +53,4 @@ shape_of-marks c =
 
 pub returns : goal.returns
 returns c =
-    settling-end c.loop-i.invariant c.loop-i-test.false
+    settling-end c.loop-i.invariant (rw c.items-i-end.ensures.0 at c.loop-i-test.false)

@@ -14,11 +14,11 @@ use Rattle.snapshots.proofs.steps_of.Goals.{then-has, else-has}
 pub loop-i-init : goal.loop-i-init
 unfolding set_of
 loop-i-init c =
-    (omega arith, refl)
+    refl
 
 pub with_if-set-requires : goal.with_if-set-requires
 with_if-set-requires c =
-    (omega arith, rw c.loop-i.invariant.1 (set-lt _ _))
+    (omega arith, rw c.loop-i.invariant (set-lt _ _))
 
 pub loop-i-preserved : goal.loop-i-preserved
 loop-i-preserved c =
@@ -28,10 +28,10 @@ loop-i-preserved c =
       | then-has w ↦ let b = told c.has.ensures w.if-has.true in w.steps-is ∙ rw (b, w.category.ensures)
       | else-has w ↦ let b = told c.has.ensures w.if-has.false in w.steps-is ∙ (w.if-has.false ∙ rw b)
     ] in
-    (omega arith, set_more _ _ _ _ _ c.loop-i.invariant.1 t c.with_if-set.ensures)
+    set_more _ _ _ _ _ c.loop-i.invariant t c.with_if-set.ensures
 
 pub returns : goal.returns
 returns c =
     let v = c.loop-i.invariant in
     let e : c.loop-i.i ≡ items c.args.model.now = omega arith in
-    v.1 ∙ ap (steps_of (category c.args.model.now) c.args.selection) e
+    v ∙ ap (steps_of (category c.args.model.now) c.args.selection) e

@@ -8,6 +8,6 @@ unfolding fixed
 returns c =
     put-append
     (put-append
-    (put-append (put-append c.put_part-a.ensures c.put_part-b.ensures) c.put_part-c.ensures)
-    c.put_three-d.ensures)
+    (put-append (put-append c.put_part.ensures c.put_part-2.ensures) c.put_part-3.ensures)
+    c.put_fixed.ensures)
     c.put_byte.ensures

@@ -7,5 +7,5 @@ use Rattle.stamp.proofs.put_date.Goals as goal
 pub returns : goal.returns
 unfolding fixed date_text
 returns c =
-    put-append c.put_day-p.ensures
+    put-append c.put_day.ensures
     c.put_clock.ensures

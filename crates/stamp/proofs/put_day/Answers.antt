@@ -7,5 +7,5 @@ pub returns : goal.returns
 unfolding fixed
 returns c =
     put-append
-    (put-append (put-append c.put_four-a.ensures c.put_byte-b.ensures) c.put_part-c.ensures)
-    c.put_part.ensures
+    (put-append (put-append c.put_fixed.ensures c.put_byte.ensures) c.put_part.ensures)
+    c.put_part-2.ensures

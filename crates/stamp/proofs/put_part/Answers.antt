@@ -4,5 +4,5 @@ use Rattle.stamp.proofs.put_part.Goals as goal
 
 pub returns : goal.returns
 returns c =
-    put-append c.put_two-p.ensures
+    put-append c.put_fixed.ensures
     c.put_byte.ensures

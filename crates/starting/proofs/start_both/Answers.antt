@@ -14,7 +14,7 @@ pub start_store-requires : goal.start_store-requires
 start_store-requires c =
     let b = begins _ _ _ _ _ _ c.start_ok.ensures c.if-not-start_ok.false in
     let whole = store-sizes c.items-m.ensures.0 b in
-    record { sizes = c.requires; starting = whole.0; st_len = whole.1 }
+    record { starting = whole.0; st_len = whole.1 }
 
 pub start-requires : goal.start-requires
 start-requires c =

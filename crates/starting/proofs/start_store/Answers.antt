@@ -3,6 +3,7 @@ use native.Mathlib.Omega.{arith}
 use Rattle.starting.proofs.Filling.{filling-none, filling-fits, filling-place, filling-words, place-on}
 use Rattle.starting.proofs.Filling.{place-back, filling-more, filling-all}
 use Rattle.starting.proofs.start_store.Goals as goal
+use Rattle.starting.proofs.start_store.Goals.{then-p-n, else-p-n}
 
 pub loop-item-init : goal.loop-item-init
 loop-item-init c =
@@ -12,7 +13,6 @@ pub evict-requires : goal.evict-requires
 evict-requires c =
     let f = c.loop-item.invariant in
     record {
-      sizes = c.requires.sizes;
       overwriting = filling-fits f c.requires.starting;
       p_value = filling-place f c.requires.starting;
     }
@@ -30,29 +30,19 @@ pub overflow_add-p : goal.overflow_add-p
 overflow_add-p c =
     omega (arith, (filling-place c.loop-item.invariant c.requires.starting).1, c.requires.starting.n_max)
 
-pub loop-item-smaller-then-p-n : goal.loop-item-smaller-then-p-n
-loop-item-smaller-then-p-n c =
-    omega arith
-
-pub loop-item-preserved-then-p-n : goal.loop-item-preserved-then-p-n
-loop-item-preserved-then-p-n c =
-    let f = c.loop-item.invariant in
-    filling-more f c.requires.starting (omega arith) c.items-m.ensures.0 c.pack-word.ensures
-    c.evict.ensures c.put_number.ensures (place-back f c.if-p-n.true)
-
-pub loop-item-smaller : goal.loop-item-smaller
-loop-item-smaller c =
-    omega arith
-
 pub loop-item-preserved : goal.loop-item-preserved
 loop-item-preserved c =
     let f = c.loop-item.invariant in
-    filling-more f c.requires.starting (omega arith) c.items-m.ensures.0 c.pack-word.ensures c.evict.ensures
-    c.put_number.ensures (place-on f c.requires.starting c.if-p-n.false)
-
-pub shape_of-st : goal.shape_of-st
-shape_of-st c =
-    c.loop-item.invariant.rep.words ∙ sym c.requires.st_len
+    elim c.if-p-n.branch [
+      | then-p-n w ↦
+          rw w.p-is
+          (filling-more f c.requires.starting (omega arith) c.items-m.ensures.0 c.pack-word.ensures c.evict.ensures
+          c.put_number.ensures (place-back f w.if-p-n.true))
+      | else-p-n w ↦
+          rw w.p-is
+          (filling-more f c.requires.starting (omega arith) c.items-m.ensures.0 c.pack-word.ensures c.evict.ensures
+          c.put_number.ensures (place-on f c.requires.starting w.if-p-n.false))
+    ]
 
 pub returns : goal.returns
 returns c =

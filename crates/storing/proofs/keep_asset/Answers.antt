@@ -2,7 +2,7 @@
 use native.Mathlib.Omega.{arith}
 use mathlib.Core.Path.{refl, ap}
 use Rattle.history.specs.Calls.{keep_asset}
-use Rattle.spec.specs.declared.StoreAnswer.TheVariants.{Stored}
+use Rattle.std.specs.Prelude.{Ok}
 use Rattle.spec.proofs.Words.{told}
 use Rattle.storing.proofs.Laws.{no_change, change}
 use Rattle.storing.proofs.keep_asset.Goals as goal
@@ -16,24 +16,22 @@ pub store-requires : goal.store-requires
 store-requires c =
     record { asset_head = c.requires.asset_head; body_value = told c.asset_ok.ensures c.if-not-asset_ok.false }
 
-pub returns-then-items-change : goal.returns-then-items-change
+pub returns-in_default : goal.returns-in_default
 unfolding keep_asset
-returns-then-items-change c =
-    rw (
-      told c.asset_ok.ensures c.if-not-asset_ok.false,
-      no_change _ _ _ c.items.ensures.0 c.change_item-change.ensures.0 c.if-items-change.true,
-    )
-    (ap Stored c.store.ensures.value, refl, c.store.ensures.bs_after)
+returns-in_default c =
+    rw (told c.asset_ok.ensures c.if-not-asset_ok.false, no_change _ c.in_default.ensures.0)
+    (ap Ok c.store.ensures.value, refl, c.store.ensures.bs_after)
 
 pub keep_changed-requires : goal.keep_changed-requires
 keep_changed-requires c =
     let ok = told c.asset_ok.ensures c.if-not-asset_ok.false in
+    let f = (change _ c.in-Some.ensures.0).1 in
     record {
-      sizes = c.requires.sizes;
       head = c.requires.head;
       asset_head = c.requires.asset_head;
       body_value = ok;
-      change_value = (c.change_item-change.ensures.0, omega (arith, c.items.ensures.0));
+      change_value = f;
+      change_low = omega (arith, f.1, c.in-Some.ensures.1);
     }
 
 pub returns : goal.returns
@@ -41,6 +39,6 @@ unfolding keep_asset
 returns c =
     rw (
       told c.asset_ok.ensures c.if-not-asset_ok.false,
-      change _ _ _ c.items.ensures.0 c.change_item-change.ensures.0 c.if-items-change.false,
+      (change _ c.in-Some.ensures.0).0,
     )
     c.keep_changed.ensures

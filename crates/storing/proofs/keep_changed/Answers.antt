@@ -1,7 +1,8 @@
 -- The verdict decides; the cell is below the largest capacity, so that it is an event code.
 use native.Mathlib.Omega.{arith}
 use mathlib.Core.Path.{refl, ap}
-use Rattle.spec.specs.declared.StoreAnswer.TheVariants.{Stored}
+use Rattle.std.specs.Prelude.{Ok}
+use Rattle.std.proofs.lemmas.Result.{err_from_is_err_and}
 use Rattle.spec.proofs.Words.{told}
 use Rattle.storing.proofs.Laws.{cell_below, change-latest, event-added}
 use Rattle.storing.proofs.keep_changed.Goals as goal
@@ -17,23 +18,23 @@ overflow_cast-cell c =
 
 pub add-requires : goal.add-requires
 add-requires c =
-    let room = told c.room_for-verdict.ensures c.in-Fine.is in
+    let room = told c.room_for.ensures c.in_ok-room_for.was in
     record {
-      sizes = c.requires.sizes;
       head = c.requires.head;
       st_value = room;
       item_bound = c.requires.change_value.1;
       item_value = change-latest _ _ _ _ c.requires.change_value.0 c.requires.change_value.1;
     }
 
-pub returns-in-Refused : goal.returns-in-Refused
-returns-in-Refused c =
-    rw (told c.room_for-verdict.ensures c.in-Refused.is) (refl, refl, refl)
+pub returns-in_err-room_for : goal.returns-in_err-room_for
+returns-in_err-room_for c =
+    let p = err_from_is_err_and c.from_residual.result c.from_residual.ensures.1 in
+    rw (p.1, p.2, told c.room_for.ensures c.in_err-room_for.was) (refl, refl, refl)
 
-pub returns-in-Fine : goal.returns-in-Fine
-returns-in-Fine c =
+pub returns : goal.returns
+returns c =
     let e =
     event-added _ _ c.args.host c.args.observations.now _ c.requires.change_value.0 c.store-cell.ensures.value
     c.pack-word.ensures c.add.ensures in
-    rw (told c.room_for-verdict.ensures c.in-Fine.is)
-    (ap Stored c.store-cell.ensures.value, e, c.store-cell.ensures.bs_after)
+    rw (told c.room_for.ensures c.in_ok-room_for.was)
+    (ap Ok c.store-cell.ensures.value, e, c.store-cell.ensures.bs_after)

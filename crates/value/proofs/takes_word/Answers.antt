@@ -29,13 +29,13 @@ returns-else-front-ge768 c =
     lt-leb _ _ c.if-front-ge768.false
     ∙ level-low _ _ c.if-category-eq-CONDITION.true c.if-word-eq0.false c.if-front-ge768.false
 
-pub returns-then-kind-eq2 : goal.returns-then-kind-eq2
-returns-then-kind-eq2 c =
-    eq-eqb _ _ c.if-kind-eq2.true ∙ discrete-event _ _ c.if-category-eq-DISCRETE.true c.if-kind-eq2.true
+pub returns-then-kind-eq-EVENT : goal.returns-then-kind-eq-EVENT
+returns-then-kind-eq-EVENT c =
+    eq-eqb _ _ c.if-kind-eq-EVENT.true ∙ discrete-event _ _ c.if-category-eq-DISCRETE.true c.if-kind-eq-EVENT.true
 
-pub returns-else-kind-eq2 : goal.returns-else-kind-eq2
-returns-else-kind-eq2 c =
-    discrete-other _ _ c.if-category-eq-DISCRETE.true c.if-kind-eq2.false
+pub returns-else-kind-eq-EVENT : goal.returns-else-kind-eq-EVENT
+returns-else-kind-eq-EVENT c =
+    discrete-other _ _ c.if-category-eq-DISCRETE.true c.if-kind-eq-EVENT.false
 
 pub returns-else-category-eq-DISCRETE : goal.returns-else-category-eq-DISCRETE
 returns-else-category-eq-DISCRETE c =

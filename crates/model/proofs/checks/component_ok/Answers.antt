@@ -1,16 +1,14 @@
--- Each branch decides whether the parent is below max 1 i.
+-- The parent decides, and behind it the name.
 use Rattle.model.proofs.Laws.{component-fits, component-not}
+use borrow.Author.Tests.{le-ltb}
+use mathlib.Core.Path.{◌∙◌}
 use native.Mathlib.Omega.{arith}
 use Rattle.model.proofs.checks.component_ok.Goals as goal
 
-pub returns-then-parent-i : goal.returns-then-parent-i
-returns-then-parent-i c =
+pub returns-then-parent_of-above : goal.returns-then-parent_of-above
+returns-then-parent_of-above c =
     component-fits _ _ _ _ c.component_name.ensures (omega arith)
 
-pub returns-then-parent-eq0 : goal.returns-then-parent-eq0
-returns-then-parent-eq0 c =
-    component-fits _ _ _ _ c.component_name.ensures (omega arith)
-
-pub returns : goal.returns
-returns c =
-    component-not _ _ _ (omega arith)
+pub returns-else-parent_of-above : goal.returns-else-parent_of-above
+returns-else-parent_of-above c =
+    le-ltb _ _ c.if-parent_of-above.false ∙ component-not _ _ _ (omega arith)

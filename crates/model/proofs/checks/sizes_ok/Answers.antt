@@ -1,5 +1,6 @@
 -- A refusal contradicts one of the facts of `Sizes`; past them, only the length is left.
 use Rattle.model.proofs.Laws.{no-sizes, sizes-end}
+use borrow.Author.Rules.{rules}
 use native.Mathlib.Omega.{arith}
 use Rattle.model.proofs.checks.sizes_ok.Goals as goal
 
@@ -25,5 +26,5 @@ returns-then-m-gt-MAX_ITEMS c =
 
 pub returns : goal.returns
 returns c =
-    sizes-end c.args.model.now _ _ c.wide-c.ensures c.wide-m.ensures
+    sizes-end c.args.model.now _ _ (search rules) (search rules)
     (omega arith) (omega arith) (omega arith) (omega arith)

@@ -1,0 +1,2 @@
+-- What a reply of cells asks of them.
+pub mod Cells

@@ -1,0 +1,123 @@
+// The assets of a store whose head is right, to be read: counts, the cells of ids, the lengths and places of bodies.
+ghost use Rattle.std.specs.Prelude.{◌≡◌, ◌<◌, ◌≤◌, List, ℕ};
+ghost use Rattle.spec.specs.Assets as spec;
+ghost use Rattle.spec.specs.Assets.{AssetHead, max_assets, capacity, used};
+ghost use Rattle.spec.specs.Found.{found_below};
+ghost use Rattle.assets.specs.Cells.{PlaceFits};
+
+use super::{CAPACITY_AT, IDS_AT, LENGTH_BYTES, USED_AT, id_ok, length_ok};
+use spec::{CELL_BYTES, ID_BYTES, Span};
+use std::marker::Model;
+
+// The store's bytes; a clause sees the list of them.
+#[derive(Drop)]
+pub struct Assets<'a> {
+    bytes: &'a [u8],
+}
+
+impl<'a> Model for Assets<'a> {
+    ghost Value = { List ℕ };
+
+    ghost view = { λ s. s.bytes.now };
+
+    ghost invariant = { λ s. AssetHead s.bytes.now };
+}
+
+impl<'a> Assets<'a> {
+    // The assets of bytes whose head is known to be right.
+    pub fn of(bytes: &'a [u8]) -> Assets<'a>
+        requires { AssetHead bytes.now }
+        ensures { result ≡ bytes.now }
+    {
+        Assets { bytes }
+    }
+
+    // How many assets the store holds at most.
+    pub fn capacity(&self) -> u64
+        ensures value { result ≡ capacity self.now }
+        ensures upper_bound { result ≤ max_assets }
+    {
+        u64::from(self.bytes[CAPACITY_AT])
+    }
+
+    // How many assets the store holds.
+    pub fn used(&self) -> u64
+        ensures value { result ≡ used self.now }
+        ensures upper_bound { (result ≤ capacity self.now) × (capacity self.now ≤ max_assets) }
+    {
+        u64::from(self.bytes[USED_AT])
+    }
+
+    // The lowest used cell that holds the id, if any does and the id is one. The id's own cell is made once.
+    pub fn find(&self, id: &[u8]) -> Option<u64>
+        ensures value { result ≡ found_below (used self.now) (spec.find self.now id.now) }
+        ensures room { used self.now ≤ capacity self.now }
+    {
+        let bytes = self.bytes;
+        if !id_ok(id) {
+            return None;
+        }
+        let mut key = [0u8; ID_BYTES];
+        cells::write(&mut key, 0, id);
+        // not by `used`: read in place, the byte costs the callers less
+        for i in 0..u64::from(bytes[USED_AT]) {
+            let start = IDS_AT + i as usize * ID_BYTES;
+            let end = start + ID_BYTES;
+            if cells::same_bytes(&bytes[start..end], &key) {
+                return Some(i);
+            }
+        }
+        None
+    }
+
+    // Where the body cells begin.
+    pub(super) fn bodies_at(&self) -> u64
+        ensures { result ≡ spec.bodies_at (capacity self.now) }
+    {
+        IDS_AT as u64 + self.capacity() * ID_BYTES as u64
+    }
+
+    // The length that stands in body cell i.
+    pub fn length_at(&self, i: u64) -> u64
+        requires { i < capacity self.now }
+        ensures value { result ≡ spec.length_at self.now i }
+        ensures upper_bound { result < 65536 }
+    {
+        let bytes = self.bytes;
+        let at = (self.bodies_at() + i * CELL_BYTES as u64) as usize;
+        u64::from(bytes[at]) * 256 + u64::from(bytes[at + 1])
+    }
+
+    // The part of the store that is the asset's body; nothing for a missing id or a wrong length.
+    pub(super) fn body_place(&self, id: &[u8]) -> Option<Span>
+        ensures value { result ≡ spec.body_place self.now id.now }
+        ensures place_fits { PlaceFits self.now result }
+    {
+        let _ = &self.bytes;
+        let Some(i) = self.find(id) else {
+            return None;
+        };
+        let n = self.length_at(i);
+        if !length_ok(n) {
+            return None;
+        }
+        let start = self.bodies_at() + i * CELL_BYTES as u64 + LENGTH_BYTES;
+        Some(Span {
+            start: start as usize,
+            len: n as usize,
+        })
+    }
+
+    // The cell that is given up for the id: the one that holds it, none (as many as are used) while there is room, or
+    // the oldest.
+    pub(super) fn out_for(&self, id: &[u8]) -> u64
+        ensures { result ≡ spec.out_for id.now self.now }
+    {
+        let u = self.used();
+        match self.find(id) {
+            Some(i) => i,
+            None if u < self.capacity() => u,
+            None => 0,
+        }
+    }
+}

@@ -1,0 +1,2 @@
+-- The laws that the proof of reading a line cites.
+pub mod Laws

@@ -1,0 +1,154 @@
+// The observation store behind a right head, to be read: what the head says, and the places of ring and tables.
+ghost use Rattle.std.specs.Prelude.{◌≡◌, true, false, [], ◌∷◌, ◌+◌, ◌*◌, ◌≤◌, ◌<◌, List, ℕ, MatchResult};
+ghost use Rattle.spec.specs.declared.Refusal.TheVariants.{Store as Refused};
+ghost use Rattle.spec.specs.Model.{max_items};
+ghost use Rattle.history.specs.Observations.{max_ring, max_number, ring_size, item_count, base, last};
+ghost use Rattle.history.specs.Observations.{latest_at, checkpoint_at, place, head_ok};
+ghost use Rattle.spec.specs.Words.{row};
+ghost use Rattle.history.specs.Calls.{first};
+ghost use Rattle.observations.specs.Ring.{ring_time, ring_word};
+ghost use Rattle.observations.specs.Headed.{Headed};
+
+use super::{BASE_AT, ITEM_COUNT_AT, LAST_AT, RING_AT, RING_SIZE_AT, Row, head_ok};
+use spec::Refusal;
+use std::marker::Model;
+
+// The store's words; a clause sees the list of them.
+#[derive(Drop)]
+pub struct Store<'a> {
+    words: &'a [u64],
+}
+
+impl<'a> Model for Store<'a> {
+    ghost Value = { List ℕ };
+
+    ghost view = { λ s. s.words.now };
+
+    ghost invariant = { λ s. Headed s.words.now };
+}
+
+impl<'a> Store<'a> {
+    // The store of words whose head is known to be right.
+    pub fn of(words: &'a [u64]) -> Store<'a>
+        requires { Headed words.now }
+        ensures { result ≡ words.now }
+    {
+        Store { words }
+    }
+
+    // The words as they are.
+    pub fn slice(&self) -> &'a [u64]
+        ensures value { result.now ≡ self.now }
+        ensures head { Headed self.now }
+    {
+        self.words
+    }
+
+    // How many items the store is for.
+    pub fn items(&self) -> u64
+        ensures { (result ≡ item_count self.now) × (result ≤ max_items) }
+    {
+        self.words[ITEM_COUNT_AT]
+    }
+
+    // How many observations the ring holds at most.
+    pub fn ring_size(&self) -> u64
+        ensures is { result ≡ ring_size self.now }
+        ensures bounds { (1 ≤ result) × (result ≤ max_ring) }
+    {
+        self.words[RING_SIZE_AT]
+    }
+
+    // The first number.
+    pub fn base(&self) -> u64
+        ensures { result ≡ base self.now }
+    {
+        self.words[BASE_AT]
+    }
+
+    // The newest number.
+    pub fn last(&self) -> u64
+        ensures is { result ≡ last self.now }
+        ensures high { result ≤ max_number }
+    {
+        self.words[LAST_AT]
+    }
+
+    // The lowest number that the ring holds.
+    pub fn first(&self) -> u64
+        ensures is { result ≡ first self.now }
+        ensures low { base self.now ≤ result }
+        ensures high { result ≤ last self.now + 1 }
+    {
+        let words = self.words;
+        let n = words[RING_SIZE_AT];
+        let b = words[BASE_AT];
+        let next = words[LAST_AT] + 1;
+        if b + n <= next { next - n } else { b }
+    }
+
+    // The ring place of number s.
+    pub fn place(&self, s: u64) -> u64
+        requires { base self.now ≤ s }
+        ensures is { result ≡ place (ring_size self.now) (base self.now) s }
+        ensures low { result < ring_size self.now }
+    {
+        let words = self.words;
+        super::place(words[RING_SIZE_AT], words[BASE_AT], s)
+    }
+
+    // Where the latest table begins.
+    pub fn latest_at(&self) -> u64
+        ensures { result ≡ latest_at (ring_size self.now) }
+    {
+        super::latest_at(self.ring_size())
+    }
+
+    // Where the checkpoint table begins.
+    pub fn checkpoint_at(&self) -> u64
+        ensures { result ≡ checkpoint_at (ring_size self.now) (item_count self.now) }
+    {
+        super::checkpoint_at(self.ring_size(), self.items())
+    }
+
+    // Row k of the checkpoint table.
+    pub fn checkpoint_row(&self, k: u64) -> Row
+        requires { k < 8 * item_count self.now }
+        ensures { let t = checkpoint_at (ring_size self.now) (item_count self.now) in
+            row self.now t (8 * item_count self.now) k 3 ≡ result.number ∷ result.time ∷ result.packed ∷ [] }
+    {
+        let t = self.checkpoint_at();
+        super::row_at(self.words, spec::ENTRIES * self.items(), t, k)
+    }
+
+    // The time at place p of the ring.
+    pub fn ring_time(&self, p: u64) -> u64
+        requires { p < ring_size self.now }
+        ensures { result ≡ ring_time self.now (ring_size self.now) p }
+    {
+        let words = self.words;
+        words[(RING_AT + p) as usize]
+    }
+
+    // The packed word at place p of the ring.
+    pub fn ring_word(&self, p: u64) -> u64
+        requires { p < ring_size self.now }
+        ensures { result ≡ ring_word self.now (ring_size self.now) p }
+    {
+        let words = self.words;
+        words[(RING_AT + words[RING_SIZE_AT] + p) as usize]
+    }
+}
+
+// The store of m items, or refusal 2.
+pub fn checked<'a>(words: &'a [u64], m: u64) -> Result<Store<'a>, Refusal>
+    requires { m ≤ max_items }
+    ensures { MatchResult result
+        (λ s. (s ≡ words.entry.now) × (head_ok m words.entry.now ≡ true))
+        (λ r. (r ≡ Refused) × (head_ok m words.entry.now ≡ false)) }
+{
+    if !head_ok(words, m) {
+        return Err(Refusal::Store);
+    }
+    Ok(Store::of(words))
+}

@@ -1,0 +1,2 @@
+-- What the contracts of a reply's rows cite.
+pub mod Tests

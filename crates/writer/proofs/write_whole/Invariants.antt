@@ -1,0 +1,5 @@
+-- Both passes put the same text.
+use Rattle.writer.proofs.write_whole.Given as goal
+
+abbrev pub ghost-length_of : goal.ghost-length_of
+ghost-length_of g a = g.s
