@@ -23,7 +23,7 @@ returns-then-repeats c =
     (rw (c.requires.item_bound.1, c.items-m.ensures.0) at c.repeats.ensures) c.if-repeats.true
     in
     record {
-      done = λ a e. rw (by-found _ _ _ _ _ _ _ f) (cc, refl);
+      done = λ a e. rw (by-found _ _ _ _ _ _ _ f) (sym (some-is e), refl);
       taken = λ q e. cc;
       left = λ e. cc;
       new = λ e. cc;
