@@ -1,9 +1,9 @@
--- A way that was tried; an item's one row; the entry about to be overwritten, by its packed word, and the room that it
--- leaves; an addition by its writes, and by one row where all rows of the item are unused.
+-- An item's one row; the entry about to be overwritten, by its packed word, and the room that it leaves; an addition by
+-- its writes, and by one row where all rows of the item are unused.
 use Prim.Native.Nat.{ℕ, zero, suc, ◌+◌, ◌-◌, ◌*◌, ◌≤◌, ◌<◌}
 use mathlib.Core.Path.{◌≡◌, refl, sym, ap, ◌∙◌}
 use mathlib.Core.Logic.{◌≢◌, inr}
-use mathlib.Core.Bool.{true, false, true≢false, false≢true}
+use mathlib.Core.Bool.{true, false}
 use mathlib.Core.List.{List, [], ◌∷◌}
 use native.Mathlib.Omega.{arith}
 use native.Mathlib.Numerals.{add-one}
@@ -25,15 +25,7 @@ use Rattle.spec.proofs.Tables.{row-put-apart}
 use Rattle.spec.proofs.Blocks.{table-rows-ext, table-rows-other}
 use Rattle.spec.proofs.Steps.{step-length-word}
 use Rattle.observations.specs.Ring.{ring_time, ring_word}
-use Rattle.plain.specs.Short.{InRing, overwritable, Tried, put_number}
-
--- ---- a way that was tried, and one that was not open
-
-pub tried : {Open : Type 0} {old new after : List ℕ} → Open → after ≡ new → Tried true Open old new after
-tried o e = record { done = λ t. (o, e); left = λ t. absurd (true≢false t) }
-
-pub untried : {Open : Type 0} {old new after : List ℕ} → after ≡ old → Tried false Open old new after
-untried e = record { done = λ t. absurd (false≢true t); left = λ t. e }
+use Rattle.plain.specs.Short.{InRing, overwritable, put_number}
 
 -- ---- a table takes an observation of an item without conditions; k is the number of items that the code has
 
@@ -73,10 +65,11 @@ module _ (cat : ℕ → ℕ) (n m b s p w : ℕ) (st : List ℕ) (hp : p ≡ pla
     -- as its one row, where its item has no conditions
     pub plain-evicted : (e : List ℕ) (time k t : ℕ) → i < m → cat i ≢ 2 → k ≡ m → t ≡ checkpoint_at n k
         → time ≡ ring_time st n p → e ≡ put st t (8 * k) (8 * i) ((s - n) ∷ time ∷ w ∷ [])
-        → Tried true (evict_ok cat n m b s st ≡ true) st (evict cat n m b s st) e
-    plain-evicted e time k t l c ek et ht q =
-        tried (by_word u ∙ sym (over_plain cat n m st w i hi l c))
-        (evicted e time ht (newest-row cat st (checkpoint_at n m) m m i refl _ e c (rw (et, ek) at q)))
+        → (evict_ok cat n m b s st ≡ true) × (e ≡ evict cat n m b s st)
+    plain-evicted e time k t l c ek et ht q = (
+      by_word u ∙ sym (over_plain cat n m st w i hi l c),
+      evicted e time ht (newest-row cat st (checkpoint_at n m) m m i refl _ e c (rw (et, ek) at q)),
+    )
 
 pub not-evicted : (cat : ℕ → ℕ) (n m b s : ℕ) (st : List ℕ) → s - b < n → st ≡ evict cat n m b s st
 unfolding evict
@@ -84,9 +77,9 @@ not-evicted cat n m b s st u = rw (lt-leb _ _ u)
 
 -- an unused place is free
 pub free-place : (cat : ℕ → ℕ) (n m b s : ℕ) (st : List ℕ) → s - b < n
-    → Tried true (evict_ok cat n m b s st ≡ true) st (evict cat n m b s st) st
+    → (evict_ok cat n m b s st ≡ true) × (st ≡ evict cat n m b s st)
 unfolding evict_ok
-free-place cat n m b s st u = tried (rw (lt-leb _ _ u)) (not-evicted cat n m b s st u)
+free-place cat n m b s st u = (rw (lt-leb _ _ u), not-evicted cat n m b s st u)
 
 -- ---- the room for a number
 

@@ -1,5 +1,5 @@
--- What a number needs of the store, the test of what it overwrites, and what the short way of an addition does.
-use Rattle.std.specs.Prelude.{ℕ, ◌*◌, ◌≤◌, ◌≡◌, Bool, true, false, ◌&&◌, ◌||◌, not, List, [], ◌∷◌, leb, ltb, length, set}
+-- What a number needs of the store, the test of what it overwrites, and a number put by one row.
+use Rattle.std.specs.Prelude.{ℕ, ◌*◌, ◌≤◌, ◌≡◌, Bool, ◌&&◌, ◌||◌, not, List, [], ◌∷◌, leb, ltb, length, set}
 use Rattle.spec.specs.Words.{put}
 use Rattle.spec.specs.Value.{item_of}
 use Rattle.spec.specs.Entries.{form_ok}
@@ -21,11 +21,6 @@ overwritable cat n m st word =
     && (not (is_condition cat i)
     || (form_ok i 0 (item_rows st (checkpoint_at n m) m i)
     && leb (length (stepped st (checkpoint_at n m) m i (0 ∷ 0 ∷ word ∷ []))) 8))
-
--- a way that was tried: where it was open, new words behind it; where it was not, the old ones
-pub record Tried (r : Bool) (Open : Type 0) (old new after : List ℕ) : Type 0 where
-  pub done : r ≡ true → Open × (after ≡ new)
-  pub left : r ≡ false → after ≡ old
 
 -- number s at place p by one row: the ring, the item's first latest entry, and last
 unfoldable pub put_number : ℕ → ℕ → ℕ → ℕ → ℕ → ℕ → ℕ → List ℕ → List ℕ

@@ -1,11 +1,11 @@
 // The short way of an addition, by one row: for items without conditions, and for a start.
 #![tactic(auto)]
 
-ghost use Rattle.std.specs.Prelude.{◌≡◌, true, false, ◌≤◌, ◌<◌, length, Ok};
+ghost use Rattle.std.specs.Prelude.{◌≡◌, true, false, suc, ◌≤◌, ◌<◌, length, MatchOption, Ok};
 ghost use Rattle.spec.specs.Model.{max_items, items, category};
-ghost use Rattle.history.specs.Observations.{max_ring, Head, store_words, is_condition, evict, evict_ok};
+ghost use Rattle.history.specs.Observations.{max_ring, Head, last, store_words, is_condition, evict, evict_ok};
 ghost use Rattle.history.specs.Calls.{room_for, added};
-ghost use Rattle.plain.specs.Short.{InRing, Tried, put_number};
+ghost use Rattle.plain.specs.Short.{InRing, put_number};
 
 use model::Words;
 
@@ -23,17 +23,18 @@ pub fn put_number(st: &mut [u64], n: u64, m: u64, p: u64, item: u64, s: u64, tim
     observations::set_last(st, s);
 }
 
-// The entry that number s is about to overwrite, if any, goes to its item's checkpoint as its one row. False, and
+// The entry that number s is about to overwrite, if any, goes to its item's checkpoint as its one row. None, and
 // nothing is changed, where it has no item of the model or one with conditions.
-fn evict_plain(model: &Words<'_>, st: &mut [u64], n: u64, b: u64, s: u64) -> bool
+fn evict_plain(model: &Words<'_>, st: &mut [u64], n: u64, b: u64, s: u64) -> Option<()>
     requires in_ring { InRing n (items model.now) b s st.old }
     ensures { let old = st.old in
         let cat = category model.now in
         let m = items model.now in
-        Tried result (evict_ok cat n m b s old ≡ true) old (evict cat n m b s old) st.new }
+        MatchOption result (st.new ≡ old)
+        (λ _. (evict_ok cat n m b s old ≡ true) × (st.new ≡ evict cat n m b s old)) }
 {
     if s - b < n {
-        return true;
+        return Some(());
     }
     let m = model.items();
     let at = observations::place(n, b, s);
@@ -41,39 +42,39 @@ fn evict_plain(model: &Words<'_>, st: &mut [u64], n: u64, b: u64, s: u64) -> boo
     let word = observations::ring_word(st, n, at);
     let item = value::item_of(word);
     if m <= item {
-        return false;
+        return None;
     }
     if model.category(item) == spec::CONDITION {
-        return false;
+        return None;
     }
     let t = observations::checkpoint_at(n, m);
     let k = spec::ENTRIES * item;
     observations::put_row(st, spec::ENTRIES * m, t, k, s - n, time, word);
-    true
+    Some(())
 }
 
 // The short way of recording's room_for and add, which most observations take: one more of an item without
-// conditions, where the entry that it overwrites, if any, is of such an item too. False, and nothing is changed, where
-// there is more to it.
-pub fn add_plain(model: &Words<'_>, st: &mut [u64], item: u64, time: u64, word: u64) -> bool
+// conditions, where the entry that it overwrites, if any, is of such an item too; its number. None, and nothing is
+// changed, where there is more to it.
+pub fn add_plain(model: &Words<'_>, st: &mut [u64], item: u64, time: u64, word: u64) -> Option<u64>
     requires head { Head (items model.now) st.old }
     requires item_bound { (item < items model.now) × (is_condition (category model.now) item ≡ false) }
     ensures { let old = st.old in
         let cat = category model.now in
         let m = items model.now in
-        Tried result (room_for cat m old ≡ Ok tt) old (added cat m old item time word) st.new }
+        MatchOption result (st.new ≡ old)
+        (λ s. (s ≡ suc (last old))
+        × ((room_for cat m old ≡ Ok tt) × (st.new ≡ added cat m old item time word))) }
 {
     let m = model.items();
     let n = observations::ring_size(st, m);
     let b = observations::base(st, m);
     let s = observations::last(st, m) + 1;
     if spec::MAX_NUMBER < s {
-        return false;
+        return None;
     }
-    if !evict_plain(model, st, n, b, s) {
-        return false;
-    }
+    evict_plain(model, st, n, b, s)?;
     let p = observations::place(n, b, s);
     put_number(st, n, m, p, item, s, time, word);
-    true
+    Some(s)
 }

@@ -49,9 +49,6 @@ pub fn observe_short(
     if repeats(observations, m, cat, item, word) {
         return Some(Ok(Noted::Same));
     }
-    let number = observations::last(observations, m) + 1;
-    if plain::add_plain(model, observations, item, time, word) {
-        return Some(Ok(Noted::Recorded(number)));
-    }
-    None
+    let number = plain::add_plain(model, observations, item, time, word)?;
+    Some(Ok(Noted::Recorded(number)))
 }

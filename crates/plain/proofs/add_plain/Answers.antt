@@ -1,15 +1,12 @@
 -- A number is left and its place was made: the ring, the latest's one row and last are written.
 use mathlib.Core.Path.{refl, ◌∙◌}
 use native.Mathlib.Omega.{arith}
+use native.Mathlib.Numerals.{add-one}
 use borrow.Author.Tests.{eqb-false}
 use Rattle.spec.specs.Model.{category}
 use Rattle.history.proofs.Added.{length-evict}
-use Rattle.plain.proofs.Laws.{next-ring, tried, untried, room-left, newest-row, numbered, added_next}
+use Rattle.plain.proofs.Laws.{next-ring, room-left, newest-row, numbered, added_next}
 use Rattle.plain.proofs.add_plain.Goals as goal
-
-pub returns-then-s-gt-MAX_NUMBER : goal.returns-then-s-gt-MAX_NUMBER
-returns-then-s-gt-MAX_NUMBER c =
-    untried refl
 
 pub evict_plain-requires : goal.evict_plain-requires
 evict_plain-requires c =
@@ -17,13 +14,13 @@ evict_plain-requires c =
       in_ring = next-ring c.ring_size-n.ensures.is c.base-b.ensures c.last-s.ensures.is c.requires.head;
     }
 
-pub returns-then-not-evict_plain : goal.returns-then-not-evict_plain
-returns-then-not-evict_plain c =
-    untried (c.evict_plain.ensures.left c.if-not-evict_plain.true)
+pub returns-in_err-evict_plain : goal.returns-in_err-evict_plain
+returns-in_err-evict_plain c =
+    rw c.from_residual.ensures (rw c.in_err-evict_plain.was at c.evict_plain.ensures)
 
 pub put_number-requires : goal.put_number-requires
 put_number-requires c =
-    let x = c.evict_plain.ensures.done c.if-not-evict_plain.false in
+    let x = rw c.in_ok-evict_plain.was at c.evict_plain.ensures in
     record {
       p_lt_n = (c.place-p.ensures.low, omega arith);
       item_lt_m = (omega (arith, c.requires.item_bound.0), omega arith);
@@ -33,12 +30,14 @@ put_number-requires c =
 
 pub returns : goal.returns
 returns c =
-    let x = c.evict_plain.ensures.done c.if-not-evict_plain.false in
+    let x = rw c.in_ok-evict_plain.was at c.evict_plain.ensures in
+    let room =
+    room-left _ _ _ _ _ _ c.ring_size-n.ensures.is c.base-b.ensures c.last-s.ensures.is
+    (omega (arith, c.if-s-gt-MAX_NUMBER.false)) x.0 in
     let row =
     newest-row (category c.args.model.now) _ _ _ _ _ refl _ _ (eqb-false _ 2 c.requires.item_bound.1) refl in
-    tried
-    (room-left _ _ _ _ _ _ c.ring_size-n.ensures.is c.base-b.ensures c.last-s.ensures.is
-    (omega (arith, c.if-s-gt-MAX_NUMBER.false)) x.0)
-    (added_next _ _ _ _ _ _ _ _ _ _ c.ring_size-n.ensures.is c.base-b.ensures c.last-s.ensures.is
+    let after =
+    added_next _ _ _ _ _ _ _ _ _ _ c.ring_size-n.ensures.is c.base-b.ensures c.last-s.ensures.is
     (numbered _ _ _ _ _ _ _ _ _ _ _ _ x.1 c.place-p.ensures.is row
-    (rw c.items-m.ensures.0 at c.put_number.ensures)))
+    (rw c.items-m.ensures.0 at c.put_number.ensures)) in
+    (rw c.last-s.ensures.is (add-one _), (room, after))

@@ -1,20 +1,12 @@
 -- The place is free, or the entry's item decides, and then its category.
-use mathlib.Core.Path.{refl, ◌∙◌}
+use mathlib.Core.Path.{◌∙◌}
 use native.Mathlib.Omega.{arith}
-use Rattle.plain.proofs.Laws.{untried, free-place, plain-evicted}
+use Rattle.plain.proofs.Laws.{free-place, plain-evicted}
 use Rattle.plain.proofs.evict_plain.Goals as goal
 
 pub returns-then-s-b : goal.returns-then-s-b
 returns-then-s-b c =
     free-place _ _ _ _ _ _ c.if-s-b.true
-
-pub returns-then-m-item : goal.returns-then-m-item
-returns-then-m-item c =
-    untried refl
-
-pub returns-then-category-eq-CONDITION : goal.returns-then-category-eq-CONDITION
-returns-then-category-eq-CONDITION c =
-    untried refl
 
 pub returns : goal.returns
 returns c =

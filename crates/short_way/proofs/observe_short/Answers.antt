@@ -1,6 +1,5 @@
 -- The latest word decides; where the short way is not open nothing was changed.
 use mathlib.Core.Path.{◌≡◌, refl, sym, ◌∙◌}
-use native.Mathlib.Numerals.{add-one}
 use borrow.Author.Tests.{ne_eqb}
 use Rattle.std.specs.Prelude.{Some}
 use Rattle.spec.specs.Model.{category}
@@ -38,31 +37,32 @@ add_plain-requires c =
       item_bound = (c.requires.item_bound.0, ne_eqb _ 2 plain);
     }
 
-pub returns-then-add_plain : goal.returns-then-add_plain
-returns-then-add_plain c =
+pub returns-in_err-number : goal.returns-in_err-number
+returns-in_err-number c =
+    let plain = λ (e : category c.args.model.now c.args.item ≡ 2).
+    c.if-cat-eq-CONDITION.false (c.requires.item_bound.1 ∙ e) in
+    rw c.from_residual.ensures
+    (record {
+      done = λ a e. cc;
+      taken = λ q e. cc;
+      left = λ e. rw c.in_err-number.was at c.add_plain.ensures;
+      new = λ e n.
+          found-new (category c.args.model.now) _ _ _ _ _ plain
+          (rw (c.requires.item_bound.1, c.items-m.ensures.0) at c.repeats.ensures) c.if-repeats.false;
+    })
+
+pub returns : goal.returns
+returns c =
     let plain = λ (e : category c.args.model.now c.args.item ≡ 2).
     c.if-cat-eq-CONDITION.false (c.requires.item_bound.1 ∙ e) in
     let f =
     found-new (category c.args.model.now) _ _ _ _ _ plain
     (rw (c.requires.item_bound.1, c.items-m.ensures.0) at c.repeats.ensures) c.if-repeats.false
     in
-    let d = c.add_plain.ensures.done c.if-add_plain.true in
+    let d = rw c.in_ok-number.was at c.add_plain.ensures in
     record {
-      done = λ a e. rw (by-found _ _ _ _ _ _ _ f, d.0) (rw (c.last-number.ensures.is, add-one) at (sym (some-is e)), d.1);
+      done = λ a e. rw (by-found _ _ _ _ _ _ _ f, d.1.0) (rw d.0 at (sym (some-is e)), d.1.1);
       taken = λ q e. cc;
       left = λ e. cc;
       new = λ e. cc;
-    }
-
-pub returns : goal.returns
-returns c =
-    let plain = λ (e : category c.args.model.now c.args.item ≡ 2).
-    c.if-cat-eq-CONDITION.false (c.requires.item_bound.1 ∙ e) in
-    record {
-      done = λ a e. cc;
-      taken = λ q e. cc;
-      left = λ e. c.add_plain.ensures.left c.if-add_plain.false;
-      new = λ e n.
-          found-new (category c.args.model.now) _ _ _ _ _ plain
-          (rw (c.requires.item_bound.1, c.items-m.ensures.0) at c.repeats.ensures) c.if-repeats.false;
     }
