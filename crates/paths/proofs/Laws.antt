@@ -1,13 +1,13 @@
 -- Laws of a path's form, as the code cuts it: by what it begins with, up to a slash, and by what it ends with.
-use Prim.Native.Nat.{ℕ, zero, suc, ◌+◌, ◌-◌, ◌<◌, ◌≤◌}
+use Prim.Native.Nat.{ℕ, ◌+◌, ◌-◌, ◌<◌, ◌≤◌}
 use mathlib.Core.Path.{◌≡◌, refl, sym, ap, ◌∙◌}
 use mathlib.Core.Bool.{Bool, true, false, cond, ◌&&◌, and-false}
 use mathlib.Core.List.{List}
 use native.Mathlib.Omega.{arith}
-use borrow.Author.Tests.{le-leb, lt-leb, leb-true, eqb-true, eqb-false}
+use borrow.Author.Tests.{le-leb, lt-leb, leb-true}
 use lib.Dec.{leb, eqb}
-use lib.ListN.{length, take, drop, length-drop}
-use lib.Seq.{take_all, drop-drop}
+use lib.ListN.{length, take, drop}
+use lib.Seq.{drop-drop}
 use Rattle.std.specs.Cmp.Lexicographic.{pointwise}
 use Rattle.std.specs.Option.{MatchOption}
 use Rattle.std.proofs.Common.{Bor}
@@ -77,33 +77,25 @@ typed-by t q =
     go false = refl
 
 -- ---- the form of a path
-some-byte : (l : ℕ) → (l ≡ 0 → ⊥) → 0 < l
-some-byte zero n = absurd (n refl)
-some-byte (suc l) n = omega arith
-
 module _ (path : List ℕ) where
   pub unrooted : pointwise eqb (take root_bytes path) (bytes "//") ≡ false → other_form ≡ form_of path
   unfolding form_of
   unrooted t = let z : same (take root_bytes path) (bytes "//") ≡ false = sym (same-is _ _) ∙ t in rw z
 
   module _ (x : List ℕ) (t : pointwise eqb (take root_bytes path) (bytes "//") ≡ true) (e : x ≡ drop root_bytes path)
-      (n : ℕ) (en : n ≡ before 47 47 x) where
-    behind : form_of path ≡ cond (leb (length x) n) (subtree x) (typed_form (take n x) (drop n x))
-    unfolding form_of form_behind
-    behind =
-        let z : same (take root_bytes path) (bytes "//") ≡ true = sym (same-is _ _) ∙ t in
-        rw (z, en, e)
+    where
+      behind : form_of path
+          ≡ cond (leb (length x) (before 47 47 x)) (subtree x) (typed_form (take (before 47 47 x) x) (drop (before 47 47 x) x))
+      unfolding form_of form_behind
+      behind =
+          let z : same (take root_bytes path) (bytes "//") ≡ true = sym (same-is _ _) ∙ t in
+          rw (z, e)
 
-    pub subtree-form : (y q : List ℕ) → y ≡ take n x → q ≡ drop n x → (b : Bool) → b ≡ eqb (length q) 0 → b ≡ true
-        → subtree y ≡ form_of path
-    subtree-form y q ey eq b eb z =
-        let l : length x ≤ n = omega (arith, length-drop n x, ap length eq, eqb-true (length q) 0 (sym eb ∙ z)) in
-        rw (behind, le-leb (length x) n l, ey, take_all n x l)
+      pub subtree-form : before 47 47 x ≡ length x → subtree x ≡ form_of path
+      subtree-form l = rw (behind, le-leb (length x) (before 47 47 x) (omega arith))
 
-    pub typed-form : (y q : List ℕ) → y ≡ take n x → q ≡ drop n x → (b : Bool) → b ≡ eqb (length q) 0 → b ≡ false
-        → (r : Option (List ℕ)) → r ≡ item_type q → behind-type y r ≡ form_of path
-    typed-form y q ey eq b eb f r g =
-        let l = some-byte (length q) (eqb-false (length q) 0 (sym eb ∙ f)) in
-        let z : n < length x = omega (arith, length-drop n x, ap length eq, l) in
-        let b : form_of path ≡ typed_form y q = rw (behind, lt-leb (length x) n z, ← ey, ← eq) in
-        rw (b, typed-by y q, g)
+      pub typed-form : {n : ℕ} → (before 47 47 x ≡ n) × (n < length x) → (y q : List ℕ) → y ≡ take n x → q ≡ drop n x
+          → (r : Option (List ℕ)) → r ≡ item_type q → behind-type y r ≡ form_of path
+      typed-form {n} f y q ey eq r g =
+          let b : form_of path ≡ typed_form y q = rw (behind, f.0, lt-leb (length x) n f.1, ← ey, ← eq) in
+          rw (b, typed-by y q, g)

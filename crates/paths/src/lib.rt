@@ -25,10 +25,10 @@ pub fn path_form(path: &[u8]) -> Option<PathForm<'_>>
     ensures { meaning result ≡ form_of path.now }
 {
     let names = path.strip_prefix(b"//")?;
-    let (t, rest) = names.split_at(scan::find(names, b'/', b'/'));
-    if rest.is_empty() {
-        return Some(PathForm::Subtree(t));
-    }
+    let Some(end) = scan::find(names, b'/', b'/') else {
+        return Some(PathForm::Subtree(names));
+    };
+    let (t, rest) = names.split_at(end);
     let y = item_type(rest)?;
     Some(PathForm::Typed(t, y))
 }

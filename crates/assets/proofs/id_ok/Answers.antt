@@ -1,11 +1,9 @@
 -- Behind both bounds of the length the bytes decide.
-use Rattle.std.proofs.Common.{rules, tests, ◌≡◌, ◌∙◌}
-use Rattle.std.proofs.lemmas.Iterator.{YieldsList-from_slice}
-use Rattle.std.proofs.lemmas.Iterator.Search.{all_from_yields_List}
+use Rattle.std.proofs.Common.{rules, tests, ◌≡◌}
 use borrow.Author.Tests.{le-leb, lt-leb}
 use Rattle.spec.specs.Bytes.{id_byte, all}
 use Rattle.spec.specs.Assets.{id_bytes, id_ok}
-use Rattle.scan.proofs.Laws.{all-is}
+use Rattle.scan.proofs.Laws.{all_of}
 use Rattle.assets.proofs.id_ok.Goals as goal
 
 pub returns-then-id-lt1 : goal.returns-then-id-lt1
@@ -22,6 +20,5 @@ pub returns : goal.returns
 unfolding id_ok
 returns c =
     let every : c.all.result ≡ all id_byte c.args.id.now =
-    all_from_yields_List id_byte _ _ _ c.all.ensures.ran (YieldsList-from_slice c.args.id.now cc)
-    (λ x b q k. search (rules, tests)) ∙ all-is id_byte _ in
+    all_of id_byte _ c.all.ensures.ran (λ x b q k. search (rules, tests)) cc in
     rw (le-leb 1 _ c.if-id-lt1.false, le-leb _ id_bytes c.if-id-gt-ID_BYTES.false, every)
