@@ -46,7 +46,7 @@ pub fn read_line(
         line.now host in
         (result ≡ x.answer) × (observations.new ≡ x.observations) }
 {
-    let words = model::checked(model, names)?;
+    let words = model::checked(model, names)?.words;
     if !observations::head_ok(observations, words.items()) {
         return Err(Refusal::Store);
     }

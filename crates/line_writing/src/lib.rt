@@ -20,7 +20,7 @@ pub fn write_line(
     ensures { Gives result text.new
         (write_line model.now names.now item time value text.old) }
 {
-    let words = model::checked(model, names)?;
+    let words = model::checked(model, names)?.words;
     if words.items() <= item {
         return Err(Refusal::Item);
     }

@@ -1,14 +1,14 @@
 // The model's words: sizes, components and data items.
 ghost use Rattle.std.specs.Prelude.{◌≡◌, ◌≤◌, cond, ◌&&◌, eqb};
-ghost use Rattle.spec.specs.Model.{asset_change, category_of, Sizes};
+ghost use Rattle.spec.specs.Model.{asset_change, category_of};
 ghost use Rattle.spec.specs.Model.{sizes_ok, component_ok, item_ok, components_ok, items_ok, changes_ok};
 
 use super::{
-    ASSET_CHANGE, COMPONENTS_AT, MAX_CATEGORY, category_of, component_name, component_of,
-    component_word, components, item_name, item_word, items, parent_of,
+    ASSET_CHANGE, COMPONENTS_AT, MAX_CATEGORY, Words, category_of, component_name, component_of,
+    item_name, parent_of,
 };
 
-// Whether both sizes are in their range and the length is theirs.
+// Whether both sizes are in their range and the length is theirs: there are no Words before that is known.
 pub fn sizes_ok(model: &[u32]) -> bool
     ensures { result ≡ sizes_ok model.now }
 {
@@ -61,12 +61,11 @@ fn one_if_change(word: u64) -> u64
 }
 
 // Whether every component's word is one.
-pub fn components_ok(model: &[u32], names: u64) -> bool
-    requires { Sizes model.now }
+pub fn components_ok(model: &Words<'_>, names: u64) -> bool
     ensures { result ≡ components_ok model.now names }
 {
-    for i in 0..components(model) {
-        if !component_ok(names, i, component_word(model, i)) {
+    for i in 0..model.components() {
+        if !component_ok(names, i, model.component_word(i)) {
             return false;
         }
     }
@@ -74,14 +73,13 @@ pub fn components_ok(model: &[u32], names: u64) -> bool
 }
 
 // Whether every data item's word is one, and at most one of them of an asset change item.
-pub fn items_ok(model: &[u32], names: u64) -> bool
-    requires { Sizes model.now }
+pub fn items_ok(model: &Words<'_>, names: u64) -> bool
     ensures { result ≡ (items_ok model.now names && changes_ok model.now) }
 {
-    let c = components(model);
+    let c = model.components();
     let mut changes = 0;
-    for j in 0..items(model) {
-        let word = item_word(model, j);
+    for j in 0..model.items() {
+        let word = model.item_word(j);
         if !item_ok(c, names, word) {
             return false;
         }

@@ -1,17 +1,17 @@
 // The model and the names: their check, which every call makes, and the words of a checked model.
 #![tactic(auto)]
 
-ghost use Rattle.std.specs.Prelude.{◌≡◌, ◌≤◌, ◌<◌, true, false, length, MatchResult};
+ghost use Rattle.std.specs.Prelude.{◌≡◌, ◌≤◌, true, false, length, MatchResult};
 ghost use Rattle.spec.specs.declared.Refusal.TheVariants.{Model as Refused};
-ghost use Rattle.spec.specs.Model.{letters, max_components, max_items, components, items, Sizes};
-ghost use Rattle.spec.specs.Model.{parent_of, component_name, category_of, component_of, item_name};
-ghost use Rattle.spec.specs.Model.{component_word, item_word, category, model_ok};
+ghost use Rattle.spec.specs.Model.{letters, parent_of, component_name, category_of, component_of, item_name, model_ok};
 
 use spec::Refusal;
 
 mod checks;
+mod named;
 mod words;
 
+pub use named::Named;
 pub use words::Words;
 
 // Where the component words begin; the item words follow them.
@@ -68,51 +68,6 @@ pub fn item_name(word: u64) -> u64
     word % ITEM_NAMES
 }
 
-// How many components the model has.
-pub fn components(model: &[u32]) -> u64
-    requires { Sizes model.now }
-    ensures { (result ≡ components model.now) × (result ≤ max_components) }
-{
-    u64::from(model[0])
-}
-
-// How many data items the model has.
-pub fn items(model: &[u32]) -> u64
-    requires { Sizes model.now }
-    ensures { (result ≡ items model.now) × (result ≤ max_items) }
-{
-    u64::from(model[1])
-}
-
-// The word of component i.
-pub fn component_word(model: &[u32], i: u64) -> u64
-    requires sizes { Sizes model.now }
-    requires i_bound { i < components model.now }
-    ensures { result ≡ component_word model.now i }
-{
-    let at = (COMPONENTS_AT + i) as usize;
-    u64::from(model[at])
-}
-
-// The word of data item j.
-pub fn item_word(model: &[u32], j: u64) -> u64
-    requires sizes { Sizes model.now }
-    requires j_bound { j < items model.now }
-    ensures { result ≡ item_word model.now j }
-{
-    let at = (COMPONENTS_AT + components(model) + j) as usize;
-    u64::from(model[at])
-}
-
-// The category of data item j.
-pub fn category(model: &[u32], j: u64) -> u64
-    requires sizes { Sizes model.now }
-    requires j_bound { j < items model.now }
-    ensures { result ≡ category model.now j }
-{
-    category_of(item_word(model, j))
-}
-
 // How many bytes of a name the cell starts with.
 pub fn name_length(cell: &[u8]) -> usize
     ensures { (result ≡ letters cell.now) × (result ≤ length cell.now) }
@@ -135,21 +90,24 @@ pub fn model_ok(model: &[u32], names: &[u8]) -> bool
     if !names::names_ok(names) {
         return false;
     }
+    let words = Words::of(model);
     let count = (names.len() / spec::NAME_BYTES) as u64;
-    if !checks::components_ok(model, count) {
+    if !checks::components_ok(&words, count) {
         return false;
     }
-    checks::items_ok(model, count)
+    checks::items_ok(&words, count)
 }
 
-// The words of a model that keeps the rules with its names, or refusal 1.
-pub fn checked<'a>(model: &'a [u32], names: &[u8]) -> Result<Words<'a>, Refusal>
+// A model and its names that keep the rules, or refusal 1.
+pub fn checked<'a>(model: &'a [u32], names: &'a [u8]) -> Result<Named<'a>, Refusal>
     ensures { MatchResult result
-        (λ w. (w ≡ model.entry.now) × (model_ok model.entry.now names.now ≡ true))
-        (λ r. (r ≡ Refused) × (model_ok model.entry.now names.now ≡ false)) }
+        (λ s. (s.words ≡ model.entry.now) × (s.names.now ≡ names.entry.now)
+        × (model_ok model.entry.now names.entry.now ≡ true))
+        (λ r. (r ≡ Refused) × (model_ok model.entry.now names.entry.now ≡ false)) }
 {
     if !model_ok(model, names) {
         return Err(Refusal::Model);
     }
-    Ok(Words::of(model))
+    let words = Words::of(model);
+    Ok(Named { words, names })
 }

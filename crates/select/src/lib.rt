@@ -3,11 +3,12 @@
 
 ghost use Rattle.std.specs.Prelude.{◌≡◌, ◌||◌, ◌+◌, ◌*◌, ◌<◌, ◌≤◌, length, Some};
 ghost use Rattle.spec.specs.Words.{bit, set_of};
-ghost use Rattle.spec.specs.Model.{name_bytes, max_components, Checked, components, items};
+ghost use Rattle.spec.specs.Model.{name_bytes, max_components, components, items};
 ghost use Rattle.spec.specs.Model.{parent_of, component_name, component_of, item_name};
 ghost use Rattle.spec.specs.Path.{is_named, under, select};
 ghost use Rattle.select.specs.Choice.{type_given, taken, chosen, by_names, SelectionFits};
 
+use model::Named;
 use paths::PathForm;
 
 // Whether name k is the text t. Most names differ early: only a name that agrees so far is measured.
@@ -41,15 +42,13 @@ fn joins(names: &[u8], word: u64, t: &[u8], set: u64) -> bool
 }
 
 // The components that have type name t, or an ancestor that has. One pass does: a parent stands before its children.
-fn under_type(model: &[u32], names: &[u8], t: &[u8]) -> u64
-    requires { Checked model.now names.now }
-    ensures { result
-        ≡ under model.now names.now t.now (components model.now) }
+fn under_type(model: &Named<'_>, t: &[u8]) -> u64
+    ensures { result ≡ under model.now.words model.now.names.now t.now (components model.now.words) }
 {
     let mut set: u64 = 0;
-    for i in 0..model::components(model) {
-        let word = model::component_word(model, i);
-        set = selection::with_if(joins(names, word, t, set), set, i);
+    for i in 0..model.words.components() {
+        let word = model.words.component_word(i);
+        set = selection::with_if(joins(model.names, word, t, set), set, i);
     }
     set
 }
@@ -71,30 +70,27 @@ fn takes(names: &[u8], word: u64, set: u64, y: Option<&[u8]>) -> bool
 
 // The items of the components in the set; where a type is given, only those of item type y.
 // From the last item down, each step only moves the selection up by one.
-fn items_of(model: &[u32], names: &[u8], set: u64, y: Option<&[u8]>) -> u64
-    requires { Checked model.now names.now }
-    ensures { result
-        ≡ set_of (chosen model.now names.now set (type_given y.entry))
-        (items model.now) }
+fn items_of(model: &Named<'_>, set: u64, y: Option<&[u8]>) -> u64
+    ensures { result ≡ set_of (chosen model.now.words model.now.names.now set (type_given y.entry))
+        (items model.now.words) }
 {
     let mut selection: u64 = 0;
-    for j in (0..model::items(model)).rev() {
-        let word = model::item_word(model, j);
-        selection = selection::moved_up(takes(names, word, set, y), selection);
+    for j in (0..model.words.items()).rev() {
+        let word = model.words.item_word(j);
+        selection = selection::moved_up(takes(model.names, word, set, y), selection);
     }
     selection
 }
 
 // What //T selects; where an item type is given, what //T//DataItem[@type="Y"] does.
-fn select_names(model: &[u32], names: &[u8], t: &[u8], y: Option<&[u8]>) -> Option<u64>
-    requires { Checked model.now names.now }
-    ensures { result ≡ by_names model.now names.now t.now (type_given y.entry) }
+fn select_names(model: &Named<'_>, t: &[u8], y: Option<&[u8]>) -> Option<u64>
+    ensures { result ≡ by_names model.now.words model.now.names.now t.now (type_given y.entry) }
 {
-    let set = under_type(model, names, t);
+    let set = under_type(model, t);
     if set == 0 {
         return None;
     }
-    let selection = items_of(model, names, set, y);
+    let selection = items_of(model, set, y);
     if y.is_some() && selection == 0 {
         return None;
     }
@@ -102,13 +98,12 @@ fn select_names(model: &[u32], names: &[u8], t: &[u8], y: Option<&[u8]>) -> Opti
 }
 
 // What a path selects.
-pub fn select_path(model: &[u32], names: &[u8], path: &[u8]) -> Option<u64>
-    requires { Checked model.now names.now }
-    ensures value { result ≡ select model.now names.now (Some path.now) }
-    ensures selection_fits { SelectionFits result (items model.now) }
+pub fn select_path(model: &Named<'_>, path: &[u8]) -> Option<u64>
+    ensures value { result ≡ select model.now.words model.now.names.now (Some path.now) }
+    ensures selection_fits { SelectionFits result (items model.now.words) }
 {
     match paths::path_form(path)? {
-        PathForm::Subtree(t) => select_names(model, names, t, None),
-        PathForm::Typed(t, y) => select_names(model, names, t, Some(y)),
+        PathForm::Subtree(t) => select_names(model, t, None),
+        PathForm::Typed(t, y) => select_names(model, t, Some(y)),
     }
 }

@@ -21,7 +21,7 @@ pub fn streams(
         (streams model.now names.now reply.now n instance_id creation_time
         text.old) }
 {
-    let words = model::checked(model, names)?;
+    let words = model::checked(model, names)?.words;
     if !reply_rows::reply_ok(&words, reply) {
         return Err(Refusal::Store);
     }

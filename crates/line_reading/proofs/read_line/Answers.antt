@@ -9,6 +9,6 @@ use Rattle.line_reading.proofs.read_line.Goals as goal
 
 pub observe_reading-requires : goal.observe_reading-requires
 observe_reading-requires c =
-    let h : head_ok (items c.in_ok-words.words) c.args.observations.now ≡ true =
+    let h : head_ok (items c.in_ok-words.field-0.words) c.args.observations.now ≡ true =
     grind (arith, c.items.ensures, c.head_ok.ensures, c.if-not-head_ok.false) in
     record { head = head _ _ h }

@@ -17,14 +17,14 @@ pub returns-then-items-item : goal.returns-then-items-item
 returns-then-items-item c =
     let n = rw c.in_ok-words.was at c.checked.ensures in
     rw
-    (item_refused _ _ _ _ _ _ n.1 _ (rw n.0 at c.items.ensures.0) c.if-items-item.true)
+    (item_refused _ _ _ _ _ _ n.2 _ (rw n.0 at c.items.ensures.0) c.if-items-item.true)
     (refl, refl)
 
 pub returns-then-not-takes : goal.returns-then-not-takes
 returns-then-not-takes c =
     let n = rw c.in_ok-words.was at c.checked.ensures in
     rw
-    (kind-refused _ _ _ _ _ _ n.1 _ (rw n.0 at c.items.ensures.0) c.if-items-item.false
+    (kind-refused _ _ _ _ _ _ n.2 _ (rw n.0 at c.items.ensures.0) c.if-items-item.false
     _ (rw n.0 at c.category.ensures) c.takes.ensures c.if-not-takes.true)
     (refl, refl)
 
@@ -32,7 +32,7 @@ pub returns-then-time-gt-MAX_TIME : goal.returns-then-time-gt-MAX_TIME
 returns-then-time-gt-MAX_TIME c =
     let n = rw c.in_ok-words.was at c.checked.ensures in
     rw
-    (time-refused _ _ _ _ _ _ n.1 _ (rw n.0 at c.items.ensures.0) c.if-items-item.false
+    (time-refused _ _ _ _ _ _ n.2 _ (rw n.0 at c.items.ensures.0) c.if-items-item.false
     _ (rw n.0 at c.category.ensures) c.takes.ensures c.if-not-takes.false c.if-time-gt-MAX_TIME.true)
     (refl, refl)
 
@@ -40,6 +40,6 @@ pub returns : goal.returns
 returns c =
     let n = rw c.in_ok-words.was at c.checked.ensures in
     rw
-    (passed _ _ _ _ _ _ n.1 _ (rw n.0 at c.items.ensures.0) c.if-items-item.false
+    (passed _ _ _ _ _ _ n.2 _ (rw n.0 at c.items.ensures.0) c.if-items-item.false
     _ (rw n.0 at c.category.ensures) c.takes.ensures c.if-not-takes.false c.if-time-gt-MAX_TIME.false)
     (written_is _ _ (c.write_line.ensures.text_after, c.write_line.ensures.value))

@@ -14,8 +14,8 @@ returns-then-not-names_ok c =
     c.if-not-sizes_ok.false
     _ c.names_ok.ensures c.if-not-names_ok.true
 
-pub components_ok-requires : goal.components_ok-requires
-components_ok-requires c =
+pub of-words-requires : goal.of-words-requires
+of-words-requires c =
     sizes-known _ _ c.sizes_ok.ensures c.if-not-sizes_ok.false
 
 pub returns-then-not-components_ok : goal.returns-then-not-components_ok
@@ -23,15 +23,12 @@ returns-then-not-components_ok c =
     let s = c.args in
     model-components s.model.now s.names.now _ c.sizes_ok.ensures c.if-not-sizes_ok.false
     _ c.names_ok.ensures c.if-not-names_ok.false
-    _ c.components_ok.ensures c.if-not-components_ok.true
-
-pub items_ok-requires : goal.items_ok-requires
-items_ok-requires c =
-    sizes-known _ _ c.sizes_ok.ensures c.if-not-sizes_ok.false
+    _ (rw c.of-words.ensures at c.components_ok.ensures) c.if-not-components_ok.true
 
 pub returns : goal.returns
 returns c =
     let s = c.args in
     model-items s.model.now s.names.now _ c.sizes_ok.ensures c.if-not-sizes_ok.false
     _ c.names_ok.ensures c.if-not-names_ok.false
-    _ _ c.components_ok.ensures c.if-not-components_ok.false c.items_ok.ensures
+    _ _ (rw c.of-words.ensures at c.components_ok.ensures) c.if-not-components_ok.false
+    (rw c.of-words.ensures at c.items_ok.ensures)

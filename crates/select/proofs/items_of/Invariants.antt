@@ -8,5 +8,5 @@ use Rattle.select.proofs.items_of.Given as goal
 
 abbrev pub invariant-loop-j : goal.invariant-loop-j
 invariant-loop-j l =
-    set_of (chosen l.model l.names l.set (type_given l.y)) (items l.model)
-    ≡ 2 ^ l.j * l.selection + set_of (chosen l.model l.names l.set (type_given l.y)) l.j
+    set_of (chosen l.model.words l.model.names.now l.set (type_given l.y)) (items l.model.words)
+    ≡ 2 ^ l.j * l.selection + set_of (chosen l.model.words l.model.names.now l.set (type_given l.y)) l.j

@@ -8,12 +8,12 @@ use Rattle.select.proofs.select_names.Goals as goal
 pub returns-then-set-eq0 : goal.returns-then-set-eq0
 returns-then-set-eq0 c =
     let a = c.args in
-    type-unknown a.model.now a.names.now a.t.now _ c.under_type-set.ensures (type_given a.y) c.if-set-eq0.true
+    type-unknown a.model.now.words a.model.now.names.now a.t.now _ c.under_type-set.ensures (type_given a.y) c.if-set-eq0.true
 
 pub returns-then-selection-eq0 : goal.returns-then-selection-eq0
 returns-then-selection-eq0 c =
     let a = c.args in
-    none-typed a.model.now a.names.now a.t.now _ c.under_type-set.ensures c.if-set-eq0.false _ (type_given a.y)
+    none-typed a.model.now.words a.model.now.names.now a.t.now _ c.under_type-set.ensures c.if-set-eq0.false _ (type_given a.y)
     c.items_of-selection.ensures (given-is a.y ∙ sym c.is_some.ensures ∙ c.if-is_some.true) c.if-selection-eq0.true
 
 pub returns : goal.returns
@@ -21,9 +21,9 @@ returns c =
     let a = c.args in
     elim c.else-is_some.branch [
       | else-is_some-via-then-is_some+else-selection-eq0 w ↦
-          some-items a.model.now a.names.now a.t.now _ c.under_type-set.ensures c.if-set-eq0.false _ (type_given a.y)
+          some-items a.model.now.words a.model.now.names.now a.t.now _ c.under_type-set.ensures c.if-set-eq0.false _ (type_given a.y)
           c.items_of-selection.ensures w.if-selection-eq0.false
       | else-is_some-via-else-is_some w ↦
-          not-typed a.model.now a.names.now a.t.now _ c.under_type-set.ensures c.if-set-eq0.false _ (type_given a.y)
+          not-typed a.model.now.words a.model.now.names.now a.t.now _ c.under_type-set.ensures c.if-set-eq0.false _ (type_given a.y)
           c.items_of-selection.ensures (given-is a.y ∙ sym c.is_some.ensures ∙ w.if-is_some.false)
     ]

@@ -11,10 +11,10 @@ loop-i-init c = refl
 pub with_if-set-requires : goal.with_if-set-requires
 with_if-set-requires c =
     let a = c.args in
-    (omega arith, rw c.loop-i.invariant (under-lt a.model.now a.names.now a.t.now _))
+    (omega arith, rw c.loop-i.invariant (under-lt a.model.now.words a.model.now.names.now a.t.now _))
 
 pub loop-i-preserved : goal.loop-i-preserved
 loop-i-preserved c =
     let a = c.args in
-    under_more a.model.now a.names.now a.t.now _ _ _ _ _ c.loop-i.invariant
+    under_more a.model.now.words a.model.now.names.now a.t.now _ _ _ _ _ c.loop-i.invariant
     c.component_word-word.ensures c.joins.ensures c.with_if-set.ensures

@@ -4,4 +4,4 @@ use mathlib.Core.Path.{◌≡◌}
 use Rattle.select.proofs.under_type.Given as goal
 
 abbrev pub invariant-loop-i : goal.invariant-loop-i
-invariant-loop-i l = l.set ≡ under l.model l.names l.t l.i
+invariant-loop-i l = l.set ≡ under l.model.words l.model.names.now l.t l.i

@@ -15,7 +15,7 @@ returns-in_err-words c =
 pub returns-then-not-reply_ok : goal.returns-then-not-reply_ok
 returns-then-not-reply_ok c =
     let n = rw c.in_ok-words.was at c.checked.ensures in
-    reply-refused _ _ _ _ _ _ _ n.1 (told (rw n.0 at c.reply_ok.ensures) c.if-not-reply_ok.true)
+    reply-refused _ _ _ _ _ _ _ n.2 (told (rw n.0 at c.reply_ok.ensures) c.if-not-reply_ok.true)
 
 pub times_ok-requires : goal.times_ok-requires
 times_ok-requires c =
@@ -24,20 +24,20 @@ times_ok-requires c =
 pub returns-then-not-times_ok : goal.returns-then-not-times_ok
 returns-then-not-times_ok c =
     let n = rw c.in_ok-words.was at c.checked.ensures in
-    times-refused _ _ _ _ _ _ _ n.1 (told (rw n.0 at c.reply_ok.ensures) c.if-not-reply_ok.false)
+    times-refused _ _ _ _ _ _ _ n.2 (told (rw n.0 at c.reply_ok.ensures) c.if-not-reply_ok.false)
     (told c.times_ok.ensures c.if-not-times_ok.true)
 
 pub write_document-requires : goal.write_document-requires
 write_document-requires c =
     let n = rw c.in_ok-words.was at c.checked.ensures in
     record {
-      checked = checked _ _ (rw (← n.0) at n.1);
+      checked = checked _ _ (rw (← n.0) at n.2);
       accepted = told c.reply_ok.ensures c.if-not-reply_ok.false;
     }
 
 pub returns : goal.returns
 returns c =
     let n = rw c.in_ok-words.was at c.checked.ensures in
-    passed _ _ _ _ _ _ _ n.1 (told (rw n.0 at c.reply_ok.ensures) c.if-not-reply_ok.false)
+    passed _ _ _ _ _ _ _ n.2 (told (rw n.0 at c.reply_ok.ensures) c.if-not-reply_ok.false)
     (told c.times_ok.ensures c.if-not-times_ok.false)
     (rw n.0 at c.write_document.ensures.text_after, rw n.0 at c.write_document.ensures.value)
