@@ -1,8 +1,10 @@
 // What one more observation does to a condition item's eight entries, told by their marks.
 #![tactic(auto)]
 
-ghost use Rattle.std.specs.Prelude.{◌≡◌, ◌^◌, ◌<◌, length};
+ghost use Rattle.std.specs.Prelude.{◌≡◌, ◌^◌, ◌<◌};
 ghost use Rattle.changes.specs.Changes.{raised_for, cleared_for, change_for, ChangeFits};
+
+use spec::ENTRY_SLOTS;
 
 // What an observation does to the eight entries of its item: it is put at a place, it stands alone, the entry at a
 // place goes out, they stay, or it would be a ninth.
@@ -16,8 +18,7 @@ pub enum Change {
 }
 
 // A Warning or Fault where others are active: to its code's place, or behind the last; Full behind eight.
-fn raised(marks: &[u64], key: u64) -> Change
-    requires { length marks.now ≡ 8 }
+fn raised(marks: &[u64; ENTRY_SLOTS], key: u64) -> Change
     ensures { result ≡ raised_for key marks.now }
 {
     let Some(j) = marks::find(marks, key) else {
@@ -28,8 +29,7 @@ fn raised(marks: &[u64], key: u64) -> Change
 
 // A Normal of one code where others are active: its entry, if there is one, goes out; in the place of the last one,
 // the Normal stands alone.
-fn cleared(marks: &[u64], key: u64) -> Change
-    requires { length marks.now ≡ 8 }
+fn cleared(marks: &[u64; ENTRY_SLOTS], key: u64) -> Change
     ensures { result ≡ cleared_for key marks.now }
 {
     let Some(j) = marks::find(marks, key) else {
@@ -45,8 +45,8 @@ fn cleared(marks: &[u64], key: u64) -> Change
 }
 
 // What an observation, by its packed word, does to the entries of eight marks.
-pub fn change_for(marks: &[u64], own: u64, word: u64) -> Change
-    requires { (length marks.now ≡ 8) × (own < 2 ^ 24) }
+pub fn change_for(marks: &[u64; ENTRY_SLOTS], own: u64, word: u64) -> Change
+    requires { own < 2 ^ 24 }
     ensures value { result ≡ change_for own marks.now word }
     ensures change_fits { ChangeFits result }
 {

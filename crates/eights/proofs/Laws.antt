@@ -1,11 +1,11 @@
 -- Eight words without one of them: those behind it moved down, and 0 written behind them. Eight words among others.
 use Prim.Native.Nat.{ℕ, ◌+◌, ◌-◌, ◌≤◌, ◌<◌}
 use mathlib.Core.Path.{◌≡◌, sym, ap, ◌∙◌}
-use mathlib.Core.List.{List, [], ◌∷◌, ◌++◌, append_assoc}
+use mathlib.Core.List.{List, [], ◌∷◌, ◌++◌, append_assoc, append-nil}
 use native.Mathlib.Numerals.{add-one}
 use native.Mathlib.Omega.{arith}
 use lib.ListN.{length, get_or, set, take, drop, length-append, length-drop, drop_of_length-le}
-use lib.Seq.{sets, drop-cons, length-take-le, set-append_seam}
+use lib.Seq.{sets, drop-cons, take-length, length-take-le, set-append_seam}
 use Rattle.std.specs.List.{copy_within}
 use Rattle.std.proofs.lemmas.List.Edits.{paste_all}
 use borrow.Rule.Slice.PartMut.{put_mid}
@@ -30,6 +30,10 @@ moved-down l j e h =
     rw m at (set-append_seam front (get_or l 7 0) [] 0) in
     rw (q, a, append_assoc (take j l) s (0 ∷ []), add-one j)
 
+-- eight words as they are lent
+abbrev lent : ℕ → List ℕ → List ℕ
+lent a l = take (a + 8 - a) (drop a l)
+
 -- eight words among others, lent and changed
 module _ (a : ℕ) (l : List ℕ) (h : Change) (x : ℕ) {ys : List ℕ} (fits : ChangeFits h) (room : a + 8 ≤ length l) where
   pub eight-written : ys ≡ changed 0 h x (eight_at l a)
@@ -38,6 +42,11 @@ module _ (a : ℕ) (l : List ℕ) (h : Change) (x : ℕ) {ys : List ℕ} (fits :
       let n : length ys ≡ 8 = ap length e ∙ length-changed 0 h x (eight_at l a) fits (eight-length l a room) in
       eight-back a l ys n room ∙ ap (sets l a) e
 
-  pub eight-changed : ys ≡ changed 0 h x (take (a + 8 - a) (drop a l))
+  pub eight-changed : ys ≡ changed 0 h x (take 8 (lent a l)) ++ drop 8 (lent a l)
       → put_mid a (a + 8 - a) l ys ≡ sets l a (changed 0 h x (eight_at l a))
-  eight-changed e = eight-written (e ∙ ap (changed 0 h x) (eight-lent a l))
+  eight-changed e =
+      let m = lent a l in
+      let n : length m ≡ 8 = ap length (eight-lent a l) ∙ eight-length l a room in
+      let t : take 8 m ≡ m = rw n at (take-length m) in
+      let d : drop 8 m ≡ [] = drop_of_length-le m {i = 8} (omega arith) in
+      eight-written (e ∙ (rw (t, d) (append-nil (changed 0 h x m)) ∙ ap (changed 0 h x) (eight-lent a l)))

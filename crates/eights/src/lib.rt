@@ -2,14 +2,15 @@
 // them or to their marks.
 #![tactic(auto)]
 
-ghost use Rattle.std.specs.Prelude.{◌≡◌, true, not, ◌<◌, length};
+ghost use Rattle.std.specs.Prelude.{◌≡◌, true, not, is_some, ◌<◌};
 ghost use Rattle.changes.specs.Changes.{raised_for, without, alone_with, changed, ChangeFits, is_full};
 
 use changes::Change;
+use spec::ENTRY_SLOTS;
 
 // Eight words without the one at place j: those behind it move down, and the last is 0.
-fn take_out(words: &mut [u64], j: usize)
-    requires { (length words.old ≡ 8) × (j < 8) }
+fn take_out(words: &mut [u64; ENTRY_SLOTS], j: usize)
+    requires { j < 8 }
     ensures { words.new ≡ without 0 j words.old }
 {
     words.copy_within(j + 1.., j);
@@ -17,8 +18,7 @@ fn take_out(words: &mut [u64], j: usize)
 }
 
 // Eight words become x, and zeros behind it.
-fn make_alone(words: &mut [u64], x: u64)
-    requires { length words.old ≡ 8 }
+fn make_alone(words: &mut [u64; ENTRY_SLOTS], x: u64)
     ensures { words.new ≡ alone_with 0 x }
 {
     words.fill(0);
@@ -26,8 +26,8 @@ fn make_alone(words: &mut [u64], x: u64)
 }
 
 // The change done to eight words, x being the new one.
-pub fn apply(words: &mut [u64], change: Change, x: u64)
-    requires { (length words.old ≡ 8) × ChangeFits change }
+pub fn apply(words: &mut [u64; ENTRY_SLOTS], change: Change, x: u64)
+    requires { ChangeFits change }
     ensures { words.new ≡ changed 0 change x words.old }
 {
     match change {
@@ -46,15 +46,12 @@ pub fn apply(words: &mut [u64], change: Change, x: u64)
 }
 
 // A Warning or Fault where others are active, done to their marks at once, x being its own: to its code's place, or
-// behind the last; false behind eight. Most observations of a condition are this one.
-pub fn raise(marks: &mut [u64], key: u64, x: u64) -> bool
-    requires { length marks.old ≡ 8 }
-    ensures value { result ≡ not (is_full (raised_for key marks.old)) }
-    ensures fact { result ≡ true → marks.new ≡ changed 0 (raised_for key marks.old) x marks.old }
+// behind the last; None behind eight. Most observations of a condition are this one.
+pub fn raise(marks: &mut [u64; ENTRY_SLOTS], key: u64, x: u64) -> Option<()>
+    ensures value { is_some result ≡ not (is_full (raised_for key marks.old)) }
+    ensures marks_after { is_some result ≡ true → marks.new ≡ changed 0 (raised_for key marks.old) x marks.old }
 {
-    let Some(j) = marks::find(marks, key) else {
-        return false;
-    };
+    let j = marks::find(marks, key)?;
     marks[j] = x;
-    true
+    Some(())
 }

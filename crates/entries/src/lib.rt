@@ -6,13 +6,15 @@ ghost use Rattle.spec.specs.Blocks.{table_rows};
 ghost use Rattle.spec.specs.Entries.{form_ok, each_row, zero_row};
 ghost use Rattle.entries.specs.Forms.{Table, may_follow, marks_of, filled};
 
+use spec::ENTRY_SLOTS;
+
 // How many of an item's entries are behind its first.
-const BEHIND: usize = spec::ENTRY_SLOTS - 1;
+const BEHIND: usize = ENTRY_SLOTS - 1;
 
 // Whether an entry with this key may follow n others, which eight marks tell of: the first may be anything, others are
 // active with a code of their own.
-fn may_follow(marks: &[u64], n: u64, key: u64) -> bool
-    requires { (length marks.now ≡ 8) × (n < 8) }
+fn may_follow(marks: &[u64; ENTRY_SLOTS], n: u64, key: u64) -> bool
+    requires { n < 8 }
     ensures { result ≡ may_follow n key marks.now }
 {
     if n == 0 {
@@ -29,7 +31,14 @@ fn may_follow(marks: &[u64], n: u64, key: u64) -> bool
 
 // The marks of item own's eight entries, the rows from row k on of the table of w rows that begins at word t, to eight
 // words, which are 0: the entries from 1 on with their keys. How many are used, where they have their written form.
-pub fn fill(st: &[u64], w: u64, t: u64, k: u64, own: u64, marks: &mut [u64]) -> Option<u64>
+pub fn fill(
+    st: &[u64],
+    w: u64,
+    t: u64,
+    k: u64,
+    own: u64,
+    marks: &mut [u64; ENTRY_SLOTS],
+) -> Option<u64>
     requires table { Table w t k (length st.now) }
     requires own_bound { own < 2 ^ 24 }
     requires unmarked { marks.old ≡ replicate 8 0 }
@@ -88,6 +97,6 @@ pub fn count(st: &[u64], w: u64, t: u64, k: u64, own: u64) -> Option<u64>
     if st[(t + k) as usize] != 0 && rest_unused(st, w, t, k) {
         return Some(1);
     }
-    let mut marks = [0u64; spec::ENTRY_SLOTS];
+    let mut marks = [0u64; ENTRY_SLOTS];
     fill(st, w, t, k, own, &mut marks)
 }

@@ -28,12 +28,11 @@ fn judge_raised(
     w: u64,
     t: u64,
     k: u64,
-    marks: &[u64],
+    marks: &[u64; ENTRY_SLOTS],
     key: u64,
     word: u64,
 ) -> Result<Judged, Refusal>
     requires table { Table w t k (length st.now) }
-    requires eight { length marks.now ≡ 8 }
     ensures { result ≡ raised_judged (table_rows st.now t w 8 k) marks.now key word }
 {
     let Some(j) = marks::find(marks, key) else {
@@ -47,8 +46,7 @@ fn judge_raised(
 }
 
 // What observe finds of a Normal whose code, not 0, has this key: it repeats where no entry has it.
-fn judge_cleared(marks: &[u64], key: u64) -> Judged
-    requires { length marks.now ≡ 8 }
+fn judge_cleared(marks: &[u64; ENTRY_SLOTS], key: u64) -> Judged
     ensures { result ≡ cleared_judged marks.now key }
 {
     let Some(j) = marks::find(marks, key) else {

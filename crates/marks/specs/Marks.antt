@@ -1,5 +1,5 @@
 -- Marks: an item's eight entries by place and key.
-use Rattle.std.specs.Prelude.{ℕ, suc, ◌+◌, ◌*◌, ◌/◌, ◌%◌, ◌^◌, Bool, cond, ◌||◌, List, [], ◌∷◌, eqb, length, take, drop}
+use Rattle.std.specs.Prelude.{ℕ, suc, ◌+◌, ◌*◌, ◌/◌, ◌%◌, ◌^◌, Bool, cond, ◌||◌, List, [], ◌∷◌, eqb, length, take, drop, get_or}
 use Rattle.std.specs.Prelude.{Option, Some, None, nat_lt}
 use Rattle.spec.specs.Entries.{active, code_field}
 
@@ -20,6 +20,10 @@ key_in mark = mark % 2 ^ 32
 -- eight words from word k on
 abbrev pub eight_at : {A : Type 0} → List A → ℕ → List A
 eight_at l k = take 8 (drop k l)
+
+-- item i's eight marks, among those of all items
+abbrev pub eight_of : List (List ℕ) → ℕ → List ℕ
+eight_of l i = get_or l i []
 
 -- the key may stand where this mark does
 abbrev pub is_place : ℕ → ℕ → Bool

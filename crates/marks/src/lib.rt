@@ -7,6 +7,9 @@ ghost use Rattle.std.specs.Prelude.{◌≡◌, ◌+◌, ◌*◌, ◌^◌, ◌<�
 ghost use Rattle.spec.specs.Entries.{normal, code_field};
 ghost use Rattle.marks.specs.Marks.{mark_of, place_in, key_in, key_of, is_place, found_at};
 
+// The marks of all items: eight of each.
+pub type Marks = [[u64; spec::ENTRY_SLOTS]; spec::ITEM_SLOTS];
+
 // A mark's place is counted in these.
 const PLACE: u64 = 4294967296;
 

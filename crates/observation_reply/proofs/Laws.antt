@@ -150,6 +150,6 @@ module _ (cat : ℕ → ℕ) (m : ℕ) (st : List ℕ) (selection number f : ℕ
           ∙ rows_whole w (up_to cat m st selection f (number + 1)) as_many z h (rw (rows right) at e)
 
 -- as many as the marks hold, where m is the number of items
-module _ {m n : ℕ} (em : m ≡ n) (st : List ℕ) (f : ℕ) (l : List ℕ) (selection k : ℕ) where
+module _ {m n : ℕ} (em : m ≡ n) (st : List ℕ) (f : ℕ) (l : List (List ℕ)) (selection k : ℕ) where
   pub held-many : k ≡ held_count selection l m 0 → k ≡ length (held_by n st f l selection)
   held-many e = rw (← em) (e ∙ sym (held-length m st f l selection))

@@ -1,16 +1,15 @@
 -- The pass over the ring: one more number, parts of it, and what a run's loops know.
-use Prim.Native.Nat.{ℕ, zero, suc, ◌+◌, ◌-◌, ◌*◌, ◌≤◌, ◌<◌}
+use Prim.Native.Nat.{ℕ, zero, suc, ◌+◌, ◌-◌, ◌≤◌, ◌<◌}
 use mathlib.Core.Path.{◌≡◌, refl, sym, ap, ◌∙◌}
 use mathlib.Core.Bool.{Bool, true, false, ◌&&◌, and_assoc, false≢true}
 use mathlib.Core.List.{List}
 use native.Mathlib.Numerals.{add-one}
 use native.Mathlib.Omega.{arith}
 use lib.Dec.{ltb}
-use lib.ListN.{length, set, length-set}
+use lib.ListN.{set}
 use borrow.Author.Tests.{lt-ltb}
 use Rattle.spec.specs.Words.{bit}
 use Rattle.spec.specs.Value.{item_of}
-use Rattle.spec.specs.Model.{max_items}
 use Rattle.history.specs.Observations.{ring_size, base, place}
 use Rattle.observations.specs.Ring.{ring_word}
 use Rattle.rows.specs.Rows.{Unwrapped}
@@ -23,7 +22,7 @@ use Rattle.passes.specs.Passes.{Skipped}
 -- ---- parts of the pass
 
 module _ (steps m : ℕ) (st : List ℕ) (f : ℕ) where
-  pub marks-add : (a b s : ℕ) (l : List ℕ)
+  pub marks-add : (a b s : ℕ) (l : List (List ℕ))
       → pass_marks steps st f (a + b) s l ≡ pass_marks steps st f b (s + a) (pass_marks steps st f a s l)
   unfolding pass_marks
   marks-add zero b s l = let q : 0 + b ≡ b = omega arith in let r : s + 0 ≡ s = omega arith in rw (q, r)
@@ -32,7 +31,7 @@ module _ (steps m : ℕ) (st : List ℕ) (f : ℕ) where
       let r : s + suc a ≡ suc s + a = omega arith in
       rw (q, r) (marks-add a b (suc s) (number_stepped steps st f s l))
 
-  ok_add : (a b s : ℕ) (l : List ℕ) → pass_ok steps m st f (a + b) s l
+  ok_add : (a b s : ℕ) (l : List (List ℕ)) → pass_ok steps m st f (a + b) s l
       ≡ pass_ok steps m st f a s l && pass_ok steps m st f b (s + a) (pass_marks steps st f a s l)
   unfolding pass_marks pass_ok
   ok_add zero b s l = let q : 0 + b ≡ b = omega arith in let r : s + 0 ≡ s = omega arith in rw (q, r)
@@ -63,11 +62,11 @@ module _ (steps m : ℕ) (st : List ℕ) (f : ℕ) where
     turn : s + (g - s) ≡ g
     turn = omega arith
 
-    marks-split : (l : List ℕ)
+    marks-split : (l : List (List ℕ))
         → pass_marks steps st f (e - s) s l ≡ pass_marks steps st f (e - g) g (pass_marks steps st f (g - s) s l)
     marks-split l = rw all (rw turn at (marks-add (g - s) (e - g) s l))
 
-    ok-split : (l : List ℕ) → pass_ok steps m st f (e - s) s l
+    ok-split : (l : List (List ℕ)) → pass_ok steps m st f (e - s) s l
         ≡ pass_ok steps m st f (g - s) s l && pass_ok steps m st f (e - g) g (pass_marks steps st f (g - s) s l)
     ok-split l = rw all (rw turn at (ok_add (g - s) (e - g) s l))
 
@@ -75,9 +74,9 @@ module _ (steps m : ℕ) (st : List ℕ) (f : ℕ) where
     seen-split w = rw all (rw turn at (seen-add (g - s) (e - g) s w))
 
 -- the front one answers t, with the marks x and the newest places y behind it
-module _ {steps m : ℕ} {st : List ℕ} {f s g e : ℕ} (h1 : s ≤ g) (h2 : g ≤ e) {l x w y : List ℕ} {t : Bool}
+module _ {steps m : ℕ} {st : List ℕ} {f s g e : ℕ} (h1 : s ≤ g) (h2 : g ≤ e) {l x : List (List ℕ)} {w y : List ℕ} {t : Bool}
     (a : Passed steps m st f s g l x w y t) where
-  pub front-no : {l' w' : List ℕ} → t ≡ false → Passed steps m st f s e l l' w w' false
+  pub front-no : {l' : List (List ℕ)} {w' : List ℕ} → t ≡ false → Passed steps m st f s e l l' w w' false
   front-no z =
       let b = a.ok in
       record {
@@ -99,23 +98,24 @@ module _ {steps m : ℕ} {st : List ℕ} {f s g e : ℕ} (h1 : s ≤ g) (h2 : g 
     pub both-seen : seen_from st f (e - s) s w ≡ seen_from st f (e - g) g y
     both-seen = let k = (a.behind z).1 in seen-split steps m st f s g e h1 h2 w ∙ rw (← k)
 
-    pub both : {l' w' : List ℕ} {u : Bool} → Passed steps m st f g e x l' y w' u → Passed steps m st f s e l l' w w' u
+    pub both : {l' : List (List ℕ)} {w' : List ℕ} {u : Bool} → Passed steps m st f g e x l' y w' u
+        → Passed steps m st f s e l l' w w' u
     both b =
         record {
           ok = b.ok ∙ sym both_ok;
           behind = λ n. ((b.behind n).0 ∙ sym both-marks, (b.behind n).1 ∙ sym both-seen);
         }
 
-marks-end : (steps : ℕ) (st : List ℕ) (f s e : ℕ) (l : List ℕ) → e ≤ s → pass_marks steps st f (e - s) s l ≡ l
+marks-end : (steps : ℕ) (st : List ℕ) (f s e : ℕ) (l : List (List ℕ)) → e ≤ s → pass_marks steps st f (e - s) s l ≡ l
 unfolding pass_marks
 marks-end steps st f s e l h = let q : e - s ≡ 0 = omega arith in rw q
 
-ok_end : (steps m : ℕ) (st : List ℕ) (f s e : ℕ) (l : List ℕ) → e ≤ s → pass_ok steps m st f (e - s) s l ≡ true
+ok_end : (steps m : ℕ) (st : List ℕ) (f s e : ℕ) (l : List (List ℕ)) → e ≤ s → pass_ok steps m st f (e - s) s l ≡ true
 unfolding pass_ok
 ok_end steps m st f s e l h = let q : e - s ≡ 0 = omega arith in rw q
 
 -- ---- one number, at place q, of an item that isn't stepped
-module _ (steps m : ℕ) (st : List ℕ) (f s e q : ℕ) (l : List ℕ) (h : s < e) (i : q ≡ place (ring_size st) (base st) s)
+module _ (steps m : ℕ) (st : List ℕ) (f s e q : ℕ) (l : List (List ℕ)) (h : s < e) (i : q ≡ place (ring_size st) (base st) s)
     (b : bit steps (item_of (word_at st q)) ≡ false) where
   plain : bit steps (item_of (word_of st s)) ≡ false
   plain = rw i at b
@@ -152,17 +152,15 @@ pub record Skipping (steps m : ℕ) (st : List ℕ) (f a e : ℕ) (v w : List �
   pub run : Unwrapped (ring_size st) (base st) e s q
   pub low : a ≤ s
   pub high : s ≤ e
-  pub wide : length w ≡ max_items
   pub skipped : Skipped steps m st f e a s v w
 
 pub skipping-start : (steps m : ℕ) (st : List ℕ) (f a e p : ℕ) (v : List ℕ) → Unwrapped (ring_size st) (base st) e a p
-    → a ≤ e → length v ≡ max_items → Skipping steps m st f a e v v a p
-skipping-start steps m st f a e p v r h n =
+    → a ≤ e → Skipping steps m st f a e v v a p
+skipping-start steps m st f a e p v r h =
     record {
       run = r;
       low = omega arith;
       high = h;
-      wide = n;
       skipped = record { ok = λ l. refl; marks = λ l. refl; seen = refl };
     }
 
@@ -176,7 +174,6 @@ module _ {steps m : ℕ} {st : List ℕ} {f a e : ℕ} {v w : List ℕ} {s q : �
         run = run-next z.run h;
         low = omega (arith, z.low);
         high = omega arith;
-        wide = length-set w i y ∙ z.wide;
         skipped =
             record {
               ok = λ l. z.skipped.ok l ∙ plain_ok steps m st f s e q l h at (rw item at b) (rw item at g);
@@ -187,52 +184,45 @@ module _ {steps m : ℕ} {st : List ℕ} {f a e : ℕ} {v w : List ℕ} {s q : �
 
 -- ---- a run's loop: l and w are the marks and the newest places behind the numbers from a up to s, which is at place
 -- q; they were o and v at a
-pub record Passing (steps m : ℕ) (st : List ℕ) (f a e : ℕ) (o l v w : List ℕ) (s q : ℕ) : Type 0 where
+pub record Passing (steps m : ℕ) (st : List ℕ) (f a e : ℕ) (o l : List (List ℕ)) (v w : List ℕ) (s q : ℕ) : Type 0 where
   pub run : Unwrapped (ring_size st) (base st) e s q
   pub from : f ≤ s
-  pub len : length l ≡ 8 * max_items
-  pub wide : length w ≡ max_items
   pub ok : pass_ok steps m st f (e - a) a o ≡ pass_ok steps m st f (e - s) s l
   pub marks : pass_marks steps st f (e - a) a o ≡ pass_marks steps st f (e - s) s l
   pub seen : seen_from st f (e - a) a v ≡ seen_from st f (e - s) s w
 
-pub passing-start : (steps m : ℕ) (st : List ℕ) (f a e : ℕ) (o v : List ℕ) (q : ℕ) → Unwrapped (ring_size st) (base st) e a q
-    → f ≤ a → length o ≡ 8 * max_items → length v ≡ max_items → Passing steps m st f a e o o v v a q
-passing-start steps m st f a e o v q r h n k =
-    record { run = r; from = h; len = n; wide = k; ok = refl; marks = refl; seen = refl }
+pub passing-start : (steps m : ℕ) (st : List ℕ) (f a e : ℕ) (o : List (List ℕ)) (v : List ℕ) (q : ℕ)
+    → Unwrapped (ring_size st) (base st) e a q → f ≤ a → Passing steps m st f a e o o v v a q
+passing-start steps m st f a e o v q r h =
+    record { run = r; from = h; ok = refl; marks = refl; seen = refl }
 
-module _ {steps m : ℕ} {st : List ℕ} {f a e : ℕ} {o l v w : List ℕ} {s q : ℕ}
+module _ {steps m : ℕ} {st : List ℕ} {f a e : ℕ} {o l : List (List ℕ)} {v w : List ℕ} {s q : ℕ}
     (z : Passing steps m st f a e o l v w s q) where
   -- the numbers up to r are behind too, which change no mark
-  pub passing-skip : {r : ℕ} {w' : List ℕ} → (s ≤ r) × (r ≤ e) → length w' ≡ length w
-      → Skipped steps m st f e s r w w' → Passing steps m st f a e o l v w' r (q + (r - s))
-  passing-skip h n k =
+  pub passing-skip : {r : ℕ} {w' : List ℕ} → (s ≤ r) × (r ≤ e) → Skipped steps m st f e s r w w'
+      → Passing steps m st f a e o l v w' r (q + (r - s))
+  passing-skip h k =
       record {
         run = run_on z.run h.0 h.1;
         from = omega (arith, z.from, h.0);
-        len = z.len;
-        wide = n ∙ z.wide;
         ok = z.ok ∙ k.ok l;
         marks = z.marks ∙ k.marks l;
         seen = z.seen ∙ k.seen;
       }
 
   -- a block of numbers up to g
-  module _ {g : ℕ} (h1 : s ≤ g) (h2 : g ≤ e) {l' w' : List ℕ} {t : Bool} (b : Passed steps m st f s g l l' w w' t)
+  module _ {g : ℕ} (h1 : s ≤ g) (h2 : g ≤ e) {l' : List (List ℕ)} {w' : List ℕ} {t : Bool} (b : Passed steps m st f s g l l' w w' t)
     where
-      pub passing-no : {x y : List ℕ} → t ≡ false → Passed steps m st f a e o x v y false
+      pub passing-no : {x : List (List ℕ)} {y : List ℕ} → t ≡ false → Passed steps m st f a e o x v y false
       passing-no {x} {y} n =
           let k = front-no h1 h2 b {l' = x} {w' = y} n in
           record { ok = k.ok ∙ sym z.ok; behind = λ u. absurd (false≢true u) }
 
-      pub passing-block : t ≡ true → length l' ≡ length l → length w' ≡ length w
-          → Passing steps m st f a e o l' v w' g (q + (g - s))
-      passing-block y n k =
+      pub passing-block : t ≡ true → Passing steps m st f a e o l' v w' g (q + (g - s))
+      passing-block y =
           record {
             run = run_on z.run h1 h2;
             from = omega (arith, z.from);
-            len = n ∙ z.len;
-            wide = k ∙ z.wide;
             ok = z.ok ∙ both_ok h1 h2 b y;
             marks = z.marks ∙ both-marks h1 h2 b y;
             seen = z.seen ∙ both-seen h1 h2 b y;

@@ -2,22 +2,21 @@
 // without a wrap. The place of the pass's first number is FIRST_PLACE.
 #![tactic(auto)]
 
-ghost use Rattle.std.specs.Prelude.{◌≡◌, is_some, ◌-◌, ◌*◌, ◌≤◌, length};
-ghost use Rattle.spec.specs.Model.{max_items};
+ghost use Rattle.std.specs.Prelude.{◌≡◌, is_some, ◌-◌, ◌≤◌};
 ghost use Rattle.history.specs.Observations.{ring_size, item_count, base};
 ghost use Rattle.picks.specs.Pass.{Part, Passed};
-ghost use Rattle.picks.specs.Picks.{Room};
 ghost use Rattle.passes.specs.Passes.{Skipped};
 
+use marks::Marks;
 use observations::Store;
 use picks::{BLOCK, PICK_SLOTS};
 use rows::Run;
 use snapshot_rows::FIRST_PLACE;
+use spec::ITEM_SLOTS;
 
 // The numbers of a run to the newest places, while their items are of the model and not in `steps`; the first that
 // isn't, or the run's end. Most rings have few others, and a test for them is all that this costs.
-fn plain_run(st: &Store<'_>, steps: u64, f: u64, run: Run, seen: &mut [u64]) -> u64
-    requires seen_len { length seen.old ≡ max_items }
+fn plain_run(st: &Store<'_>, steps: u64, f: u64, run: Run, seen: &mut [u64; ITEM_SLOTS]) -> u64
     requires part { Part st.now f run.from run.to run.place }
     requires from_le_to { run.from ≤ run.to }
     ensures bounds { (run.from ≤ result) × (result ≤ run.to) }
@@ -43,12 +42,11 @@ fn pass_run(
     steps: u64,
     f: u64,
     run: Run,
-    seen: &mut [u64],
-    picks: &mut [u8],
-    marks: &mut [u64],
+    seen: &mut [u64; ITEM_SLOTS],
+    picks: &mut [u8; PICK_SLOTS],
+    marks: &mut Marks,
 ) -> Option<()>
-    requires room { Room seen.old picks.old marks.old }
-    requires part { Part st.now f run.from run.to run.place }
+    requires { Part st.now f run.from run.to run.place }
     ensures { let st = st.entry.now in
         Passed steps (item_count st) st f run.from run.to marks.old marks.new seen.old seen.new (is_some result) }
 {
@@ -73,11 +71,10 @@ pub fn pass(
     steps: u64,
     f: u64,
     e: u64,
-    seen: &mut [u64],
-    marks: &mut [u64],
+    seen: &mut [u64; ITEM_SLOTS],
+    marks: &mut Marks,
 ) -> Option<()>
-    requires room { (length seen.old ≡ max_items) × (length marks.old ≡ 8 * max_items) }
-    requires st_bound { (base st.now ≤ f) × ((f ≤ e) × (e - f ≤ ring_size st.now)) }
+    requires { (base st.now ≤ f) × ((f ≤ e) × (e - f ≤ ring_size st.now)) }
     ensures { let st = st.entry.now in
         Passed steps (item_count st) st f f e marks.old marks.new seen.old seen.new (is_some result) }
 {

@@ -1,5 +1,5 @@
 -- Numbers picked out of a block: what the loops over them know, and that the marks behind them are the pass's.
-use Prim.Native.Nat.{ℕ, zero, suc, ◌+◌, ◌-◌, ◌*◌, ◌≤◌, ◌<◌}
+use Prim.Native.Nat.{ℕ, zero, suc, ◌+◌, ◌-◌, ◌≤◌, ◌<◌}
 use mathlib.Core.Path.{◌≡◌, refl, sym, ap, ◌∙◌}
 use mathlib.Core.Bool.{Bool, true, false, cond, true≢false, false≢true}
 use mathlib.Core.List.{List, [], ◌∷◌, ◌++◌, append_assoc, append-nil}
@@ -11,14 +11,14 @@ use lib.Seq.{take-set-le, take-suc-set, drop-cons, length-take-le}
 use borrow.Author.Tests.{lt-ltb, le-ltb, ltb-true, ne_eqb}
 use Rattle.spec.specs.Words.{bit, every}
 use Rattle.spec.specs.Value.{item_of}
-use Rattle.spec.specs.Model.{max_items}
 use Rattle.history.specs.Observations.{ring_size, base, place, ring_ok}
 use Rattle.spec.proofs.Words.{by-test, and_left, and_right, every-at}
 use Rattle.observations.specs.Ring.{ring_word}
+use Rattle.marks.specs.Marks.{eight_of}
 use Rattle.rows.specs.Rows.{items_ok, Unwrapped}
 use Rattle.rows.proofs.Ranges.{run-next}
 use Rattle.rows.proofs.Laws.{word_at, ok_step}
-use Rattle.picks.specs.Pass.{stepped_at, stepped_ok, fits, word_of, pass_marks, pass_ok, seen_from, Part, Passed}
+use Rattle.picks.specs.Pass.{stepped_eight, stepped_at, stepped_ok, fits, word_of, pass_marks, pass_ok, seen_from, Part, Passed}
 use Rattle.picks.specs.Picks.{block, picked, listed, Gathered, Pick, Each, number_at, pick_marks, pick_ok}
 use Rattle.picks.proofs.Numbers.{seen_step, seen_end, run_at}
 
@@ -43,7 +43,7 @@ listed-set (x ∷ xs) (suc c) h v =
     rw (ne_eqb x block (omega (arith, v.0)), listed-set xs c (omega arith) v.1)
 
 -- the marks behind the picks are those behind all numbers
-pick-marks : (steps : ℕ) (st : List ℕ) (f s k j : ℕ) (l : List ℕ)
+pick-marks : (steps : ℕ) (st : List ℕ) (f s k j : ℕ) (l : List (List ℕ))
     → pass_marks steps st f k (s + j) l ≡ pick_marks st f s (picked steps st s k j) l
 unfolding picked pick_marks pass_marks
 pick-marks steps st f s zero j l = refl
@@ -54,7 +54,7 @@ pick-marks steps st f s (suc k) j l =
     (λ b. rw (b, q) (pick-marks steps st f s k (suc j) l))
 
 -- where all items are the model's, they pass where the picks are no ninth entries
-pick-ok : (steps m : ℕ) (st : List ℕ) (f s k j : ℕ) (l : List ℕ)
+pick-ok : (steps m : ℕ) (st : List ℕ) (f s k j : ℕ) (l : List (List ℕ))
     → ring_ok (ring_size st) m (base st) st k (s + j) ≡ true
     → pass_ok steps m st f k (s + j) l ≡ pick_ok st f s (picked steps st s k j) l
 unfolding picked pick_ok pass_ok stepped_ok ring_ok every
@@ -69,7 +69,8 @@ pick-ok steps m st f s (suc k) j l o =
     (λ b. rw (a, b, q) (pick-ok steps m st f s k (suc j) l r))
 
 -- where one isn't, they don't pass
-foreign : (steps m : ℕ) (st : List ℕ) (f k s : ℕ) (l : List ℕ) → ring_ok (ring_size st) m (base st) st k s ≡ false
+foreign : (steps m : ℕ) (st : List ℕ) (f k s : ℕ) (l : List (List ℕ))
+    → ring_ok (ring_size st) m (base st) st k s ≡ false
     → false ≡ pass_ok steps m st f k s l
 unfolding pass_ok ring_ok every
 foreign steps m st f zero s l o = absurd (true≢false o)
@@ -88,22 +89,20 @@ pub record Gathering (steps m : ℕ) (st : List ℕ) (f a e : ℕ) (v w ps : Lis
   pub low : a ≤ s
   pub high : s ≤ e
   pub few : c ≤ s - a
-  pub wide : length w ≡ max_items
   pub room : length ps ≡ suc block
   pub ok : items_ok m st a e ≡ items_ok m st s e
   pub seen : seen_from st f (e - a) a v ≡ seen_from st f (e - s) s w
   pub picks : picked steps st a (e - a) 0 ≡ take c ps ++ picked steps st a (e - s) (s - a)
 
-pub gathering-start : (steps m : ℕ) (st : List ℕ) (f a e q : ℕ) (v ps : List ℕ) → Unwrapped (ring_size st) (base st) e a q
-    → a ≤ e → length v ≡ max_items → length ps ≡ suc block → Gathering steps m st f a e v v ps 0 a q
-gathering-start steps m st f a e q v ps r h n k =
+pub gathering-start : (steps m : ℕ) (st : List ℕ) (f a e q : ℕ) (v ps : List ℕ)
+    → Unwrapped (ring_size st) (base st) e a q → a ≤ e → length ps ≡ suc block → Gathering steps m st f a e v v ps 0 a q
+gathering-start steps m st f a e q v ps r h k =
     let z : a - a ≡ 0 = omega arith in
     record {
       run = r;
       low = omega arith;
       high = h;
       few = omega arith;
-      wide = n;
       room = k;
       ok = refl;
       seen = refl;
@@ -141,7 +140,6 @@ module _ {steps m : ℕ} {st : List ℕ} {f a e : ℕ} {v w ps : List ℕ} {c s 
           low = omega (arith, z.low);
           high = omega arith;
           few = omega (arith, z.few, z.low, ed.1);
-          wide = length-set w i y ∙ z.wide;
           room = length-set ps c j ∙ z.room;
           ok = z.ok ∙ (ok_step st m s e q h at ∙ rw (← item, lt-ltb i m g));
           seen = z.seen ∙ rw (item, ey) (seen_step st f s e q w h at);
@@ -188,19 +186,17 @@ module _ {steps m : ℕ} {st : List ℕ} {f a e : ℕ} {v w ps : List ℕ} {c s 
         )
 
 -- ---- a loop over picks: l are the marks behind the first t of them; the marks were o
-pub record Stepping (m : ℕ) (st : List ℕ) (f s p : ℕ) (ps o l : List ℕ) (t : ℕ) : Type 0 where
-  pub len : length l ≡ 8 * max_items
+pub record Stepping (m : ℕ) (st : List ℕ) (f s p : ℕ) (ps : List ℕ) (o l : List (List ℕ)) (t : ℕ) : Type 0 where
   pub here : t + length (listed (drop t ps)) < length ps
   pub picks : Each (Pick m st f s p) (listed (drop t ps))
   pub ok : pick_ok st f s (listed ps) o ≡ pick_ok st f s (listed (drop t ps)) l
   pub marks : pick_marks st f s (listed ps) o ≡ pick_marks st f s (listed (drop t ps)) l
 
-pub stepping-start : (m : ℕ) (st : List ℕ) (f s p : ℕ) (ps o : List ℕ) → length o ≡ 8 * max_items
-    → length (listed ps) < length ps → Each (Pick m st f s p) (listed ps) → Stepping m st f s p ps o o 0
-stepping-start m st f s p ps o n h v =
-    record { len = n; here = omega arith; picks = v; ok = refl; marks = refl }
+pub stepping-start : (m : ℕ) (st : List ℕ) (f s p : ℕ) (ps : List ℕ) (o : List (List ℕ)) → length (listed ps) < length ps
+    → Each (Pick m st f s p) (listed ps) → Stepping m st f s p ps o o 0
+stepping-start m st f s p ps o h v = record { here = omega arith; picks = v; ok = refl; marks = refl }
 
-module _ {m : ℕ} {st : List ℕ} {f s p : ℕ} {ps o l : List ℕ} {t : ℕ} (z : Stepping m st f s p ps o l t) where
+module _ {m : ℕ} {st : List ℕ} {f s p : ℕ} {ps : List ℕ} {o l : List (List ℕ)} {t : ℕ} (z : Stepping m st f s p ps o l t) where
   -- the picks end before the room for them does
   pub stepping-inside : t < length ps
   stepping-inside = omega (arith, z.here)
@@ -232,13 +228,14 @@ module _ {m : ℕ} {st : List ℕ} {f s p : ℕ} {ps o l : List ℕ} {t : ℕ} (
           unfolding pick_ok
           stepping-no e = sym (z.ok ∙ rw (more, ← owner, ← word, ← eb, e))
 
-          pub stepping-more : {y : ℕ} {r : List ℕ} → b ≡ true → y ≡ s + j - f + 9 → length r ≡ length l
-              → r ≡ stepped_at i y x l → Stepping m st f s p ps o r (t + 1)
+          pub stepping-more : {y : ℕ} {ms : List ℕ} → b ≡ true → y ≡ s + j - f + 9
+              → ms ≡ stepped_eight i y x (eight_of l i) → Stepping m st f s p ps o (set l i ms) (t + 1)
           unfolding pick_ok pick_marks
-          stepping-more {y} {r} e hy k er =
+          stepping-more {y} {ms} e hy em =
+              let r = set l i ms in
+              let er : r ≡ stepped_at i y x l = ap (set l i) em in
               let new : number_at st f (s + j) l ≡ r = rw (← owner, ← word, ← hy, er) in
               record {
-                len = k ∙ z.len;
                 here = rw (add-one t) (omega (arith, z.here, ap length more));
                 picks = rw (add-one t) (rw more at z.picks).1;
                 ok = z.ok ∙ rw (more, ← owner, ← word, ← eb, e, add-one t, er, hy);
@@ -258,7 +255,7 @@ block_start n = omega arith
 
 module _ (steps m : ℕ) (st : List ℕ) (f s e : ℕ) where
   -- an item isn't the model's
-  pub block-broken : (l : List ℕ) {l' w w' : List ℕ} {t : Bool} → t ≡ items_ok m st s e → t ≡ false
+  pub block-broken : (l : List (List ℕ)) {l' : List (List ℕ)} {w w' : List ℕ} {t : Bool} → t ≡ items_ok m st s e → t ≡ false
       → Passed steps m st f s e l l' w w' false
   block-broken l b z =
       record {
@@ -282,7 +279,7 @@ module _ (steps m : ℕ) (st : List ℕ) (f s e : ℕ) where
         }) steps st s (e - s) 0 (omega arith))
 
     -- the marks behind the picks
-    pub block-passed : (l : List ℕ) {l' : List ℕ} {r : Bool} → r ≡ pick_ok st f s (listed ps) l
+    pub block-passed : (l : List (List ℕ)) {l' : List (List ℕ)} {r : Bool} → r ≡ pick_ok st f s (listed ps) l
         → (r ≡ true → l' ≡ pick_marks st f s (listed ps) l) → Passed steps m st f s e l l' v w r
     block-passed l er el =
         record {

@@ -1,20 +1,13 @@
 -- Numbers picked out of a block.
-use Rattle.std.specs.Prelude.{ℕ, zero, suc, ◌+◌, ◌-◌, ◌*◌, ◌<◌, ◌≡◌, Bool, true, cond, ◌&&◌, List, [], ◌∷◌, eqb, length}
+use Rattle.std.specs.Prelude.{ℕ, zero, suc, ◌+◌, ◌-◌, ◌<◌, ◌≡◌, Bool, true, cond, ◌&&◌, List, [], ◌∷◌, eqb, length}
 use Rattle.spec.specs.Words.{bit}
 use Rattle.spec.specs.Value.{item_of}
-use Rattle.spec.specs.Model.{max_items}
 use Rattle.history.specs.Observations.{ring_size, base, place}
 use Rattle.picks.specs.Pass.{stepped_at, fits, word_of, seen_from}
 
 -- as many as are looked through at a time: a pick is below it, and it is none itself
 abbrev pub block : ℕ
 block = 255
-
--- room for the newest places, a block's picks with their end, and the marks
-pub record Room (w ps l : List ℕ) : Type 0 where
-  pub seen : length w ≡ max_items
-  pub picks : length ps ≡ suc block
-  pub marks : length l ≡ 8 * max_items
 
 -- how far from s on the k numbers from s + j on stand that are condition items'
 unfoldable pub picked : ℕ → List ℕ → ℕ → ℕ → ℕ → List ℕ
@@ -49,15 +42,15 @@ Each P [] = Unit {0}
 Each P (x ∷ xs) = P x × Each P xs
 
 -- the marks behind number s
-abbrev pub number_at : List ℕ → ℕ → ℕ → List ℕ → List ℕ
+abbrev pub number_at : List ℕ → ℕ → ℕ → List (List ℕ) → List (List ℕ)
 number_at st f s l = stepped_at (item_of (word_of st s)) (s - f + 9) (word_of st s) l
 
 -- behind those that are js from s on; none is a ninth entry
-unfoldable pub pick_marks : List ℕ → ℕ → ℕ → List ℕ → List ℕ → List ℕ
+unfoldable pub pick_marks : List ℕ → ℕ → ℕ → List ℕ → List (List ℕ) → List (List ℕ)
 pick_marks st f s [] l = l
 pick_marks st f s (j ∷ js) l = pick_marks st f s js (number_at st f (s + j) l)
 
-unfoldable pub pick_ok : List ℕ → ℕ → ℕ → List ℕ → List ℕ → Bool
+unfoldable pub pick_ok : List ℕ → ℕ → ℕ → List ℕ → List (List ℕ) → Bool
 pick_ok st f s [] l = true
 pick_ok st f s (j ∷ js) l =
     fits (item_of (word_of st (s + j))) (word_of st (s + j)) l && pick_ok st f s js (number_at st f (s + j) l)

@@ -2,16 +2,19 @@
 // picked out and stepped to their items' marks.
 #![tactic(auto)]
 
-ghost use Rattle.std.specs.Prelude.{◌≡◌, true, is_some, suc, ◌-◌, ◌*◌, ◌^◌, ◌<◌, ◌≤◌, length};
+ghost use Rattle.std.specs.Prelude.{◌≡◌, true, is_some, not, ◌-◌, ◌^◌, ◌<◌, ◌≤◌, length};
 ghost use Rattle.spec.specs.Model.{max_items};
 ghost use Rattle.history.specs.Observations.{item_count};
+ghost use Rattle.changes.specs.Changes.{change_for, is_full};
 ghost use Rattle.rows.specs.Rows.{items_ok};
-ghost use Rattle.picks.specs.Pass.{stepped_at, fits, Part, Passed};
-ghost use Rattle.picks.specs.Picks.{block, Room, listed, Gathered, Pick, Each, pick_marks, pick_ok};
+ghost use Rattle.picks.specs.Pass.{stepped_eight, Part, Passed};
+ghost use Rattle.picks.specs.Picks.{block, listed, Gathered, Pick, Each, pick_marks, pick_ok};
 
+use marks::Marks;
 use observations::Store;
 use rows::Run;
 use snapshot_rows::FIRST_PLACE;
+use spec::ITEM_SLOTS;
 
 // Numbers of the ring that are looked through at a time. A pick is a byte below BLOCK, which itself ends the picks:
 // with a count in its place the compiler computes it twice an entry.
@@ -27,10 +30,9 @@ fn gather(
     steps: u64,
     f: u64,
     run: Run,
-    seen: &mut [u64],
-    picks: &mut [u8],
+    seen: &mut [u64; ITEM_SLOTS],
+    picks: &mut [u8; PICK_SLOTS],
 ) -> Option<()>
-    requires room { (length seen.old ≡ max_items) × (length picks.old ≡ suc block) }
     requires part { Part st.now f run.from run.to run.place }
     requires from_le_to { (run.from ≤ run.to) × (run.to - run.from ≤ block) }
     ensures value { is_some result ≡ items_ok (item_count st.now) st.now run.from run.to }
@@ -48,6 +50,7 @@ fn gather(
             return None;
         }
         seen[i as usize] = number - f + FIRST_PLACE;
+        // below BLOCK
         picks[count as usize] = far as u8;
         count += selection::bit_of(steps, i);
     }
@@ -55,29 +58,33 @@ fn gather(
     Some(())
 }
 
-// A ring entry of condition item i, by its packed word and its place, to the marks; false where it would be a ninth.
-fn step_item(i: u64, place: u64, word: u64, marks: &mut [u64]) -> bool
-    requires { (i < max_items) × ((place < 2 ^ 31) × (length marks.old ≡ 8 * max_items)) }
-    ensures value { result ≡ fits i word marks.old }
-    ensures marks_after { result ≡ true → marks.new ≡ stepped_at i place word marks.old }
+// A ring entry of condition item i, by its packed word and its place, to the item's marks; None where it would be a
+// ninth.
+fn step_item(i: u64, place: u64, word: u64, marks: &mut [u64; spec::ENTRY_SLOTS]) -> Option<()>
+    requires { (i < max_items) × (place < 2 ^ 31) }
+    ensures value { is_some result ≡ not (is_full (change_for i marks.old word)) }
+    ensures marks_after { is_some result ≡ true → marks.new ≡ stepped_eight i place word marks.old }
 {
-    let x = (spec::ENTRIES * i) as usize;
-    let eight = &mut marks[x..x + spec::ENTRY_SLOTS];
     let key = marks::key_of(i, word);
     let mark = marks::mark_of(place, key);
     if key != 0 {
-        if marks::key_in(eight[0]) != 0 {
-            return eights::raise(eight, key, mark);
+        if marks::key_in(marks[0]) != 0 {
+            return eights::raise(marks, key, mark);
         }
     }
-    let change = changes::change_for(eight, i, word);
-    eights::apply(eight, change, mark);
-    true
+    let change = changes::change_for(marks, i, word);
+    eights::apply(marks, change, mark);
+    Some(())
 }
 
 // The picks of a block to the marks; None where one would be a ninth.
-fn step_picks(st: &Store<'_>, f: u64, run: Run, picks: &[u8], marks: &mut [u64]) -> Option<()>
-    requires marks_len { length marks.old ≡ 8 * max_items }
+fn step_picks(
+    st: &Store<'_>,
+    f: u64,
+    run: Run,
+    picks: &[u8; PICK_SLOTS],
+    marks: &mut Marks,
+) -> Option<()>
     requires f_le_from { (f ≤ run.from) × (length (listed picks.now) < length picks.now) }
     requires each { Each (Pick (item_count st.now) st.now f run.from run.place) (listed picks.now) }
     ensures value { is_some result ≡ pick_ok st.now f run.from (listed picks.now) marks.old }
@@ -93,9 +100,8 @@ fn step_picks(st: &Store<'_>, f: u64, run: Run, picks: &[u8], marks: &mut [u64])
         }
         let word = observations::ring_word(words, n, run.place + far);
         let place = run.from - f + far + FIRST_PLACE;
-        if !step_item(value::item_of(word), place, word, marks) {
-            return None;
-        }
+        let i = value::item_of(word);
+        step_item(i, place, word, &mut marks[i as usize])?;
     }
     Some(())
 }
@@ -106,11 +112,10 @@ pub fn step_block(
     steps: u64,
     f: u64,
     run: Run,
-    seen: &mut [u64],
-    picks: &mut [u8],
-    marks: &mut [u64],
+    seen: &mut [u64; ITEM_SLOTS],
+    picks: &mut [u8; PICK_SLOTS],
+    marks: &mut Marks,
 ) -> Option<()>
-    requires room { Room seen.old picks.old marks.old }
     requires part { Part st.now f run.from run.to run.place }
     requires from_le_to { (run.from ≤ run.to) × (run.to - run.from ≤ block) }
     ensures { let st = st.entry.now in

@@ -67,7 +67,7 @@ module _ (l : List ℕ) {r : Option ℕ} {n : ℕ} (er : r ≡ position vacant l
 -- ---- all items
 
 -- as many rows as used marks
-count-from : (m : ℕ) (st : List ℕ) (f : ℕ) (l : List ℕ) (selection k i : ℕ)
+count-from : (m : ℕ) (st : List ℕ) (f : ℕ) (l : List (List ℕ)) (selection k i : ℕ)
     → length (flat_rows (bit selection) (marked_rows m st f l) k i) ≡ held_count selection l k i
 unfolding flat_rows held_count
 count-from m st f l selection zero i = refl
@@ -81,23 +81,23 @@ count-from m st f l selection (suc k) i =
     ∙ rw (more, length-map (item_places l i) (row_of m st f i))))
     (λ t. rw (t, more))
 
-pub held-length : (m : ℕ) (st : List ℕ) (f : ℕ) (l : List ℕ) (selection : ℕ)
+pub held-length : (m : ℕ) (st : List ℕ) (f : ℕ) (l : List (List ℕ)) (selection : ℕ)
     → length (held_by m st f l selection) ≡ held_count selection l m 0
 unfolding held_by
 held-length m st f l selection = count-from m st f l selection m 0
 
 -- a loop that counts those of m items
-pub record Counting (m selection : ℕ) (l : List ℕ) (k i : ℕ) : Type 0 where
+pub record Counting (m selection : ℕ) (l : List (List ℕ)) (k i : ℕ) : Type 0 where
   pub high : i ≤ m
   pub few : k ≤ 8 * i
   pub rest : held_count selection l m 0 ≡ k + held_count selection l (m - i) i
 
-pub counting-start : (m selection : ℕ) (l : List ℕ) → Counting m selection l 0 0
+pub counting-start : (m selection : ℕ) (l : List (List ℕ)) → Counting m selection l 0 0
 counting-start m selection l =
     let q : m - 0 ≡ m = omega arith in
     record { high = omega arith; few = omega arith; rest = rw q (omega arith) }
 
-module _ {m selection : ℕ} {l : List ℕ} {k i : ℕ} (v : Counting m selection l k i) where
+module _ {m selection : ℕ} {l : List (List ℕ)} {k i : ℕ} (v : Counting m selection l k i) where
   module _ (h : i < m) where
     count_next : held_count selection l (m - i) i
         ≡ cond (bit selection i) (length (item_places l i) + held_count selection l (m - (i + 1)) (i + 1))

@@ -1,9 +1,9 @@
--- The rows that marks hold, eight of each item side by side.
+-- The rows that marks hold, eight of each item.
 use Rattle.std.specs.Prelude.{ℕ, zero, suc, ◌+◌, ◌-◌, ◌*◌, cond, List, [], ◌∷◌, map, ltb, eqb, length}
 use Rattle.spec.specs.Words.{bit, row}
 use Rattle.spec.specs.Blocks.{flat_rows}
 use Rattle.history.specs.Observations.{ring_size, base, numbered, checkpoint_at}
-use Rattle.marks.specs.Marks.{place_in, eight_at}
+use Rattle.marks.specs.Marks.{place_in, eight_of}
 
 -- item i's entry at a place: of its checkpoint up to 8, of the ring behind them
 abbrev pub row_of : ℕ → List ℕ → ℕ → ℕ → ℕ → List ℕ
@@ -19,19 +19,23 @@ used_places (x ∷ xs) =
     let u = used_places xs in
     cond (eqb (place_in x) 0) [] (place_in x ∷ u)
 
--- of item i
-abbrev pub item_places : List ℕ → ℕ → List ℕ
-item_places l i = used_places (eight_at l (8 * i))
+-- item i's rows, of its eight marks
+abbrev pub eight_rows : ℕ → List ℕ → ℕ → ℕ → List ℕ → List (List ℕ)
+eight_rows m st f i ms = map (row_of m st f i) (used_places ms)
 
-abbrev pub marked_rows : ℕ → List ℕ → ℕ → List ℕ → ℕ → List (List ℕ)
-marked_rows m st f l i = map (row_of m st f i) (item_places l i)
+-- of item i, among the marks of all
+abbrev pub item_places : List (List ℕ) → ℕ → List ℕ
+item_places l i = used_places (eight_of l i)
+
+abbrev pub marked_rows : ℕ → List ℕ → ℕ → List (List ℕ) → ℕ → List (List ℕ)
+marked_rows m st f l i = eight_rows m st f i (eight_of l i)
 
 -- of the selected items
-unfoldable pub held_by : ℕ → List ℕ → ℕ → List ℕ → ℕ → List (List ℕ)
+unfoldable pub held_by : ℕ → List ℕ → ℕ → List (List ℕ) → ℕ → List (List ℕ)
 held_by m st f l selection = flat_rows (bit selection) (marked_rows m st f l) m 0
 
 -- how many marks the selected ones of k items from i on use
-unfoldable pub held_count : ℕ → List ℕ → ℕ → ℕ → ℕ
+unfoldable pub held_count : ℕ → List (List ℕ) → ℕ → ℕ → ℕ
 held_count selection l zero i = 0
 held_count selection l (suc k) i =
     let r = held_count selection l k (suc i) in

@@ -1,4 +1,4 @@
-// The rows that marks hold, eight marks of each item side by side: an item's entry at a mark's place is of its
+// The rows that marks hold, eight marks of each item: an item's entry at a mark's place is of its
 // checkpoint, from place 1 on, or of the ring, where a pass's first number has place 9.
 #![tactic(auto)]
 
@@ -7,42 +7,41 @@ ghost use Rattle.spec.specs.Model.{max_items};
 ghost use Rattle.history.specs.Observations.{item_count, base, last};
 ghost use Rattle.marks.specs.Marks.{place_in};
 ghost use Rattle.rows.specs.Rows.{rows_at, rows_into};
-ghost use Rattle.snapshot_rows.specs.Held.{row_of, item_places, marked_rows, held_by, held_count};
+ghost use Rattle.snapshot_rows.specs.Held.{row_of, used_places, eight_rows, held_by, held_count};
 
+use marks::Marks;
 use observations::{Row, Store};
+use spec::ENTRY_SLOTS;
 
 // The place of a pass's first number, behind those of the checkpoint's entries.
 pub const FIRST_PLACE: u64 = spec::ENTRIES + 1;
 
 // The first mark of an item that isn't used.
-fn first_unused(eight: &[u64]) -> Option<usize>
+fn first_unused(eight: &[u64; ENTRY_SLOTS]) -> Option<usize>
     ensures { result ≡ position (λ mark. place_in mark == 0) eight.now }
 {
     eight.iter().position(|mark| marks::place_in(*mark) == 0)
 }
 
-// Item i's used marks.
-fn used(i: u64, marks: &[u64]) -> &[u64]
-    requires { (i < max_items) × (length marks.now ≡ 8 * max_items) }
-    ensures places { map place_in result.now ≡ item_places marks.now i }
+// The used marks of an item's eight.
+fn used(eight: &[u64; ENTRY_SLOTS]) -> &[u64]
+    ensures places { map place_in result.now ≡ used_places eight.now }
     ensures few { length result.now ≤ 8 }
     ensures each { (k : ℕ) → k < length result.now → 1 ≤ place_in (get_or result.now k 0) }
 {
-    let x = (spec::ENTRIES * i) as usize;
-    let eight = &marks[x..x + spec::ENTRY_SLOTS];
-    let n = first_unused(eight).unwrap_or(spec::ENTRY_SLOTS);
+    let n = first_unused(eight).unwrap_or(ENTRY_SLOTS);
     &eight[..n]
 }
 
 // How many rows the marks of the selected items are.
-pub fn count(m: u64, selection: u64, marks: &[u64]) -> u64
-    requires { (m ≤ max_items) × (length marks.now ≡ 8 * max_items) }
+pub fn count(m: u64, selection: u64, marks: &Marks) -> u64
+    requires { m ≤ max_items }
     ensures { (result ≡ held_count selection marks.now m 0) × (result ≤ 8 * m) }
 {
     let mut k: u64 = 0;
     for i in 0..m {
         if selection::has(selection, i) {
-            k += used(i, marks).len() as u64;
+            k += used(&marks[i as usize]).len() as u64;
         }
     }
     k
@@ -69,26 +68,27 @@ fn row_of(st: &Store<'_>, f: u64, i: u64, place: u64) -> Row
     }
 }
 
-// The rows of item i's marks, where `done` of the k rows are written; how many are written then.
+// The rows of item i's eight marks, where `done` of the k rows are written; how many are written then. No plainer with
+// done, k and out in a struct, which would hold a lent buffer.
 fn write_item(
     st: &Store<'_>,
     f: u64,
     i: u64,
-    marks: &[u64],
+    eight: &[u64; ENTRY_SLOTS],
     done: u64,
     k: u64,
     out: &mut [u64],
 ) -> u64
-    requires i_lt_items { (i < item_count st.now) × ((i < max_items) × (length marks.now ≡ 8 * max_items)) }
+    requires i_lt_items { i < item_count st.now }
     requires st_bound { (base st.now ≤ f) × (f ≤ suc (last st.now)) }
-    requires i_bound { (done + length (marked_rows (item_count st.now) st.now f marks.now i) ≤ k)
+    requires i_bound { (done + length (eight_rows (item_count st.now) st.now f i eight.now) ≤ k)
         × (3 * k ≤ length out.old) }
-    ensures value { result ≡ done + length (marked_rows (item_count st.now) st.now f marks.now i) }
+    ensures value { result ≡ done + length (eight_rows (item_count st.now) st.now f i eight.now) }
     ensures out_after { out.new
-        ≡ rows_at out.old done (k + 2 * done) (marked_rows (item_count st.now) st.now f marks.now i) }
+        ≡ rows_at out.old done (k + 2 * done) (eight_rows (item_count st.now) st.now f i eight.now) }
 {
     let mut c = done;
-    let used = used(i, marks);
+    let used = used(eight);
     for &mark in used {
         let place = marks::place_in(mark);
         let row = row_of(st, f, i, place);
@@ -99,8 +99,7 @@ fn write_item(
 }
 
 // Current with at: the rows that the marks hold of the selected items, which are k; f is the pass's first number.
-pub fn write_held(st: &Store<'_>, f: u64, selection: u64, marks: &[u64], k: u64, out: &mut [u64])
-    requires marks_len { length marks.now ≡ 8 * max_items }
+pub fn write_held(st: &Store<'_>, f: u64, selection: u64, marks: &Marks, k: u64, out: &mut [u64])
     requires st_bound { (base st.now ≤ f) × (f ≤ suc (last st.now)) }
     requires k_value { (k ≡ length (held_by (item_count st.now) st.now f marks.now selection))
         × (3 * k ≤ length out.old) }
@@ -110,7 +109,7 @@ pub fn write_held(st: &Store<'_>, f: u64, selection: u64, marks: &[u64], k: u64,
     let mut c: u64 = 0;
     for i in 0..st.items() {
         if selection::has(selection, i) {
-            c = write_item(st, f, i, marks, c, k, out);
+            c = write_item(st, f, i, &marks[i as usize], c, k, out);
         }
     }
 }

@@ -6,8 +6,7 @@ use mathlib.Core.List.{List, [], ◌∷◌, map}
 use native.Mathlib.Numerals.{add-one}
 use native.Mathlib.Omega.{arith}
 use lib.Dec.{eqb}
-use lib.ListN.{length, get_or, drop, replicate, length-replicate, replicate-append-replicate}
-use lib.Seq.{sets, length-sets}
+use lib.ListN.{length, get_or, set, drop, replicate, length-set, get_or-replicate}
 use borrow.Author.Tests.{ne_eqb, eqb-true, eqb-false, lt-ltb}
 use Rattle.spec.specs.Words.{bit, every, row}
 use Rattle.spec.specs.Model.{max_items}
@@ -16,10 +15,8 @@ use Rattle.spec.specs.Entries.{each_row, zero_row, used_rows, form_ok, packed}
 use Rattle.history.specs.Observations.{ring_size, checkpoint_at, item_rows}
 use Rattle.spec.proofs.Words.{by-test, and_left, and_right, every-no, every-yes, every-end}
 use Rattle.spec.proofs.Steps.{used-formed}
-use Rattle.marks.specs.Marks.{mark_of, key_of, eight_at}
+use Rattle.marks.specs.Marks.{mark_of, key_of, eight_of}
 use Rattle.marks.proofs.Keys.{key-small, mark-place}
-use Rattle.marks.proofs.Laws.{eight-back}
-use borrow.Rule.Slice.PartMut.{put_mid}
 use Rattle.entries.specs.Forms.{marks_of}
 use Rattle.entries.proofs.Marks.{length-marks, form-zeros, marks-of}
 use Rattle.entries.proofs.Filling.{rows-many}
@@ -118,52 +115,36 @@ pub table_at : (m : ℕ) (st : List ℕ) {n t : ℕ} → t ≡ checkpoint_at n m
     → t ≡ checkpoint_at (ring_size st) m
 table_at m st e h = e ∙ rw h
 
--- an item's eight words, lent and filled
-pub first-filled : (st : List ℕ) (t m i : ℕ) (l : List ℕ) {r : List ℕ} → 8 * i + 8 ≤ length l
-    → form_ok i 0 (item_rows st t m i) ≡ true
-    → (form_ok i 0 (item_rows st t m i) ≡ true → r ≡ marks_of i 1 (item_rows st t m i))
-    → put_mid (8 * i) (8 * i + 8 - 8 * i) l r ≡ sets l (8 * i) (marks_of i 1 (item_rows st t m i))
-first-filled st t m i l {r} room f g =
-    let e = g f in
-    let n : length r ≡ 8 =
-    ap length e ∙ length-marks i 1 (item_rows st t m i) ∙ rows-many st t (8 * m) 8 (8 * i) in
-    eight-back (8 * i) l r n room ∙ ap (sets l (8 * i)) e
-
 -- ---- all items
 
 module _ (steps m : ℕ) (st : List ℕ) where
   abbrev marks_at : ℕ → List ℕ
   marks_at i = marks_of i 1 (item_rows st (checkpoint_at (ring_size st) m) m i)
 
-  length-at : (i : ℕ) → length (marks_at i) ≡ 8
-  length-at i =
-      let t = checkpoint_at (ring_size st) m in
-      length-marks i 1 (item_rows st t m i) ∙ rows-many st t (8 * m) 8 (8 * i)
-
   -- the marks behind item i
-  abbrev pub begun_item : ℕ → List ℕ → List ℕ
-  begun_item i l = cond (bit steps i) (sets l (8 * i) (marks_at i)) l
+  abbrev pub begun_item : ℕ → List (List ℕ) → List (List ℕ)
+  begun_item i l = cond (bit steps i) (set l i (marks_at i)) l
 
-  pub length-item : (i : ℕ) (l : List ℕ) → length (begun_item i l) ≡ length l
-  length-item i l = by-test (bit steps i) (λ t. rw t (length-sets l (8 * i) (marks_at i))) (λ t. rw t)
+  pub length-item : (i : ℕ) (l : List (List ℕ)) → length (begun_item i l) ≡ length l
+  length-item i l = by-test (bit steps i) (λ t. rw t (length-set l i (marks_at i))) (λ t. rw t)
 
-  pub item-other : (i j : ℕ) (l : List ℕ) → (i ≡ j → ⊥) → eight_at (begun_item i l) (8 * j) ≡ eight_at l (8 * j)
+  pub item-other : (i j : ℕ) (l : List (List ℕ)) → (i ≡ j → ⊥) → eight_of (begun_item i l) j ≡ eight_of l j
   item-other i j l n =
-      by-test (bit steps i) (λ t. rw t (eight-other (marks_at i) l j i (length-at i) n)) (λ t. rw t)
+      by-test (bit steps i) (λ t. rw t (eight-other (marks_at i) l j i n)) (λ t. rw t)
 
-  pub length-begun : (k j : ℕ) (l : List ℕ) → length (begun steps m st k j l) ≡ length l
+  pub length-begun : (k j : ℕ) (l : List (List ℕ)) → length (begun steps m st k j l) ≡ length l
   unfolding begun
   length-begun zero j l = refl
   length-begun (suc k) j l = length-begun k (suc j) (begun_item j l) ∙ length-item j l
 
-  begun-below : (k j : ℕ) (l : List ℕ) (i : ℕ) → i < j → eight_at (begun steps m st k j l) (8 * i) ≡ eight_at l (8 * i)
+  begun-below : (k j : ℕ) (l : List (List ℕ)) (i : ℕ) → i < j → eight_of (begun steps m st k j l) i ≡ eight_of l i
   unfolding begun
   begun-below zero j l i h = refl
   begun-below (suc k) j l i h =
       begun-below k (suc j) (begun_item j l) i (omega arith) ∙ item-other j i l (λ e. omega arith)
 
-  pub begun-at : (k j : ℕ) (l : List ℕ) (i : ℕ) → j ≤ i → i < j + k → 8 * i + 8 ≤ length l → bit steps i ≡ true
-      → eight_at (begun steps m st k j l) (8 * i) ≡ marks_at i
+  pub begun-at : (k j : ℕ) (l : List (List ℕ)) (i : ℕ) → j ≤ i → i < j + k → i < length l → bit steps i ≡ true
+      → eight_of (begun steps m st k j l) i ≡ marks_at i
   unfolding begun
   begun-at zero j l i h g n b = absurd (omega arith)
   begun-at (suc k) j l i h g n b =
@@ -171,14 +152,14 @@ module _ (steps m : ℕ) (st : List ℕ) where
       (λ t.
       let e : j ≡ i = eqb-true j i t in
       begun-below k (suc j) (begun_item j l) i (omega arith)
-      ∙ rw (e, b) (eight-same (marks_at i) l i (length-at i) n))
+      ∙ rw (e, b) (eight-same (marks_at i) l i n))
       (λ t.
       let e = eqb-false j i t in
       begun-at k (suc j) (begun_item j l) i (omega arith) (omega arith) (rw (length-item j l) n) b)
 
   -- another item's eight stay as they were
-  pub begun-others : (k j : ℕ) (l : List ℕ) (i : ℕ) → bit steps i ≡ false
-      → eight_at (begun steps m st k j l) (8 * i) ≡ eight_at l (8 * i)
+  pub begun-others : (k j : ℕ) (l : List (List ℕ)) (i : ℕ) → bit steps i ≡ false
+      → eight_of (begun steps m st k j l) i ≡ eight_of l i
   unfolding begun
   begun-others zero j l i b = refl
   begun-others (suc k) j l i b =
@@ -186,35 +167,26 @@ module _ (steps m : ℕ) (st : List ℕ) where
       ∙ by-test (eqb j i) (λ t. rw (eqb-true j i t, b)) (λ t. item-other j i l (eqb-false j i t))
 
 -- ---- a loop over the items: l are the marks behind those below i, and those from i on have none; they were o
-pub record Beginning (steps m : ℕ) (st : List ℕ) (o l : List ℕ) (i : ℕ) : Type 0 where
-  pub same : length l ≡ length o
-  pub len : length l ≡ 8 * max_items
-  pub free : (j : ℕ) → i ≤ j → j < max_items → eight_at l (8 * j) ≡ replicate 8 0
+pub record Beginning (steps m : ℕ) (st : List ℕ) (o l : List (List ℕ)) (i : ℕ) : Type 0 where
+  pub free : (j : ℕ) → i ≤ j → j < max_items → eight_of l j ≡ replicate 8 0
   pub ok : forms_ok steps m st
       ≡ every (λ i. not (bit steps i) || form_ok i 0 (item_rows st (checkpoint_at (ring_size st) m) m i)) (m - i) i
   pub marks : begun steps m st m 0 o ≡ begun steps m st (m - i) i l
 
-pub zeros-eight : (n k : ℕ) → k + 8 ≤ n → eight_at (replicate {A = ℕ} n 0) k ≡ replicate 8 0
-zeros-eight n zero h =
-    let q : 8 + (n - 8) ≡ n = omega arith in
-    rw (← q, ← replicate-append-replicate {A = ℕ} 8 (n - 8) 0)
-zeros-eight zero (suc k) h = absurd (omega arith)
-zeros-eight (suc n) (suc k) h = zeros-eight n k (omega arith)
+-- no item has a mark
+abbrev pub no_marks : List (List ℕ)
+no_marks = replicate max_items (replicate 8 0)
 
-pub beginning-start : (steps m : ℕ) (st o : List ℕ) → o ≡ replicate (8 * max_items) 0
-    → Beginning steps m st o o 0
+pub zeros-eight : (i : ℕ) → i < max_items → eight_of no_marks i ≡ replicate 8 0
+zeros-eight i h = get_or-replicate {A = List ℕ} max_items i (replicate 8 0) [] h
+
+pub beginning-start : (steps m : ℕ) (st : List ℕ) (o : List (List ℕ)) → o ≡ no_marks → Beginning steps m st o o 0
 unfolding forms_ok
 beginning-start steps m st o e =
     let q : m - 0 ≡ m = omega arith in
-    record {
-      same = refl;
-      len = rw e (length-replicate {A = ℕ} (8 * max_items) 0);
-      free = λ j h g. rw e (zeros-eight (8 * max_items) (8 * j) (omega arith));
-      ok = rw q;
-      marks = rw q;
-    }
+    record { free = λ j h g. rw e (zeros-eight j g); ok = rw q; marks = rw q }
 
-module _ {steps m : ℕ} {st o l : List ℕ} {i : ℕ} (v : Beginning steps m st o l i) where
+module _ {steps m : ℕ} {st : List ℕ} {o l : List (List ℕ)} {i : ℕ} (v : Beginning steps m st o l i) where
   module _ (h : i < m) where
     next : begun steps m st (m - i) i l ≡ begun steps m st (m - (i + 1)) (i + 1) (begun_item steps m st i l)
     unfolding begun
@@ -224,8 +196,6 @@ module _ {steps m : ℕ} {st o l : List ℕ} {i : ℕ} (v : Beginning steps m st
     pub beginning-skip : bit steps i ≡ false → Beginning steps m st o l (i + 1)
     beginning-skip b =
         record {
-          same = v.same;
-          len = v.len;
           free = λ j g n. v.free j (omega arith) n;
           ok = every-yes _ _ i m v.ok h (rw b);
           marks = v.marks ∙ (next ∙ rw b);
@@ -237,13 +207,11 @@ module _ {steps m : ℕ} {st o l : List ℕ} {i : ℕ} (v : Beginning steps m st
       pub beginning-broken : t ≡ false → false ≡ forms_ok steps m st
       beginning-broken z = every-no _ _ i m v.ok h (rw (b, ← ew, ← e, z))
 
-      pub beginning-more : {r : List ℕ} → t ≡ true → r ≡ sets l (8 * i) (marks_of i 1 (item_rows st w m i))
-          → Beginning steps m st o r (i + 1)
-      beginning-more {r} z er =
-          let q : begun_item steps m st i l ≡ r = rw (b, ← ew, er) in
+      pub beginning-more : {ms : List ℕ} → t ≡ true → ms ≡ marks_of i 1 (item_rows st w m i)
+          → Beginning steps m st o (set l i ms) (i + 1)
+      beginning-more {ms} z em =
+          let q : begun_item steps m st i l ≡ set l i ms = rw (b, ← ew, em) in
           record {
-            same = rw (← q, length-item steps m st i l) v.same;
-            len = rw (← q, length-item steps m st i l) v.len;
             free =
                 λ j g n.
                 rw (← q, item-other steps m st i j l (λ y. omega arith)) (v.free j (omega arith) n);

@@ -1,5 +1,5 @@
 -- The pass's answer and its marks are those of current with at: refusal 2 over ring, forms and entries, and the rows.
-use Prim.Native.Nat.{ℕ, zero, suc, ◌+◌, ◌*◌, ◌^◌, ◌≤◌, ◌<◌}
+use Prim.Native.Nat.{ℕ, zero, suc, ◌+◌, ◌^◌, ◌≤◌, ◌<◌}
 use mathlib.Core.Path.{◌≡◌, refl, sym, ap, ◌∙◌}
 use mathlib.Core.Bool.{Bool, true, false, ◌&&◌, ◌||◌, not, and-false, true≢false}
 use mathlib.Core.List.{List}
@@ -14,12 +14,12 @@ use Rattle.history.specs.Observations.{Head, max_ring, ring_size, base, checkpoi
 use Rattle.history.specs.Observations.{is_condition, ring_ok, held_entries, newest_in, if_used, at_rows, at_ok}
 use Rattle.spec.proofs.Words.{by-test, and_left, and_right, not_so, every-at, every_of}
 use Rattle.spec.proofs.Bits.{set-bit}
-use Rattle.marks.specs.Marks.{eight_at}
+use Rattle.marks.specs.Marks.{eight_of}
 use Rattle.snapshot_rows.specs.Held.{marked_rows, held_by}
 use Rattle.picks.specs.Pass.{pass_marks, pass_ok, seen_from}
 use Rattle.snapshots.specs.Snapshots.{steps_of, begun, forms_ok, settled}
 use Rattle.snapshots.proofs.Held.{holding-rows, Held, held-end, others-end, length-passed, ok-is}
-use Rattle.snapshots.proofs.Begun.{first-holding, length-begun, begun-at, begun-others, zeros-eight}
+use Rattle.snapshots.proofs.Begun.{no_marks, first-holding, length-begun, begun-at, begun-others, zeros-eight}
 use Rattle.snapshots.proofs.Settled.{zeros-low, seen_low, plain-first, plain_end, plain-marked}
 use Rattle.snapshots.proofs.Settled.{settled_at, settled-others}
 
@@ -50,14 +50,11 @@ module _ (cat : ℕ → ℕ) (selection m : ℕ) (st : List ℕ) (f k : ℕ) (fe
   abbrev entries₀ : ℕ → List (List ℕ)
   entries₀ i = used_rows (rows_of i)
 
-  abbrev zeros : List ℕ
-  zeros = replicate {A = ℕ} (8 * max_items) 0
-
   -- the marks behind begin and behind the pass, and the newest places
-  abbrev marks₀ : List ℕ
-  marks₀ = begun steps m st m 0 zeros
+  abbrev marks₀ : List (List ℕ)
+  marks₀ = begun steps m st m 0 no_marks
 
-  abbrev marks₁ : List ℕ
+  abbrev marks₁ : List (List ℕ)
   marks₁ = pass_marks steps st f k f marks₀
 
   abbrev seen : List ℕ
@@ -66,11 +63,11 @@ module _ (cat : ℕ → ℕ) (selection m : ℕ) (st : List ℕ) (f k : ℕ) (fe
   steps-bit : (i : ℕ) → i < m → bit steps i ≡ bit selection i && is_condition cat i
   steps-bit i h = set-bit (λ i. bit selection i && is_condition cat i) m i h
 
-  length-start : length marks₀ ≡ 8 * max_items
-  length-start = length-begun steps m st m 0 zeros ∙ length-replicate {A = ℕ} (8 * max_items) 0
+  length-start : length marks₀ ≡ max_items
+  length-start = length-begun steps m st m 0 no_marks ∙ length-replicate {A = List ℕ} max_items (replicate 8 0)
 
-  start-zeros : (i : ℕ) → i < m → bit steps i ≡ false → eight_at marks₀ (8 * i) ≡ replicate 8 0
-  start-zeros i h b = begun-others steps m st m 0 zeros i b ∙ zeros-eight (8 * max_items) (8 * i) (omega arith)
+  start-zeros : (i : ℕ) → i < m → bit steps i ≡ false → eight_of marks₀ i ≡ replicate 8 0
+  start-zeros i h b = begun-others steps m st m 0 no_marks i b ∙ zeros-eight i (omega arith)
 
   module _ (forms : forms_ok steps m st ≡ true) where
     form-at : (i : ℕ) → i < m → bit steps i ≡ true → form_ok i 0 (rows_of i) ≡ true
@@ -79,8 +76,8 @@ module _ (cat : ℕ → ℕ) (selection m : ℕ) (st : List ℕ) (f k : ℕ) (fe
 
     start-held : Held steps m st f few marks₀ entries₀
     start-held i h b =
-        let n = length-replicate {A = ℕ} (8 * max_items) 0 in
-        rw (begun-at steps m st m 0 zeros i (omega arith) (omega arith) (omega (arith, n)) b)
+        let n = length-replicate {A = List ℕ} max_items (replicate 8 0) in
+        rw (begun-at steps m st m 0 no_marks i (omega arith) (omega arith) (omega (arith, n)) b)
         (first-holding m st f i (form-at i h b))
 
     -- refusal 2
@@ -102,10 +99,10 @@ module _ (cat : ℕ → ℕ) (selection m : ℕ) (st : List ℕ) (f k : ℕ) (fe
 
     -- the rows
     module _ (ok : pass_ok steps m st f k f marks₀ ≡ true) (first : 1 ≤ f) where
-      abbrev marks₂ : List ℕ
+      abbrev marks₂ : List (List ℕ)
       marks₂ = settled selection steps m st seen m 0 marks₁
 
-      length-behind : length marks₁ ≡ 8 * max_items
+      length-behind : length marks₁ ≡ max_items
       length-behind = length-passed steps m st f few k f marks₀ length-start
 
       condition-rows : (i : ℕ) → i < m → bit steps i ≡ true
@@ -115,7 +112,7 @@ module _ (cat : ℕ → ℕ) (selection m : ℕ) (st : List ℕ) (f k : ℕ) (fe
           rw (settled-others selection steps m st seen m 0 marks₁ i (rw b (and-false (bit selection i))))
           (holding-rows m st f i v)
 
-      plain-eight : (i : ℕ) → i < m → bit steps i ≡ false → eight_at marks₁ (8 * i) ≡ replicate 8 0
+      plain-eight : (i : ℕ) → i < m → bit steps i ≡ false → eight_of marks₁ i ≡ replicate 8 0
       plain-eight i h b = others-end steps m st f few i h b k f marks₀ length-start (omega arith) ok ∙ start-zeros i h b
 
       plain_rows_lem : (i : ℕ) → i < m → bit selection i ≡ true → bit steps i ≡ false
@@ -125,7 +122,7 @@ module _ (cat : ℕ → ℕ) (selection m : ℕ) (st : List ℕ) (f k : ℕ) (fe
           let w = replicate {A = ℕ} max_items 0 in
           let n : i < length w = omega (arith, length-replicate {A = ℕ} max_items 0) in
           let z = get_or-replicate {A = ℕ} max_items i 0 0 (omega arith) in
-          let room : 8 * i + 8 ≤ length marks₁ = omega (arith, length-behind) in
+          let room : i < length marks₁ = omega (arith, length-behind) in
           let e = settled_at selection steps m st seen m 0 marks₁ i (omega arith) (omega arith) room (rw (s, b)) in
           rw (e, plain-eight i h b)
           (plain-marked m st f i _ ∙ plain_end m st f i k f w _ n (omega arith) first (rw z (plain-first m st f i)))
@@ -176,21 +173,21 @@ module _ (cat : ℕ → ℕ) (selection m : ℕ) (st : List ℕ) (f k : ℕ) (fe
       → false ≡ (ring_ok (ring_size st) m (base st) st k f && at_ok cat (ring_size st) m (base st) st selection k f)
   hold-broken z = forms-answer cat selection m st f k few (rw (en, es) at (sym et ∙ z))
 
-  module _ (z : t ≡ true) {o x : List ℕ} (eo : o ≡ replicate (8 * max_items) 0) (ex : x ≡ begun steps n st n 0 o)
+  module _ (z : t ≡ true) {o x : List (List ℕ)} (eo : o ≡ no_marks) (ex : x ≡ begun steps n st n 0 o)
       {u : Bool} (eu : u ≡ pass_ok steps n st f k f x) where
     formed : forms_ok (steps_of cat selection m) m st ≡ true
     formed = rw (en, es) at (sym et ∙ z)
 
     passed : u
         ≡ pass_ok (steps_of cat selection m) m st f k f
-        (begun (steps_of cat selection m) m st m 0 (replicate (8 * max_items) 0))
+        (begun (steps_of cat selection m) m st m 0 no_marks)
     passed = eu ∙ rw (ex, eo, en, es)
 
     pub hold-answers : u
         ≡ (ring_ok (ring_size st) m (base st) st k f && at_ok cat (ring_size st) m (base st) st selection k f)
     hold-answers = passed ∙ pass-answers cat selection m st f k few formed
 
-    pub hold-rows : {y w w' v : List ℕ} → u ≡ true → 1 ≤ f → y ≡ pass_marks steps st f k f x
+    pub hold-rows : {y v : List (List ℕ)} {w w' : List ℕ} → u ≡ true → 1 ≤ f → y ≡ pass_marks steps st f k f x
         → w ≡ replicate max_items 0 → w' ≡ seen_from st f k f w → v ≡ settled selection steps n st w' n 0 y
         → held_by m st f v selection ≡ at_rows cat (ring_size st) m (base st) st selection k f
     hold-rows a h ey ew ew' ev =

@@ -1,6 +1,6 @@
 -- What the marks hold along the pass: each condition item's entries, and a ninth entry is where there would be nine.
 -- The others' eight stay as they are.
-use Prim.Native.Nat.{ℕ, zero, suc, ◌+◌, ◌-◌, ◌*◌, ◌≤◌, ◌<◌}
+use Prim.Native.Nat.{ℕ, zero, suc, ◌+◌, ◌-◌, ◌≤◌, ◌<◌}
 use mathlib.Core.Path.{◌≡◌, refl, sym, ap, ◌∙◌}
 use mathlib.Core.Bool.{Bool, true, false, cond, ◌&&◌, ◌||◌, not, and-false, true≢false}
 use mathlib.Core.List.{List, [], ◌∷◌, map}
@@ -17,7 +17,7 @@ use Rattle.history.specs.Observations.{ring_size, base, item_at, numbered, ring_
 use Rattle.spec.proofs.Words.{by-test, not_so, every-at, every_of, and_left, and_right}
 use Rattle.spec.proofs.Steps.{Formed, step-formed}
 use Rattle.history.proofs.Pass.{nine-ends}
-use Rattle.marks.specs.Marks.{mark_of, place_in, key_of, eight_at}
+use Rattle.marks.specs.Marks.{mark_of, place_in, key_of, eight_of}
 use Rattle.changes.specs.Changes.{change_for, changed, is_full}
 use Rattle.marks.specs.Marked.{Marked}
 use Rattle.changes.proofs.Steps.{changed-map, change-full, change-steps, marked-change, length-changed}
@@ -118,8 +118,8 @@ module _ (m : ℕ) (st : List ℕ) (f i : ℕ) where
 
 module _ (steps m : ℕ) (st : List ℕ) (f : ℕ) (few : m ≤ max_items) where
   -- each condition item's entries are es
-  abbrev pub Held : List ℕ → (ℕ → List (List ℕ)) → Type 0
-  Held l es = (i : ℕ) → i < m → bit steps i ≡ true → Holding m st f i (es i) (eight_at l (8 * i))
+  abbrev pub Held : List (List ℕ) → (ℕ → List (List ℕ)) → Type 0
+  Held l es = (i : ℕ) → i < m → bit steps i ≡ true → Holding m st f i (es i) (eight_of l i)
 
   -- they are behind number s
   abbrev pub entries_next : ℕ → (ℕ → List (List ℕ)) → ℕ → List (List ℕ)
@@ -127,13 +127,13 @@ module _ (steps m : ℕ) (st : List ℕ) (f : ℕ) (few : m ≤ max_items) where
       cond (eqb (item_at (ring_size st) (base st) st s) i) (step i (es i) (numbered (ring_size st) (base st) st s))
       (es i)
 
-  module _ (s : ℕ) (l : List ℕ) (len : length l ≡ 8 * max_items) (h : f ≤ s)
+  module _ (s : ℕ) (l : List (List ℕ)) (len : length l ≡ max_items) (h : f ≤ s)
       (own : item_at (ring_size st) (base st) st s < m) where
-    eight-next : (i : ℕ) → i < m → eight_at (number_stepped steps st f s l) (8 * i)
+    eight-next : (i : ℕ) → i < m → eight_of (number_stepped steps st f s l) i
         ≡ cond (bit steps i && eqb (item_at (ring_size st) (base st) st s) i)
-        (stepped_eight i (s - f + 9) (word_of st s) (eight_at l (8 * i))) (eight_at l (8 * i))
+        (stepped_eight i (s - f + 9) (word_of st s) (eight_of l i)) (eight_of l i)
     eight-next i g =
-        eight-stepped (s - f + 9) (word_of st s) steps i (item_of (word_of st s)) l len (omega arith) (omega arith)
+        eight-stepped (s - f + 9) (word_of st s) steps i (item_of (word_of st s)) l len (omega arith)
 
     held_next : (es : ℕ → List (List ℕ)) → Held l es
         → stepped_ok steps (item_of (word_of st s)) (word_of st s) l ≡ true
@@ -144,16 +144,16 @@ module _ (steps m : ℕ) (st : List ℕ) (f : ℕ) (few : m ≤ max_items) where
         by-test (eqb j i)
         (λ t.
         let e : j ≡ i = eqb-true j i t in
-        let n : is_full (change_for i (eight_at l (8 * i)) (word_of st s)) ≡ false = not-true _ (rw (e, b) at ok) in
-        rw (eight-next i g, b, t) (holding-more m st f i s h (es i) (eight_at l (8 * i)) (v i g b) n))
+        let n : is_full (change_for i (eight_of l i) (word_of st s)) ≡ false = not-true _ (rw (e, b) at ok) in
+        rw (eight-next i g, b, t) (holding-more m st f i s h (es i) (eight_of l i) (v i g b) n))
         (λ t. rw (eight-next i g, b, t) (v i g b))
 
   -- ---- behind k numbers
 
-  length-next : (s : ℕ) (l : List ℕ) → length l ≡ 8 * max_items → length (number_stepped steps st f s l) ≡ 8 * max_items
+  length-next : (s : ℕ) (l : List (List ℕ)) → length l ≡ max_items → length (number_stepped steps st f s l) ≡ max_items
   length-next s l n = length-all-stepped (s - f + 9) (word_of st s) steps (item_of (word_of st s)) l ∙ n
 
-  pub held-end : (k s : ℕ) (l : List ℕ) (es : ℕ → List (List ℕ)) → length l ≡ 8 * max_items → f ≤ s → Held l es
+  pub held-end : (k s : ℕ) (l : List (List ℕ)) (es : ℕ → List (List ℕ)) → length l ≡ max_items → f ≤ s → Held l es
       → pass_ok steps m st f k s l ≡ true
       → Held (pass_marks steps st f k s l) (λ i. entries_in (ring_size st) (base st) st i k s (es i))
   unfolding pass_marks pass_ok entries_in
@@ -167,15 +167,15 @@ module _ (steps m : ℕ) (st : List ℕ) (f : ℕ) (few : m ≤ max_items) where
       held-end k (suc s) (number_stepped steps st f s l) (entries_next s es) (length-next s l n) (omega arith)
       (held_next s l n h a es v b) c
 
-  pub length-passed : (k s : ℕ) (l : List ℕ) → length l ≡ 8 * max_items
-      → length (pass_marks steps st f k s l) ≡ 8 * max_items
+  pub length-passed : (k s : ℕ) (l : List (List ℕ)) → length l ≡ max_items
+      → length (pass_marks steps st f k s l) ≡ max_items
   unfolding pass_marks
   length-passed zero s l n = n
   length-passed (suc k) s l n = length-passed k (suc s) (number_stepped steps st f s l) (length-next s l n)
 
   -- another item's eight stay as they were
-  pub others-end : (i : ℕ) → i < m → bit steps i ≡ false → (k s : ℕ) (l : List ℕ) → length l ≡ 8 * max_items → f ≤ s
-      → pass_ok steps m st f k s l ≡ true → eight_at (pass_marks steps st f k s l) (8 * i) ≡ eight_at l (8 * i)
+  pub others-end : (i : ℕ) → i < m → bit steps i ≡ false → (k s : ℕ) (l : List (List ℕ)) → length l ≡ max_items → f ≤ s
+      → pass_ok steps m st f k s l ≡ true → eight_of (pass_marks steps st f k s l) i ≡ eight_of l i
   unfolding pass_marks pass_ok
   others-end i g b zero s l n h ok = refl
   others-end i g b (suc k) s l n h ok =
@@ -203,7 +203,7 @@ module _ (steps m : ℕ) (st : List ℕ) (f : ℕ) (few : m ≤ max_items) where
       true≢false (sym (rw (b, x, n) at w)))
 
   -- a ninth entry by number s
-  ninth-next : (k s : ℕ) (l : List ℕ) (es : ℕ → List (List ℕ)) → f ≤ s → Held l es
+  ninth-next : (k s : ℕ) (l : List (List ℕ)) (es : ℕ → List (List ℕ)) → f ≤ s → Held l es
       → item_at (ring_size st) (base st) st s < m → stepped_ok steps (item_of (word_of st s)) (word_of st s) l ≡ false
       → false ≡ eight_ok (suc k) s es
   unfolding stepped_ok
@@ -211,11 +211,11 @@ module _ (steps m : ℕ) (st : List ℕ) (f : ℕ) (few : m ≤ max_items) where
       let j = item_at (ring_size st) (base st) st s in
       by-test (bit steps j)
       (λ b.
-      let n = sym (holding-full m st f j s h (es j) (eight_at l (8 * j)) (v j own b)) ∙ (rw b at z) in
+      let n = sym (holding-full m st f j s h (es j) (eight_of l j) (v j own b)) ∙ (rw b at z) in
       nine-next k s es j own b (rw (eq-eqb j j refl) n))
       (λ b. absurd (true≢false (rw b at z)))
 
-  eight-none : (s : ℕ) (l : List ℕ) (es : ℕ → List (List ℕ)) → Held l es → true ≡ eight_ok 0 s es
+  eight-none : (s : ℕ) (l : List (List ℕ)) (es : ℕ → List (List ℕ)) → Held l es → true ≡ eight_ok 0 s es
   unfolding entries_in
   eight-none s l es v =
       sym (every_of _ m 0
@@ -223,11 +223,11 @@ module _ (steps m : ℕ) (st : List ℕ) (f : ℕ) (few : m ≤ max_items) where
       by-test (bit steps i)
       (λ b.
       let w = v i (omega arith) b in
-      let few : length (es i) ≤ 8 = omega (arith, marked-length i (es i) (eight_at l (8 * i)) w.marked, w.eight) in
+      let few : length (es i) ≤ 8 = omega (arith, marked-length i (es i) (eight_of l i) w.marked, w.eight) in
       rw (b, le-leb (length (es i)) 8 few))
       (λ b. rw b)))
 
-  pub ok-is : (k s : ℕ) (l : List ℕ) (es : ℕ → List (List ℕ)) → length l ≡ 8 * max_items → f ≤ s → Held l es
+  pub ok-is : (k s : ℕ) (l : List (List ℕ)) (es : ℕ → List (List ℕ)) → length l ≡ max_items → f ≤ s → Held l es
       → pass_ok steps m st f k s l ≡ ring_ok (ring_size st) m (base st) st k s && eight_ok k s es
   unfolding pass_ok ring_ok every entries_in
   ok-is zero s l es n h v = eight-none s l es v

@@ -2,7 +2,6 @@
 use Prim.Native.Nat.{ℕ, zero, suc, ◌+◌, ◌-◌, ◌*◌, ◌≤◌, ◌<◌}
 use mathlib.Core.Path.{◌≡◌, refl, sym, ap, ◌∙◌}
 use mathlib.Core.Bool.{Bool, true, false, cond, ◌&&◌, not}
-use mathlib.Core.Logic.{inl, inr}
 use mathlib.Core.List.{List, [], ◌∷◌, map}
 use native.Mathlib.Numerals.{add-one}
 use native.Mathlib.Omega.{arith}
@@ -14,13 +13,12 @@ use Rattle.spec.specs.Words.{bit, row}
 use Rattle.spec.specs.Value.{item_of}
 use Rattle.history.specs.Observations.{ring_size, base, item_at, numbered, checkpoint_at, item_row, newest_in, if_used}
 use Rattle.spec.proofs.Words.{by-test}
-use Rattle.marks.specs.Marks.{mark_of, eight_at}
-use Rattle.marks.proofs.Laws.{put_is, eight-length}
+use Rattle.marks.specs.Marks.{mark_of, eight_of}
 use Rattle.marks.proofs.Keys.{mark-place}
 use Rattle.snapshot_rows.specs.Held.{row_of, used_places}
 use Rattle.picks.specs.Pass.{word_of, seen_from}
 use Rattle.snapshots.specs.Snapshots.{plain_place, settled}
-use Rattle.picks.proofs.Eights.{outside, eight-same}
+use Rattle.picks.proofs.Eights.{eight-same, eight-other}
 use Rattle.snapshots.proofs.Held.{ring-row}
 
 -- ---- the newest places
@@ -119,46 +117,41 @@ module _ (selection steps m : ℕ) (st w : List ℕ) where
   plain_mark i = mark_of (plain_place (item_row st (checkpoint_at (ring_size st) m) m i) (get_or w i 0)) 0
 
   -- the marks behind item i
-  abbrev pub settled_item : ℕ → List ℕ → List ℕ
-  settled_item i l = cond (settles selection steps i) (set l (8 * i) (plain_mark i)) l
+  abbrev pub settled_item : ℕ → List (List ℕ) → List (List ℕ)
+  settled_item i l = cond (settles selection steps i) (set l i (set (eight_of l i) 0 (plain_mark i))) l
 
-  length-item : (i : ℕ) (l : List ℕ) → length (settled_item i l) ≡ length l
-  length-item i l = by-test (settles selection steps i) (λ t. rw t (length-set l (8 * i) (plain_mark i))) (λ t. rw t)
-
-  item-other : (i j : ℕ) (l : List ℕ) → (i ≡ j → ⊥) → eight_at (settled_item i l) (8 * j) ≡ eight_at l (8 * j)
-  item-other i j l n =
+  length-item : (i : ℕ) (l : List (List ℕ)) → length (settled_item i l) ≡ length l
+  length-item i l =
       by-test (settles selection steps i)
-      (λ t. rw t
-      (by-test (ltb i j)
-      (λ b. let h = ltb-true i j b in outside 8 (8 * j) (plain_mark i ∷ []) l (8 * i) (inl (omega arith)))
-      (λ b. let h = ltb-false i j b in outside 8 (8 * j) (plain_mark i ∷ []) l (8 * i) (inr (omega arith)))))
+      (λ t. rw t (length-set l i (set (eight_of l i) 0 (plain_mark i))))
       (λ t. rw t)
 
-  item-same : (i : ℕ) (l : List ℕ) → settles selection steps i ≡ true → 8 * i + 8 ≤ length l
-      → eight_at (settled_item i l) (8 * i) ≡ set (eight_at l (8 * i)) 0 (plain_mark i)
-  item-same i l t h =
-      let x = plain_mark i in
-      let q : 8 * i + 0 ≡ 8 * i = omega arith in
-      let ms = eight_at l (8 * i) in
-      let n : length (set ms 0 x) ≡ 8 = length-set ms 0 x ∙ eight-length l (8 * i) h in
-      rw (t, rw q at (put_is l (8 * i) 0 x h (omega arith))) (eight-same (set ms 0 x) l i n h)
+  item-other : (i j : ℕ) (l : List (List ℕ)) → (i ≡ j → ⊥) → eight_of (settled_item i l) j ≡ eight_of l j
+  item-other i j l n =
+      by-test (settles selection steps i)
+      (λ t. rw t (eight-other (set (eight_of l i) 0 (plain_mark i)) l j i n))
+      (λ t. rw t)
 
-  pub length-settled : (k j : ℕ) (l : List ℕ) → length (settled selection steps m st w k j l) ≡ length l
+  item-same : (i : ℕ) (l : List (List ℕ)) → settles selection steps i ≡ true → i < length l
+      → eight_of (settled_item i l) i ≡ set (eight_of l i) 0 (plain_mark i)
+  item-same i l t h = rw t (eight-same (set (eight_of l i) 0 (plain_mark i)) l i h)
+
+  pub length-settled : (k j : ℕ) (l : List (List ℕ)) → length (settled selection steps m st w k j l) ≡ length l
   unfolding settled
   length-settled zero j l = refl
   length-settled (suc k) j l = length-settled k (suc j) (settled_item j l) ∙ length-item j l
 
-  settled-below : (k j : ℕ) (l : List ℕ) (i : ℕ) → i < j
-      → eight_at (settled selection steps m st w k j l) (8 * i) ≡ eight_at l (8 * i)
+  settled-below : (k j : ℕ) (l : List (List ℕ)) (i : ℕ) → i < j
+      → eight_of (settled selection steps m st w k j l) i ≡ eight_of l i
   unfolding settled
   settled-below zero j l i h = refl
   settled-below (suc k) j l i h =
       settled-below k (suc j) (settled_item j l) i (omega arith) ∙ item-other j i l (λ e. omega arith)
 
   -- an item that settles
-  pub settled_at : (k j : ℕ) (l : List ℕ) (i : ℕ) → j ≤ i → i < j + k → 8 * i + 8 ≤ length l
+  pub settled_at : (k j : ℕ) (l : List (List ℕ)) (i : ℕ) → j ≤ i → i < j + k → i < length l
       → settles selection steps i ≡ true
-      → eight_at (settled selection steps m st w k j l) (8 * i) ≡ set (eight_at l (8 * i)) 0 (plain_mark i)
+      → eight_of (settled selection steps m st w k j l) i ≡ set (eight_of l i) 0 (plain_mark i)
   unfolding settled
   settled_at zero j l i h g n b = absurd (omega arith)
   settled_at (suc k) j l i h g n b =
@@ -172,8 +165,8 @@ module _ (selection steps m : ℕ) (st w : List ℕ) where
       ∙ rw (item-other j i l e))
 
   -- the others' eight stay as they were
-  pub settled-others : (k j : ℕ) (l : List ℕ) (i : ℕ) → settles selection steps i ≡ false
-      → eight_at (settled selection steps m st w k j l) (8 * i) ≡ eight_at l (8 * i)
+  pub settled-others : (k j : ℕ) (l : List (List ℕ)) (i : ℕ) → settles selection steps i ≡ false
+      → eight_of (settled selection steps m st w k j l) i ≡ eight_of l i
   unfolding settled
   settled-others zero j l i b = refl
   settled-others (suc k) j l i b =
@@ -181,25 +174,23 @@ module _ (selection steps m : ℕ) (st w : List ℕ) where
       ∙ by-test (eqb j i) (λ t. rw (eqb-true j i t, b)) (λ t. item-other j i l (eqb-false j i t))
 
 -- ---- a loop over the items: l are the marks behind those below i; they were o
-pub record Settling (selection steps m : ℕ) (st w o l : List ℕ) (i : ℕ) : Type 0 where
-  pub same : length l ≡ length o
+pub record Settling (selection steps m : ℕ) (st w : List ℕ) (o l : List (List ℕ)) (i : ℕ) : Type 0 where
   pub marks : settled selection steps m st w m 0 o ≡ settled selection steps m st w (m - i) i l
 
-pub settling-start : (selection steps m : ℕ) (st w o : List ℕ) → Settling selection steps m st w o o 0
+pub settling-start : (selection steps m : ℕ) (st w : List ℕ) (o : List (List ℕ))
+    → Settling selection steps m st w o o 0
 settling-start selection steps m st w o =
     let q : m - 0 ≡ m = omega arith in
-    record { same = refl; marks = rw q }
+    record { marks = rw q }
 
-module _ {selection steps m : ℕ} {st w o l : List ℕ} {i : ℕ} (v : Settling selection steps m st w o l i) where
+module _ {selection steps m : ℕ} {st w : List ℕ} {o l : List (List ℕ)} {i : ℕ}
+    (v : Settling selection steps m st w o l i) where
   module _ (h : i < m) where
     settling-next : Settling selection steps m st w o (settled_item selection steps m st w i l) (i + 1)
     unfolding settled
     settling-next =
         let q : m - i ≡ suc (m - (i + 1)) = omega arith in
-        record {
-          same = length-item selection steps m st w i l ∙ v.same;
-          marks = v.marks ∙ rw (q, add-one i);
-        }
+        record { marks = v.marks ∙ rw (q, add-one i) }
 
     -- item i doesn't settle
     pub settling-skip : settles selection steps i ≡ false → Settling selection steps m st w o l (i + 1)
@@ -207,7 +198,7 @@ module _ {selection steps m : ℕ} {st w o l : List ℕ} {i : ℕ} (v : Settling
 
     pub settling-more : {t p x : ℕ} → settles selection steps i ≡ true → t ≡ checkpoint_at (ring_size st) m
         → p ≡ plain_place (item_row st t m i) (get_or w i 0) → x ≡ mark_of p 0
-        → Settling selection steps m st w o (set l (8 * i) x) (i + 1)
+        → Settling selection steps m st w o (set l i (set (eight_of l i) 0 x)) (i + 1)
     settling-more b et ep ex = rw (ex, ep, et) (rw b at settling-next)
 
   pub settling-end : m ≤ i → l ≡ settled selection steps m st w m 0 o

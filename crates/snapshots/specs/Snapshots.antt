@@ -1,10 +1,9 @@
--- The marks of every item before the pass over the ring and behind it, eight side by side.
-use Rattle.std.specs.Prelude.{ℕ, zero, suc, ◌*◌, Bool, cond, ◌&&◌, ◌||◌, not, List, eqb, get_or, set}
-use Rattle.std.proofs.lemmas.List.Edits.{sets}
+-- The marks of every item before the pass over the ring and behind it.
+use Rattle.std.specs.Prelude.{ℕ, zero, suc, Bool, cond, ◌&&◌, ◌||◌, not, List, eqb, get_or, set}
 use Rattle.spec.specs.Words.{bit, set_of, every}
 use Rattle.spec.specs.Entries.{form_ok}
 use Rattle.history.specs.Observations.{ring_size, checkpoint_at, item_rows, item_row, is_condition}
-use Rattle.marks.specs.Marks.{mark_of}
+use Rattle.marks.specs.Marks.{mark_of, eight_of}
 use Rattle.entries.specs.Forms.{marks_of}
 
 -- the selected condition items
@@ -14,11 +13,11 @@ steps_of cat selection m = set_of (λ i. bit selection i && is_condition cat i) 
 -- ---- the marks that the checkpoints give
 
 -- those of the condition items among k items from i on
-unfoldable pub begun : ℕ → ℕ → List ℕ → ℕ → ℕ → List ℕ → List ℕ
+unfoldable pub begun : ℕ → ℕ → List ℕ → ℕ → ℕ → List (List ℕ) → List (List ℕ)
 begun steps m st zero i l = l
 begun steps m st (suc k) i l =
     begun steps m st k (suc i)
-    (cond (bit steps i) (sets l (8 * i) (marks_of i 1 (item_rows st (checkpoint_at (ring_size st) m) m i))) l)
+    (cond (bit steps i) (set l i (marks_of i 1 (item_rows st (checkpoint_at (ring_size st) m) m i))) l)
 
 -- refusal 2: their checkpoints are in their written form
 unfoldable pub forms_ok : ℕ → ℕ → List ℕ → Bool
@@ -32,9 +31,10 @@ abbrev pub plain_place : List ℕ → ℕ → ℕ
 plain_place r p = cond (eqb p 0) (cond (eqb (get_or r 0 0) 0) 0 1) p
 
 -- the marks of those that are selected among k items from i on, w being the newest places
-unfoldable pub settled : ℕ → ℕ → ℕ → List ℕ → List ℕ → ℕ → ℕ → List ℕ → List ℕ
+unfoldable pub settled : ℕ → ℕ → ℕ → List ℕ → List ℕ → ℕ → ℕ → List (List ℕ) → List (List ℕ)
 settled selection steps m st w zero i l = l
 settled selection steps m st w (suc k) i l =
     settled selection steps m st w k (suc i)
     (cond (bit selection i && not (bit steps i))
-    (set l (8 * i) (mark_of (plain_place (item_row st (checkpoint_at (ring_size st) m) m i) (get_or w i 0)) 0)) l)
+    (set l i (set (eight_of l i) 0
+    (mark_of (plain_place (item_row st (checkpoint_at (ring_size st) m) m i) (get_or w i 0)) 0))) l)

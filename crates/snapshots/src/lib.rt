@@ -4,19 +4,19 @@
 #![tactic(auto)]
 
 ghost use Rattle.std.specs.Prelude.{◌≡◌, true, is_some, ◌&&◌, ℕ, ◌+◌, ◌-◌, ◌*◌, ◌^◌, ◌<◌, ◌≤◌};
-ghost use Rattle.std.specs.Prelude.{length, get_or, replicate};
-ghost use Rattle.std.proofs.lemmas.List.Edits.{sets};
+ghost use Rattle.std.specs.Prelude.{get_or, replicate};
 ghost use Rattle.spec.specs.Model.{max_items, items, category};
 ghost use Rattle.spec.specs.Entries.{form_ok};
 ghost use Rattle.history.specs.Observations.{ring_size, item_count, base, checkpoint_at, item_rows, item_row};
 ghost use Rattle.history.specs.Observations.{ring_ok, at_ok, at_rows};
-ghost use Rattle.marks.specs.Marks.{eight_at};
 ghost use Rattle.entries.specs.Forms.{marks_of};
 ghost use Rattle.snapshot_rows.specs.Held.{held_by};
 ghost use Rattle.snapshots.specs.Snapshots.{steps_of, begun, forms_ok, plain_place, settled};
 
+use marks::Marks;
 use model::Words;
 use observations::Store;
+use spec::{ENTRY_SLOTS, ITEM_SLOTS};
 
 // The selected condition items.
 fn steps_of(model: &Words<'_>, selection: u64) -> u64
@@ -30,38 +30,32 @@ fn steps_of(model: &Words<'_>, selection: u64) -> u64
     set
 }
 
-// The marks of condition item i's checkpoint to its eight words, which are 0; None where it isn't in its written form.
-fn begin_item(st: &Store<'_>, i: u64, marks: &mut [u64]) -> Option<()>
+// The marks of condition item i's checkpoint to its eight, which are 0; None where it isn't in its written form.
+fn begin_item(st: &Store<'_>, i: u64, marks: &mut [u64; ENTRY_SLOTS]) -> Option<()>
     requires i_lt_items { i < item_count st.now }
-    requires marks_len { (length marks.old ≡ 8 * max_items) × (eight_at marks.old (8 * i) ≡ replicate 8 0) }
+    requires unmarked { marks.old ≡ replicate 8 0 }
     ensures value { let t = checkpoint_at (ring_size st.now) (item_count st.now) in
         is_some result ≡ form_ok i 0 (item_rows st.now t (item_count st.now) i) }
     ensures marks_after { let t = checkpoint_at (ring_size st.now) (item_count st.now) in
-        is_some result ≡ true →
-        marks.new ≡ sets marks.old (8 * i) (marks_of i 1 (item_rows st.now t (item_count st.now) i)) }
+        is_some result ≡ true → marks.new ≡ marks_of i 1 (item_rows st.now t (item_count st.now) i) }
 {
     let words = st.slice();
     let w = spec::ENTRIES * st.items();
     let t = st.checkpoint_at();
-    let x = spec::ENTRIES * i;
-    let at = x as usize;
-    let eight = &mut marks[at..at + spec::ENTRY_SLOTS];
-    let Some(_) = entries::fill(words, w, t, x, i, eight) else {
-        return None;
-    };
+    entries::fill(words, w, t, spec::ENTRIES * i, i, marks)?;
     Some(())
 }
 
 // The marks of the condition items' checkpoints; None where one isn't in its written form.
-fn begin(st: &Store<'_>, steps: u64, marks: &mut [u64]) -> Option<()>
-    requires marks_value { marks.old ≡ replicate (8 * max_items) 0 }
+fn begin(st: &Store<'_>, steps: u64, marks: &mut Marks) -> Option<()>
+    requires { marks.old ≡ replicate max_items (replicate 8 0) }
     ensures value { is_some result ≡ forms_ok steps (item_count st.now) st.now }
     ensures marks_after { is_some result ≡ true →
         marks.new ≡ begun steps (item_count st.now) st.now (item_count st.now) 0 marks.old }
 {
     for i in 0..st.items() {
         if selection::has(steps, i) {
-            begin_item(st, i, marks)?;
+            begin_item(st, i, &mut marks[i as usize])?;
         }
     }
     Some(())
@@ -85,16 +79,15 @@ fn plain_place(st: &Store<'_>, i: u64, seen: u64) -> u64
 }
 
 // The marks of the selected items that are not in `steps`, by their newest places.
-fn settle(st: &Store<'_>, selection: u64, steps: u64, seen: &[u64], marks: &mut [u64])
-    requires lens { (length seen.now ≡ max_items) × (length marks.old ≡ 8 * max_items) }
-    requires by_index { (i : ℕ) → get_or seen.now i 0 + 1 < 2 ^ 31 }
+fn settle(st: &Store<'_>, selection: u64, steps: u64, seen: &[u64; ITEM_SLOTS], marks: &mut Marks)
+    requires { (i : ℕ) → get_or seen.now i 0 + 1 < 2 ^ 31 }
     ensures { marks.new
         ≡ settled selection steps (item_count st.now) st.now seen.now (item_count st.now) 0 marks.old }
 {
     for i in 0..st.items() {
         if selection::has(selection, i) && !selection::has(steps, i) {
             let place = plain_place(st, i, seen[i as usize]);
-            marks[(spec::ENTRIES * i) as usize] = marks::mark_of(place, 0);
+            marks[i as usize][0] = marks::mark_of(place, 0);
         }
     }
 }
@@ -108,11 +101,11 @@ pub fn hold(
     selection: u64,
     f: u64,
     e: u64,
-    marks: &mut [u64],
+    marks: &mut Marks,
 ) -> Option<()>
     requires agree { item_count st.now ≡ items model.now }
     requires st_bound { (base st.now ≤ f) × ((f ≤ e) × (e - f ≤ ring_size st.now)) }
-    requires marks_value { marks.old ≡ replicate (8 * max_items) 0 }
+    requires marks_value { marks.old ≡ replicate max_items (replicate 8 0) }
     ensures result_value { let st = st.entry.now in
         let m = items model.now in
         let cat = category model.now in
@@ -127,7 +120,7 @@ pub fn hold(
 {
     // behind it the head is known
     let _ = st.slice();
-    let mut seen = [0u64; spec::ITEM_SLOTS];
+    let mut seen = [0u64; ITEM_SLOTS];
     let steps = steps_of(model, selection);
     begin(st, steps, marks)?;
     passes::pass(st, steps, f, e, &mut seen, marks)?;

@@ -2,9 +2,10 @@
 // done in place.
 #![tactic(auto)]
 
-ghost use Rattle.std.specs.Prelude.{◌≡◌, true, [], ◌∷◌, ◌^◌, ◌<◌, length};
+ghost use Rattle.std.specs.Prelude.{◌≡◌, true, [], ◌∷◌, ◌++◌, ◌^◌, ◌<◌, ◌≤◌, length, take, drop};
 ghost use Rattle.spec.specs.Blocks.{table_rows, put_rows, padded};
 ghost use Rattle.spec.specs.Entries.{used_rows, step, form_ok};
+ghost use Rattle.changes.specs.Changes.{changed, ChangeFits};
 ghost use Rattle.entries.specs.Forms.{Table};
 ghost use Rattle.stepping.specs.Taking.{takes_one};
 
@@ -24,6 +25,17 @@ pub fn takes_one(st: &[u64], w: u64, t: u64, k: u64, own: u64, word: u64) -> boo
     !matches!(changes::change_for(&marks, own, word), Change::Full)
 }
 
+// The change done to the first eight of these words, x being the new one.
+fn change_front(words: &mut [u64], change: Change, x: u64)
+    requires { (8 ≤ length words.old) × ChangeFits change }
+    ensures { words.new ≡ changed 0 change x (take 8 words.old) ++ drop 8 words.old }
+{
+    let Some(eight) = words.first_chunk_mut() else {
+        unreachable!()
+    };
+    eights::apply(eight, change, x);
+}
+
 // The step of item own's eight entries by an observation, in place.
 pub fn step(st: &mut [u64], w: u64, t: u64, k: u64, own: u64, number: u64, time: u64, word: u64)
     requires table { Table w t k (length st.old) }
@@ -37,7 +49,7 @@ pub fn step(st: &mut [u64], w: u64, t: u64, k: u64, own: u64, number: u64, time:
     let numbers = (t + k) as usize;
     let times = numbers + (w as usize);
     let words = times + (w as usize);
-    eights::apply(&mut st[numbers..numbers + ENTRY_SLOTS], change, number);
-    eights::apply(&mut st[times..times + ENTRY_SLOTS], change, time);
-    eights::apply(&mut st[words..words + ENTRY_SLOTS], change, word);
+    change_front(&mut st[numbers..numbers + ENTRY_SLOTS], change, number);
+    change_front(&mut st[times..times + ENTRY_SLOTS], change, time);
+    change_front(&mut st[words..words + ENTRY_SLOTS], change, word);
 }

@@ -34,7 +34,7 @@ returns-then-key-ne0 c =
     let a = key-some z.own z.word c.key_of-key.ensures.0 c.if-key-ne0.true in
     let e = c.raised.ensures ∙ ap (λ (n : ℕ). raised_for n ms) c.key_of-key.ensures.0
     ∙ change-raised z.own ms z.word f a in
-    record { value = e; change_fits = fitting ms z.own z.word c.requires.0 e }
+    record { value = e; change_fits = fitting ms z.own z.word c.told-marks e }
 
 pub returns-then-code-eq0-clause-value : goal.returns-then-code-eq0-clause-value
 returns-then-code-eq0-clause-value c =
@@ -61,4 +61,4 @@ returns c =
     let d : code.result + 1 ≡ suc (code_field z.word) = omega (arith, code.ensures.0) in
     let e = c.cleared.ensures ∙ ap (λ (m : ℕ). cleared_for m ms) d
     ∙ change-cleared z.own ms z.word f i o (λ w. c.if-code-eq0.false (code.ensures.0 ∙ w)) in
-    record { value = e; change_fits = fitting ms z.own z.word c.requires.0 e }
+    record { value = e; change_fits = fitting ms z.own z.word c.told-marks e }

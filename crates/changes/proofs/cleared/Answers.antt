@@ -9,7 +9,7 @@ pub returns-in_default : goal.returns-in_default
 returns-in_default c =
     let z = c.args in
     let p = found-none z.key z.marks.now c.in_default.ensures in
-    cleared-none z.key z.marks.now refl (sym p ∙ c.requires)
+    cleared-none z.key z.marks.now refl (sym p ∙ c.told-marks)
 
 pub offset_bounds-marks-j : goal.offset_bounds-marks-j
 offset_bounds-marks-j c =
@@ -17,7 +17,7 @@ offset_bounds-marks-j c =
 
 pub bounds-marks-j : goal.bounds-marks-j
 bounds-marks-j c =
-    let f = found-some c.args.key c.args.marks.now c.in-Some.ensures in f.1
+    let f = found-some c.args.key c.args.marks.now c.in-Some.ensures in omega (arith, f.1)
 
 pub returns-then-marks-j-eq0 : goal.returns-then-marks-j-eq0
 returns-then-marks-j-eq0 c =

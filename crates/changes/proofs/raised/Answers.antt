@@ -9,7 +9,7 @@ pub returns-in_default : goal.returns-in_default
 returns-in_default c =
     let z = c.args in
     let p = found-none z.key z.marks.now c.in_default.ensures in
-    raised-full z.key z.marks.now refl (sym p ∙ c.requires)
+    raised-full z.key z.marks.now refl (sym p ∙ c.told-marks)
 
 pub returns : goal.returns
 returns c =

@@ -4,5 +4,5 @@ use Rattle.eights.proofs.take_out.Goals as goal
 pub returns : goal.returns
 returns c =
     let z = c.args in
-    let q = moved-down z.words.now z.j c.requires.0 c.requires.1 in
-    rw c.copy_within.ensures.after (rw c.requires.0 q)
+    let q = moved-down z.words.now z.j c.told-words c.requires in
+    rw c.copy_within.ensures.after (rw c.told-words q)

@@ -10,14 +10,15 @@ use Rattle.judging.proofs.judge_raised.Goals as goal
 pub returns-in_default : goal.returns-in_default
 returns-in_default c =
     let p = found-none c.args.key c.args.marks.now c.in_default.ensures in
-    raised-none _ _ refl _ _ (sym p ∙ c.requires.eight)
+    raised-none _ _ refl _ _ (sym p ∙ c.told-marks)
 
 pub offset_bounds-marks-j : goal.offset_bounds-marks-j
 offset_bounds-marks-j c =
     let f = found-some c.args.key c.args.marks.now c.in-Some.ensures in omega (arith, f.1)
 
 pub bounds-marks-j : goal.bounds-marks-j
-bounds-marks-j c = (found-some c.args.key c.args.marks.now c.in-Some.ensures).1
+bounds-marks-j c =
+    let f = found-some c.args.key c.args.marks.now c.in-Some.ensures in omega (arith, f.1)
 
 pub returns-then-marks-j-eq0 : goal.returns-then-marks-j-eq0
 returns-then-marks-j-eq0 c =

@@ -48,7 +48,6 @@ write_held-requires c =
     let k = held-many c.items.ensures.0 c.args.st.now _ _ _ _ c.count-k.ensures.0 in
     let y = (ap is_ok c.in_ok-fit_sizes.was) in
     record {
-      marks_len = search rules;
       st_bound = (c.first-first.ensures.low, omega (arith, c.first-first.ensures.high));
       k_value = (k, lends c.fit_sizes.ensures.fitted y _ (omega arith));
     }

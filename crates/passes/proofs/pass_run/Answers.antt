@@ -9,20 +9,20 @@ pub step_block-requires-clause-part : goal.step_block-requires-clause-part
 step_block-requires-clause-part c =
     let v = c.loop-rest.invariant in
     let p = c.plain_run-stop in
-    let w = passing-skip v.state p.ensures.bounds (omega arith) p.ensures.skipped in
+    let w = passing-skip v.state p.ensures.bounds p.ensures.skipped in
     let n = rw c.split.ensures.behind at c.min.ensures in
     let high : p.result + c.min.result ≤ c.loop-rest.rest.to = omega (arith, p.ensures.bounds.1, n) in
     rw (c.split-in-loop-rest.ensures.before, c.split.ensures.behind) (record {
       run = run-to w.run (omega arith) high;
       from = w.from;
-      near = omega (arith, high, v.end, c.requires.part.near);
+      near = omega (arith, high, v.end, c.requires.near);
     })
 
 pub returns-in_err-step_block : goal.returns-in_err-step_block
 returns-in_err-step_block c =
     let v = c.loop-rest.invariant in
     let p = c.plain_run-stop in
-    let w = passing-skip v.state p.ensures.bounds (omega arith) p.ensures.skipped in
+    let w = passing-skip v.state p.ensures.bounds p.ensures.skipped in
     let n = rw c.split.ensures.behind at c.min.ensures in
     let high : p.result + c.min.result ≤ c.loop-rest.rest.to = omega (arith, p.ensures.bounds.1, n) in
     let b = rw (c.split-in-loop-rest.ensures.before, c.split.ensures.behind) at c.step_block.ensures in
@@ -32,14 +32,13 @@ pub loop-rest-preserved : goal.loop-rest-preserved
 loop-rest-preserved c =
     let v = c.loop-rest.invariant in
     let p = c.plain_run-stop in
-    let w = passing-skip v.state p.ensures.bounds (omega arith) p.ensures.skipped in
+    let w = passing-skip v.state p.ensures.bounds p.ensures.skipped in
     let n = rw c.split.ensures.behind at c.min.ensures in
     let high : p.result + c.min.result ≤ c.loop-rest.rest.to = omega (arith, p.ensures.bounds.1, n) in
     let b = rw (c.split-in-loop-rest.ensures.before, c.split.ensures.behind) at c.step_block.ensures in
     rw (c.split-in-loop-rest.ensures.behind, c.split.ensures.behind) (record {
-      state = passing-block w (omega arith) high b (ap is_some c.in_ok-step_block.was) (omega arith) (omega arith);
+      state = passing-block w (omega arith) high b (ap is_some c.in_ok-step_block.was);
       end = v.end;
-      room = omega (arith, v.room);
     })
 
 pub returns : goal.returns

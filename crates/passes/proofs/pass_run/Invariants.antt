@@ -1,8 +1,6 @@
 -- The invariant: the numbers before those of `rest` are behind. The measure is the numbers left.
-use Prim.Native.Nat.{suc, ◌-◌}
+use Prim.Native.Nat.{◌-◌}
 use mathlib.Core.Path.{◌≡◌}
-use lib.ListN.{length}
-use Rattle.picks.specs.Picks.{block}
 use Rattle.history.specs.Observations.{item_count}
 use Rattle.passes.proofs.Laws.{Passing}
 use Rattle.passes.proofs.pass_run.Given as goal
@@ -12,7 +10,6 @@ invariant-loop-rest l = record {
   state : Passing l.steps (item_count l.st) l.st l.f l.fn.run.from l.rest.to l.initial.marks l.marks l.initial.seen l.seen
       l.rest.from l.rest.place;
   end : l.rest.to ≡ l.fn.run.to;
-  room : length l.picks ≡ suc block;
 }
 
 abbrev pub decreases-loop-rest : goal.decreases-loop-rest

@@ -10,8 +10,7 @@ loop-number-init c =
     let r = c.args.run in
     let q : r.place + (r.from - r.from) ≡ r.place = omega arith in
     rw q
-    (gathering-start _ _ _ _ _ _ _ _ _ c.requires.part.run c.requires.from_le_to.0 c.requires.room.0
-    c.requires.room.1)
+    (gathering-start _ _ _ _ _ _ _ _ _ c.requires.part.run c.requires.from_le_to.0 c.told-picks)
 
 pub returns-then-m-i : goal.returns-then-m-i
 returns-then-m-i c =

@@ -1,13 +1,14 @@
 use mathlib.Core.Bool.{false≢true}
 use mathlib.Core.Path.{ap}
 use lib.ListN.{length}
+use Rattle.std.specs.Prelude.{is_some}
 use native.Mathlib.Omega.{arith}
 use Rattle.picks.proofs.Gathers.{stepping-start, stepping-pick, stepping-item, stepping-no, stepping-more, stepping-end}
 use Rattle.picks.proofs.step_picks.Goals as goal
 
 pub loop-pick-init : goal.loop-pick-init
 loop-pick-init c =
-    stepping-start _ _ _ _ _ _ _ c.requires.marks_len c.requires.f_le_from.1 c.requires.each
+    stepping-start _ _ _ _ _ _ _ c.requires.f_le_from.1 c.requires.each
 
 pub overflow_add-run : goal.overflow_add-run
 overflow_add-run c =
@@ -35,25 +36,32 @@ step_item-requires c =
     let w = stepping-pick v c.from-far.ensures c.if-far-eq-BLOCK.false in
     let i =
     stepping-item v c.from-far.ensures c.if-far-eq-BLOCK.false c.ring_size-n.ensures.is (rw c.slice-words.ensures.value at c.ring_word-word.ensures)
-    c.item_of.ensures in (
+    c.item_of-i.ensures in (
       omega (arith, i, c.slice-words.ensures.head.few),
-      (omega (arith, w.near, c.slice-words.ensures.head.head.n_max, c.requires.f_le_from.0), v.len),
+      omega (arith, w.near, c.slice-words.ensures.head.head.n_max, c.requires.f_le_from.0),
     )
 
-pub returns-then-not-step_item : goal.returns-then-not-step_item
-returns-then-not-step_item c =
-    record {
+pub bounds-marks-i : goal.bounds-marks-i
+bounds-marks-i c =
+    let i =
+    stepping-item c.loop-pick.invariant c.from-far.ensures c.if-far-eq-BLOCK.false c.ring_size-n.ensures.is
+    (rw c.slice-words.ensures.value at c.ring_word-word.ensures) c.item_of-i.ensures in
+    omega (arith, i, c.slice-words.ensures.head.few)
+
+pub returns-in_err-step_item : goal.returns-in_err-step_item
+returns-in_err-step_item c =
+    rw c.from_residual.ensures (record {
       value = stepping-no c.loop-pick.invariant c.from-far.ensures c.if-far-eq-BLOCK.false c.ring_size-n.ensures.is
-          (rw c.slice-words.ensures.value at c.ring_word-word.ensures) c.item_of.ensures c.step_item.ensures.value c.if-not-step_item.true;
+          (rw c.slice-words.ensures.value at c.ring_word-word.ensures) c.item_of-i.ensures c.step_item.ensures.value (ap is_some c.in_err-step_item.was);
       marks_after = λ z. absurd (false≢true z);
-    }
+    })
 
 pub loop-pick-preserved : goal.loop-pick-preserved
 loop-pick-preserved c =
-    let y = c.if-not-step_item.false in
+    let y = ap is_some c.in_ok-step_item.was in
     stepping-more c.loop-pick.invariant c.from-far.ensures c.if-far-eq-BLOCK.false c.ring_size-n.ensures.is
-    (rw c.slice-words.ensures.value at c.ring_word-word.ensures) c.item_of.ensures c.step_item.ensures.value y (omega (arith, c.requires.f_le_from.0))
-    (omega arith) (c.step_item.ensures.marks_after y)
+    (rw c.slice-words.ensures.value at c.ring_word-word.ensures) c.item_of-i.ensures c.step_item.ensures.value y (omega (arith, c.requires.f_le_from.0))
+    (c.step_item.ensures.marks_after y)
 
 pub returns-then-far-eq-BLOCK : goal.returns-then-far-eq-BLOCK
 returns-then-far-eq-BLOCK c =

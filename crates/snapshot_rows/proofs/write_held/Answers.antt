@@ -16,7 +16,7 @@ write_item-c-requires c =
     let h = rw c.items-i-end.ensures.0 at c.loop-i-test.true in
     let fits = flat-room v h (told c.has.ensures c.if-has.true) in
     record {
-      i_lt_items = (h, (omega (arith, c.loop-i-test.true, c.items-i-end.ensures.1), c.requires.marks_len));
+      i_lt_items = h;
       st_bound = c.requires.st_bound;
       i_bound = (fits, omega (arith, v.len));
     }

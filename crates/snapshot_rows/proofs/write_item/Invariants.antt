@@ -1,11 +1,11 @@
 -- The invariant: the rows of the used marks before this one are written.
 use Rattle.history.specs.Observations.{item_count}
 use Rattle.rows.proofs.Flat.{Left}
-use Rattle.snapshot_rows.specs.Held.{marked_rows}
+use Rattle.snapshot_rows.specs.Held.{eight_rows}
 use Rattle.snapshot_rows.proofs.Laws.{rows_from}
 use Rattle.snapshot_rows.proofs.write_item.Given as goal
 
 abbrev pub invariant-loop-mark : goal.invariant-loop-mark
 invariant-loop-mark l =
-    Left (marked_rows (item_count l.st) l.st l.f l.marks l.i) l.k l.done l.initial.out l.out l.c
+    Left (eight_rows (item_count l.st) l.st l.f l.i l.eight) l.k l.done l.initial.out l.out l.c
     (rows_from (item_count l.st) l.st l.f l.i l.used l.mark-index)

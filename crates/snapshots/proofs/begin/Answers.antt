@@ -10,14 +10,14 @@ use Rattle.snapshots.proofs.begin.Goals.{then-has+in_ok-begin_item, else-has}
 
 pub loop-i-init : goal.loop-i-init
 loop-i-init c =
-    beginning-start _ _ _ _ c.requires.marks_value
+    beginning-start _ _ _ _ c.requires
 
 pub begin_item-requires : goal.begin_item-requires
 begin_item-requires c =
     let v = c.loop-i.invariant in
     record {
       i_lt_items = rw c.items-i-end.ensures.0 at c.loop-i-test.true;
-      marks_len = (v.len, v.free c.loop-i.i (omega arith) (omega (arith, c.loop-i-test.true, c.items-i-end.ensures.1)));
+      unmarked = v.free c.loop-i.i (omega arith) (omega (arith, c.loop-i-test.true, c.items-i-end.ensures.1));
     }
 
 pub returns-in_err-begin_item : goal.returns-in_err-begin_item
@@ -42,10 +42,6 @@ loop-i-preserved c =
           (w.begin_item.ensures.marks_after y))
       | else-has w ↦ rw w.marks-is (beginning-skip v h (told c.has.ensures w.if-has.false))
     ]
-
-pub shape_of-marks : goal.shape_of-marks
-shape_of-marks c =
-    let v = c.loop-i.invariant in v.same
 
 pub returns : goal.returns
 returns c =

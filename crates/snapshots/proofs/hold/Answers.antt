@@ -3,8 +3,7 @@ use Rattle.snapshots.proofs.Ends.{hold-broken, hold-answers, hold-rows, seen-mar
 use mathlib.Core.Bool.{false≢true}
 use Rattle.std.specs.Prelude.{is_some}
 use native.Mathlib.Omega.{arith}
-use lib.ListN.{length, length-replicate}
-use Prim.Native.Nat.{ℕ, ◌-◌}
+use Prim.Native.Nat.{◌-◌}
 use mathlib.Core.Path.{refl, sym, ap, ◌∙◌}
 use Rattle.snapshots.proofs.hold.Goals as goal
 
@@ -20,11 +19,7 @@ returns-in_err-begin c =
 
 pub pass-requires : goal.pass-requires
 pass-requires c =
-    let n = ap length c.requires.marks_value ∙ length-replicate {A = ℕ} 512 0 in
-    record {
-      room = (refl, omega arith);
-      st_bound = c.requires.st_bound;
-    }
+    c.requires.st_bound
 
 pub returns-in_err-pass : goal.returns-in_err-pass
 returns-in_err-pass c =
@@ -40,12 +35,9 @@ returns-in_err-pass c =
 
 pub settle-requires : goal.settle-requires
 settle-requires c =
-    let n = ap length c.requires.marks_value ∙ length-replicate {A = ℕ} 512 0 in
-    let z = ap is_some c.in_ok-pass.was in record {
-      lens = (omega arith, omega arith);
-      by_index = seen-marks _ _ c.args.f (c.args.e -
-          c.args.f) c.slice.ensures.head.head c.requires.st_bound.1.1 refl (c.pass.ensures.behind z).1;
-    }
+    let z = ap is_some c.in_ok-pass.was in
+    seen-marks _ _ c.args.f (c.args.e - c.args.f) c.slice.ensures.head.head c.requires.st_bound.1.1 refl
+    (c.pass.ensures.behind z).1
 
 pub returns : goal.returns
 returns c =

@@ -21,12 +21,7 @@ plain_place-place-requires c =
     }
 
 pub mark_of-requires : goal.mark_of-requires
-mark_of-requires c = (omega (arith, c.plain_place-place.ensures.1, c.requires.by_index c.loop-i.i), lit< tt)
-
-pub bounds-marks-i : goal.bounds-marks-i
-bounds-marks-i c =
-    let v = c.loop-i.invariant in
-    omega (arith, v.same)
+mark_of-requires c = (omega (arith, c.plain_place-place.ensures.1, c.requires c.loop-i.i), lit< tt)
 
 pub loop-i-preserved : goal.loop-i-preserved
 loop-i-preserved c =
@@ -46,10 +41,6 @@ loop-i-preserved c =
             | else-has-via-else-has u ↦ rw (told c.has.ensures u.if-has.false)
           ]))
     ]
-
-pub shape_of-marks : goal.shape_of-marks
-shape_of-marks c =
-    c.loop-i.invariant.same
 
 pub returns : goal.returns
 returns c =

@@ -9,8 +9,8 @@ returns c =
     let form = c.requires.own_bound.1 in
     let change = c.change_for-change in
     let fits = change.ensures.change_fits in
-    let a = eight-changed _ _ change.result _ fits (omega arith) c.apply.ensures in
-    let b = eight-changed _ _ change.result _ fits (omega arith) c.apply-2.ensures in
-    let d = eight-changed _ _ change.result _ fits (omega arith) c.apply-3.ensures in
+    let a = eight-changed _ _ change.result _ fits (omega arith) c.change_front.ensures in
+    let b = eight-changed _ _ change.result _ fits (omega arith) c.change_front-2.ensures in
+    let d = eight-changed _ _ change.result _ fits (omega arith) c.change_front-3.ensures in
     step-put _ _ _ _ c.requires.table.inside c.requires.table.room change.result fits _ _ _ _ form
     (c.fill.ensures.marks_after form) change.ensures.value a b d
