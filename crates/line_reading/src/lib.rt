@@ -47,9 +47,7 @@ pub fn read_line(
         (result ≡ x.answer) × (observations.new ≡ x.observations) }
 {
     let words = model::checked(model, names)?.words;
-    if !observations::head_ok(observations, words.items()) {
-        return Err(Refusal::Store);
-    }
+    observations::checked(observations, words.items())?;
     let reading = line::read_line(line);
     observe_reading(&words, observations, reading, host)
 }

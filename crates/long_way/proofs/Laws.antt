@@ -1,19 +1,22 @@
--- What is found in a condition item's latest, and what is new.
+-- What is found in a condition item's latest, what is new, and what is observed then.
 use Prim.Native.Nat.{ℕ, ◌*◌}
 use mathlib.Core.Path.{◌≡◌}
 use mathlib.Core.Bool.{true}
 use mathlib.Core.List.{List}
 use borrow.Author.Tests.{eq-eqb}
 use Rattle.spec.specs.Blocks.{table_rows}
-use Rattle.history.specs.Observations.{latest_at, latest_ok, repeats_at, crowded_at}
+use Rattle.history.specs.Observations.{ring_size, latest_at, latest_ok, repeats_at, crowded_at}
+use Rattle.history.specs.Calls.{not_observed, room_for, observe_by}
 use Rattle.spec.proofs.Words.{by-test}
 use Rattle.judging.specs.Findings.{judged}
 use Rattle.judging.specs.declared.Judged.{Judged}
-use Rattle.judging.specs.declared.Judged.TheVariants.{New}
+use Rattle.judging.specs.declared.Judged.TheVariants.{Repeated, New}
 use Rattle.std.specs.Prelude.{Result, Ok, Err}
 use Rattle.spec.specs.declared.Refusal.{Refusal}
 use Rattle.spec.specs.declared.Refusal.TheVariants.{Store}
-use Rattle.short_way.specs.Found.{found}
+use Rattle.spec.specs.declared.Noted.TheVariants.{Same}
+use Rattle.short_way.specs.Found.{found, observed_by}
+use Rattle.short_way.proofs.Laws.{by-found}
 
 module _ (cat : ℕ → ℕ) (n m : ℕ) (st : List ℕ) (item word : ℕ) where
   -- a condition item's entries, by the numbers that the accessors gave
@@ -23,8 +26,24 @@ module _ (cat : ℕ → ℕ) (n m : ℕ) (st : List ℕ) (item word : ℕ) where
   found-entries k t ek et c e = rw (e, et, ek, eq-eqb (cat item) 2 c)
 
   -- what is new has a latest in its form
-  pub new-latest : found cat n m st item word ≡ Ok New → latest_ok cat n m st item ≡ true
+  pub new-latest : Ok New ≡ found cat n m st item word → latest_ok cat n m st item ≡ true
   unfolding found
   new-latest e =
       by-test (latest_ok cat n m st item) (λ t. t)
-      (λ t. absurd (let b : ◌≡◌ {A = Result Judged Refusal} (Err Store) (Ok New) = rw t at e in (cc)))
+      (λ t. absurd (let b : ◌≡◌ {A = Result Judged Refusal} (Ok New) (Err Store) = rw t at e in (cc)))
+
+-- what is found decides
+module _ (cat : ℕ → ℕ) (m : ℕ) (st : List ℕ) (item time word : ℕ) where
+  pub broken-observed : (r : Refusal) → Err r ≡ found cat (ring_size st) m st item word
+      → observed_by cat m st item time word ≡ not_observed r st
+  broken-observed r e = by-found cat m st item time word (Err r) e
+
+  pub repeated-observed : Ok Repeated ≡ found cat (ring_size st) m st item word
+      → observed_by cat m st item time word ≡ record { answer = Ok Same; observations = st }
+  repeated-observed e = by-found cat m st item time word (Ok Repeated) e
+
+  pub new-observed : Ok New ≡ found cat (ring_size st) m st item word
+      → observed_by cat m st item time word ≡ observe_by (room_for cat m st) cat m st item time word
+  new-observed e = by-found cat m st item time word (Ok New) e
+
+pub ruleset found_ways = (new-latest, broken-observed, repeated-observed, new-observed)

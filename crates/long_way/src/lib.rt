@@ -63,6 +63,7 @@ fn judge_latest(
 }
 
 // The long way of a value that its item takes: what is found in its latest decides.
+#[tactic(auto, using(crate::proofs::Laws::found_ways))]
 pub fn observe_long(
     model: &Words<'_>,
     observations: &mut [u64],
@@ -79,9 +80,9 @@ pub fn observe_long(
         let x = observed_by of (items model.now) observations.old item time word in
         (result ≡ x.answer) × (observations.new ≡ x.observations) }
 {
-    match judge_latest(model, observations, cat, item, word) {
-        Err(refusal) => Err(refusal),
-        Ok(Judged::Repeated) => Ok(Noted::Same),
-        Ok(Judged::New) => record(model, observations, item, time, word),
+    let found = judge_latest(model, observations, cat, item, word);
+    match found? {
+        Judged::Repeated => Ok(Noted::Same),
+        Judged::New => record(model, observations, item, time, word),
     }
 }

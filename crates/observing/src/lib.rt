@@ -69,10 +69,10 @@ fn observe_with<F: FnOnce(u64) -> Option<u64>>(
     let Some(word) = packed(category) else {
         return Err(Refusal::Kind);
     };
-    if let Some(answer) = observe_short(model, observations, category, item, time, word) {
-        return answer;
+    match observe_short(model, observations, category, item, time, word) {
+        Some(noted) => Ok(noted),
+        None => observe_long(model, observations, category, item, time, word),
     }
-    observe_long(model, observations, category, item, time, word)
 }
 
 // An observation of an item by its value.

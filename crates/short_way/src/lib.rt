@@ -8,7 +8,7 @@ ghost use Rattle.history.specs.Observations.{Head, ring_size, latest_at, item_ro
 ghost use Rattle.short_way.specs.Found.{found, observed_by, Shortened};
 
 use model::Words;
-use spec::{Noted, ObserveAnswer};
+use spec::Noted;
 
 // Whether a packed word repeats the latest of its item, which is of the category. A discrete item's latest isn't read.
 fn repeats(observations: &[u64], m: u64, category: u64, item: u64, word: u64) -> bool
@@ -33,7 +33,7 @@ pub fn observe_short(
     item: u64,
     time: u64,
     word: u64,
-) -> Option<ObserveAnswer>
+) -> Option<Noted>
     requires head { Head (items model.now) observations.old }
     requires item_bound { (item < items model.now) × (cat ≡ category model.now item) }
     ensures { let st = observations.old in
@@ -47,8 +47,8 @@ pub fn observe_short(
     }
     let m = model.items();
     if repeats(observations, m, cat, item, word) {
-        return Some(Ok(Noted::Same));
+        return Some(Noted::Same);
     }
     let number = plain::add_plain(model, observations, item, time, word)?;
-    Some(Ok(Noted::Recorded(number)))
+    Some(Noted::Recorded(number))
 }

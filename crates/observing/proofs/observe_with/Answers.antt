@@ -20,8 +20,8 @@ returns-in-Some-observe_short g c = λ v p.
     rw (passed _ _ _ _ v _ c.items.ensures.0 c.if-items-item.false _ refl refl e.0 _ e.1)
     (c.observe_short.ensures.done _ c.in-Some-observe_short.is)
 
-pub returns : goal.returns
-returns g c = λ v p.
+pub returns-in-None : goal.returns-in-None
+returns-in-None g c = λ v p.
     let e = taken-some _ _ v (p (Some c.in-Some.word) (omega arith) (rw c.category-category.ensures at c.in-Some.ensures)) in
     rw (passed _ _ _ _ v _ c.items.ensures.0 c.if-items-item.false _ refl refl e.0 _ e.1)
-    (rw (c.observe_short.ensures.left c.in_default-observe_short.is) at c.observe_long.ensures)
+    (rw (c.observe_short.ensures.left c.in-None.is) at c.observe_long.ensures)

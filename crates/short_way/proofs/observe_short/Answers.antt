@@ -1,17 +1,19 @@
 -- The latest word decides; where the short way is not open nothing was changed.
-use mathlib.Core.Path.{◌≡◌, refl, sym, ◌∙◌}
+use mathlib.Core.Path.{◌≡◌, refl, ◌∙◌}
 use borrow.Author.Tests.{ne_eqb}
-use Rattle.std.specs.Prelude.{Some}
+use Rattle.std.specs.Prelude.{Some, Ok}
+use Rattle.spec.specs.declared.Noted.{Noted}
+use Rattle.spec.specs.Answers.{ObserveAnswer}
 use Rattle.spec.specs.Model.{category}
 use Rattle.short_way.proofs.Laws.{found-same, found-new, by-found}
 use Rattle.short_way.proofs.observe_short.Goals as goal
 
-some-is : {A : Type 0} {x y : A} → Some x ≡ Some y → x ≡ y
-some-is e = cc
+answered : {x y : Noted} → Some x ≡ Some y → ◌≡◌ {A = ObserveAnswer} (Ok y) (Ok x)
+answered e = cc
 
 pub returns-then-cat-eq-CONDITION : goal.returns-then-cat-eq-CONDITION
 returns-then-cat-eq-CONDITION c =
-    record { done = λ a e. cc; taken = λ q e. cc; left = λ e. refl; new = λ e n. absurd (n c.if-cat-eq-CONDITION.true) }
+    record { done = λ a e. cc; left = λ e. refl; new = λ e n. absurd (n c.if-cat-eq-CONDITION.true) }
 
 pub returns-then-repeats : goal.returns-then-repeats
 returns-then-repeats c =
@@ -22,8 +24,7 @@ returns-then-repeats c =
     (rw (c.requires.item_bound.1, c.items-m.ensures.0) at c.repeats.ensures) c.if-repeats.true
     in
     record {
-      done = λ a e. rw (by-found _ _ _ _ _ _ _ f) (sym (some-is e), refl);
-      taken = λ q e. cc;
+      done = λ a e. rw (by-found _ _ _ _ _ _ _ f) (answered e, refl);
       left = λ e. cc;
       new = λ e. cc;
     }
@@ -44,7 +45,6 @@ returns-in_err-number c =
     rw c.from_residual.ensures
     (record {
       done = λ a e. cc;
-      taken = λ q e. cc;
       left = λ e. rw c.in_err-number.was at c.add_plain.ensures;
       new = λ e n.
           found-new (category c.args.model.now) _ _ _ _ _ plain
@@ -61,8 +61,7 @@ returns c =
     in
     let d = rw c.in_ok-number.was at c.add_plain.ensures in
     record {
-      done = λ a e. rw (by-found _ _ _ _ _ _ _ f, d.1.0) (rw d.0 at (sym (some-is e)), d.1.1);
-      taken = λ q e. cc;
+      done = λ a e. rw (by-found _ _ _ _ _ _ _ f, d.1.0) (rw d.0 at (answered e), d.1.1);
       left = λ e. cc;
       new = λ e. cc;
     }
