@@ -6,14 +6,14 @@ use mathlib.Core.List.{List, [], ◌∷◌, ◌++◌, append_assoc}
 use native.Mathlib.Omega.{arith}
 use lib.ListN.{length}
 use Rattle.spec.specs.Bytes.{bytes, decimal}
-use Rattle.spec.specs.Model.{Checked, name_bytes, name_text, max_components, components, component_name, component_word}
+use Rattle.spec.specs.Model.{Checked, name_bytes, name_text, components, component_name, component_word}
 use Rattle.streams.specs.Streams.{Row, each, having, row_component, groups, tag, component_type, device_tag, component_tag}
 use Rattle.streams.specs.Streams.{group_lines, component_lines, components_lines, ended}
 use Rattle.streams.proofs.Pieces.{ended-append, each-suc}
 use Rattle.writer.specs.Puts.{Put, stop}
 use Rattle.writer.specs.declared.Output.{Output}
 use Rattle.writer.proofs.Laws.{put-none, put-append}
-use Rattle.row_groups.specs.Groups.{kept, Marked, any_marked}
+use Rattle.row_groups.specs.Groups.{kept, any_kept}
 use Rattle.row_groups.proofs.Laws.{cell_room, between_none, between_put, component-filled}
 
 -- ---- a component's type
@@ -50,15 +50,14 @@ module _ (model names t : List ℕ) {o o₁ o₂ : Output} where
 
 -- ---- a component
 
-module _ (model names : List ℕ) (rows : List Row) (present : List ℕ) (m : Marked model rows present) (c : ℕ)
-    (h : c < max_components) {t : Bool} (e : t ≡ any_marked present c) {o : Output} where
+module _ (model names : List ℕ) (rows : List Row) (c : ℕ) {t : Bool} (e : t ≡ any_kept model c rows) {o : Output} where
   pub component-none : t ≡ false → length o.bytes.now ≤ stop
       → Put o (ended (component_lines model names c (having (row_component model) c rows))) o
   unfolding component_lines
   component-none f l =
       between_none (tag (component_tag model names c)) (bytes "</ComponentStream>")
       (each (λ g. group_lines model names g (kept model c g rows)) groups 0)
-      (component-filled model names rows present m c h ∙ (sym e ∙ f)) l
+      (component-filled model names rows c ∙ (sym e ∙ f)) l
 
   pub component-put : {o₁ o₂ o₃ : Output} → t ≡ true
       → Put o (tag (component_tag model names c) ++ 10 ∷ []) o₁
@@ -69,7 +68,7 @@ module _ (model names : List ℕ) (rows : List Row) (present : List ℕ) (m : Ma
   component-put f a b d =
       between_put (tag (component_tag model names c)) (bytes "</ComponentStream>")
       (each (λ g. group_lines model names g (kept model c g rows)) groups 0)
-      (component-filled model names rows present m c h ∙ (sym e ∙ f)) a b d
+      (component-filled model names rows c ∙ (sym e ∙ f)) a b d
 
 -- ---- the components, one after the other
 

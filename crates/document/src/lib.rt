@@ -2,27 +2,34 @@
 #![tactic(auto)]
 
 ghost use Rattle.std.specs.Prelude.{true, [], ◌∷◌, ◌++◌, ◌≡◌};
-ghost use Rattle.streams.specs.Streams.{words_ok, empty_tag, header_tag, streams_lines, ended, document};
+ghost use Rattle.streams.specs.Streams.{empty_tag, header_tag, streams_lines, ended, document};
 ghost use Rattle.writer.specs.Puts.{Put};
 ghost use Rattle.writer.specs.Whole.{text_after, bytes_of};
-ghost use Rattle.row_groups.specs.Groups.{Documented, Marked, reply_rows};
+ghost use Rattle.row_groups.specs.Groups.{reply_rows};
 ghost use Rattle.document.specs.Header.{start_lines, given_part, numbers_part};
 
 use attributes::{put_number, put_time};
 use components_text::{put_components, put_device};
-use model::Words;
-use reply_rows::rows;
-use row_groups::{MARKS, groups_present};
+use reply_rows::Reply;
+use row_groups::Document;
 use spec::Answer;
 use writer::{Output, write_whole};
 
+// What the header says that no reply does: the ring's size, the host's instance, and the document's own time.
+#[derive(Clone, Copy)]
+pub struct Header {
+    pub buffer_size: u64,
+    pub instance: u64,
+    pub creation: u64,
+}
+
 // The header's first half: the document's own time and what the host gives.
-fn put_given(n: u64, instance: u64, creation: u64, out: &mut Output)
-    ensures { Put out.old (given_part n instance creation) out.new }
+fn put_given(h: &Header, out: &mut Output)
+    ensures { Put out.old (given_part h.now.buffer_size h.now.instance h.now.creation) out.new }
 {
-    put_time(out, b"<Header creationTime=\"", creation);
-    put_number(out, b" sender=\"box\" instanceId=\"", instance);
-    put_number(out, b" bufferSize=\"", n);
+    put_time(out, b"<Header creationTime=\"", h.creation);
+    put_number(out, b" sender=\"box\" instanceId=\"", h.instance);
+    put_number(out, b" bufferSize=\"", h.buffer_size);
 }
 
 // Its second half: the reply's next, first and last.
@@ -35,36 +42,28 @@ fn put_numbers(next: u64, first: u64, last: u64, out: &mut Output)
 }
 
 // The header.
-fn put_header(reply: &[u64], n: u64, instance: u64, creation: u64, out: &mut Output)
-    requires { words_ok reply.now ≡ true }
+fn put_header(reply: &Reply<'_>, h: &Header, out: &mut Output)
     ensures { Put out.old
-        (empty_tag (header_tag reply.now n instance creation) ++ 10 ∷ []) out.new }
+        (empty_tag (header_tag reply.now h.now.buffer_size h.now.instance h.now.creation) ++ 10 ∷ []) out.new }
 {
-    put_given(n, instance, creation, out);
-    put_numbers(reply[3], reply[1], reply[2], out);
+    let words = reply.slice();
+    put_given(h, out);
+    put_numbers(words[3], words[1], words[2], out);
     out.put_bytes(b"/>\n");
 }
 
 // The rows with all that stands around them; an empty element where there are none.
-fn put_streams(
-    model: &Words<'_>,
-    names: &[u8],
-    reply: &[u64],
-    present: &[u8; MARKS],
-    out: &mut Output,
-)
-    requires documented { Documented model.now names.now reply.now }
-    requires marked { Marked model.now (reply_rows reply.now) present.now }
+fn put_streams(d: &Document<'_>, out: &mut Output)
     ensures { Put out.old
-        (ended (streams_lines model.now names.now (reply_rows reply.now)))
+        (ended (streams_lines d.now.model d.now.names (reply_rows d.now.reply)))
         out.new }
 {
-    if rows(reply) == 0 {
+    if d.reply.rows() == 0 {
         return out.put_bytes(b"<Streams/>\n");
     }
     out.put_bytes(b"<Streams>\n");
-    put_device(model, names, out);
-    put_components(model, names, reply, present, out);
+    put_device(d, out);
+    put_components(d, out);
     out.put_bytes(b"</DeviceStream>\n</Streams>\n");
 }
 
@@ -77,47 +76,27 @@ fn put_start(out: &mut Output)
 }
 
 // The document.
-fn put_document(
-    model: &Words<'_>,
-    names: &[u8],
-    reply: &[u64],
-    n: u64,
-    instance: u64,
-    creation: u64,
-    present: &[u8; MARKS],
-    out: &mut Output,
-)
-    requires documented { Documented model.now names.now reply.now }
-    requires marked { Marked model.now (reply_rows reply.now) present.now }
+fn put_document(d: &Document<'_>, h: &Header, out: &mut Output)
     ensures { Put out.old
-        (document model.now names.now reply.now n instance creation)
+        (document d.now.model d.now.names d.now.reply h.now.buffer_size h.now.instance h.now.creation)
         out.new }
 {
     put_start(out);
-    put_header(reply, n, instance, creation, out);
-    put_streams(model, names, reply, present, out);
+    put_header(&d.reply, h, out);
+    put_streams(d, out);
     out.put_bytes(b"</MTConnectStreams>\n");
 }
 
 // The document, or nothing where the text is too short for it. The first pass, over no bytes, gives the length.
-pub fn write_document(
-    model: &Words<'_>,
-    names: &[u8],
-    reply: &[u64],
-    n: u64,
-    instance: u64,
-    creation: u64,
-    text: &mut [u8],
-) -> Answer
-    requires { Documented model.now names.now reply.now }
+pub fn write_document(d: &Document<'_>, h: &Header, text: &mut [u8]) -> Answer
     ensures text_after { text.new
-        ≡ text_after (document model.now names.now reply.now n instance creation)
+        ≡ text_after
+        (document d.now.model d.now.names d.now.reply h.now.buffer_size h.now.instance h.now.creation)
         text.old }
-    ensures value { result ≡ bytes_of (document model.now names.now reply.now n instance creation)
+    ensures value { result
+        ≡ bytes_of
+        (document d.now.model d.now.names d.now.reply h.now.buffer_size h.now.instance h.now.creation)
         text.old }
 {
-    let present = groups_present(model, reply);
-    write_whole(text, |out| {
-        put_document(model, names, reply, n, instance, creation, &present, out)
-    })
+    write_whole(text, |out| put_document(d, h, out))
 }

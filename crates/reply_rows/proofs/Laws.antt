@@ -1,18 +1,18 @@
 -- A reply's length, a value's word and a packed word, as the code tests them.
-use Prim.Native.Nat.{ℕ, zero, suc, ◌+◌, ◌-◌, ◌*◌, ◌/◌, ◌%◌, ◌^◌, ◌≤◌, ◌<◌}
-use mathlib.Core.Path.{◌≡◌, refl, sym, ap, ◌∙◌}
+use Prim.Native.Nat.{ℕ, suc, ◌+◌, ◌-◌, ◌*◌, ◌/◌, ◌%◌, ◌^◌, ◌≤◌, ◌<◌}
+use mathlib.Core.Path.{◌≡◌, sym, ap, ◌∙◌}
 use mathlib.Core.Logic.{◌≢◌}
-use mathlib.Core.Bool.{Bool, true, false, not, or-false}
+use mathlib.Core.Bool.{Bool, true, false, ◌&&◌, ◌||◌, not, or-false}
 use mathlib.Core.List.{List}
 use native.Mathlib.Omega.{arith}
 use lib.Dec.{leb, eqb}
 use lib.ListN.{length, get_or}
-use borrow.Author.Tests.{leb-true, le-leb, lt-leb, lt-ltb, le-ltb, eq-eqb, ne_eqb}
+use borrow.Author.Tests.{leb-true, le-leb, lt-leb, lt-ltb, le-ltb, ne_eqb, eqb-true}
 use Rattle.spec.specs.Words.{every}
 use Rattle.spec.specs.Value.{item_of}
 use Rattle.spec.specs.Model.{items, category}
 use Rattle.spec.specs.Reply.{rows_of}
-use Rattle.spec.proofs.Words.{and_right, same_truth}
+use Rattle.spec.proofs.Words.{and_left, and_right, same_truth}
 use Rattle.lines.specs.Stamps.{max_time}
 use Rattle.streams.specs.Streams.{group_of, word_ok, packed_ok, all_rows, words_ok, reply_ok, times_ok}
 use Rattle.streams.proofs.Rows.{row_at, row_number, row-time, row-packed, rows-every}
@@ -39,36 +39,29 @@ module _ (reply : List ℕ) where
 
 -- ---- a value's word
 
-pub group-event : (c : ℕ) → c ≢ 0 → c ≢ 2 → 1 ≡ group_of c
-group-event zero a b = absurd (a refl)
-group-event (suc zero) a b = refl
-group-event (suc (suc zero)) a b = absurd (b refl)
-group-event (suc (suc (suc c))) a b = refl
-
 module _ (c word : ℕ) where
   pub word_none : word / 2 ^ 32 ≡ 0 → eqb (word % 2 ^ 32) 0 ≡ word_ok c word
   unfolding word_ok
   word_none e = rw (e, ne_eqb 0 (suc (group_of c)) (λ z. omega arith)) (sym (or-false _))
 
-  module _ (g : ℕ) (eg : g ≡ group_of c) where
-    pub word-other : word / 2 ^ 32 ≢ 0 → word / 2 ^ 32 ≢ g + 1 → false ≡ word_ok c word
-    unfolding word_ok
-    word-other n o =
-        rw (ne_eqb (word / 2 ^ 32) 0 n, ne_eqb (word / 2 ^ 32) (suc (group_of c)) (λ e. o (omega arith)))
+  -- the kind of Samples, and of Events
+  pub word-kind : (g : ℕ) → g ≡ group_of c → g < 2 → word / 2 ^ 32 ≢ 0 → eqb (word / 2 ^ 32) (suc g) ≡ word_ok c word
+  unfolding word_ok
+  word-kind g e h n = rw (ne_eqb (word / 2 ^ 32) 0 n, ← e) (go (word / 2 ^ 32) g _ h)
+    where
+      go : (k g : ℕ) (t : Bool) → g < 2 → eqb k (suc g) ≡ eqb k (suc g) && (not (eqb k 3) || t)
+      go k g t h =
+          same_truth (eqb k (suc g)) (eqb k (suc g) && (not (eqb k 3) || t))
+          (λ e. rw (e, ne_eqb k 3 (λ q. omega (arith, eqb-true k (suc g) e))))
+          (λ e. and_left _ _ e)
 
-    pub word-own : word / 2 ^ 32 ≢ 0 → word / 2 ^ 32 ≡ g + 1 → word / 2 ^ 32 ≢ 3
-        → not (eqb (word / 2 ^ 32) 3) ≡ word_ok c word
-    unfolding word_ok
-    word-own n e o =
-        let k : word / 2 ^ 32 ≡ suc (group_of c) = omega arith in
-        rw (ne_eqb (word / 2 ^ 32) 0 n, eq-eqb _ _ k, ne_eqb (word / 2 ^ 32) 3 o)
+  pub word-level : 2 ≡ group_of c → word / 2 ^ 32 ≡ 3 → leb (word % 2 ^ 32 / 2 ^ 24) 2 ≡ word_ok c word
+  unfolding word_ok
+  word-level e t = rw (t, ← e)
 
-    pub word-level : word / 2 ^ 32 ≡ g + 1 → word / 2 ^ 32 ≡ 3
-        → leb (word % 2 ^ 32 / 2 ^ 24) 2 ≡ word_ok c word
-    unfolding word_ok
-    word-level e t =
-        let k : group_of c ≡ 2 = omega arith in
-        rw (t, k)
+  pub word-other : 2 ≡ group_of c → word / 2 ^ 32 ≢ 0 → word / 2 ^ 32 ≢ 3 → eqb (word / 2 ^ 32) 3 ≡ word_ok c word
+  unfolding word_ok
+  word-other e n o = rw (ne_eqb (word / 2 ^ 32) 0 n, ← e, ne_eqb (word / 2 ^ 32) 3 o)
 
 -- ---- a packed word
 
@@ -107,6 +100,10 @@ module _ (p : List ℕ → Bool) (reply : List ℕ) (k : ℕ) (ek : k ≡ get_or
 -- ---- the two refusals
 
 module _ (model reply : List ℕ) where
+  pub reply-words : reply_ok model reply ≡ true → words_ok reply ≡ true
+  unfolding reply_ok
+  reply-words h = and_left (words_ok reply) _ h
+
   pub reply-short : words_ok reply ≡ false → false ≡ reply_ok model reply
   unfolding reply_ok
   reply-short e = rw e

@@ -1,15 +1,15 @@
 -- Rows of a component and group, kept and marked one after the other.
-use Prim.Native.Nat.{ℕ, zero, suc, ◌+◌, ◌-◌, ◌*◌, ◌≤◌, ◌<◌}
+use Prim.Native.Nat.{ℕ, suc, ◌+◌, ◌-◌, ◌*◌, ◌≤◌, ◌<◌}
 use mathlib.Core.Path.{◌≡◌, refl, sym, ap, ◌∙◌}
-use mathlib.Core.Bool.{Bool, true, false, cond, ◌||◌, not}
+use mathlib.Core.Bool.{Bool, true, false, ◌||◌, not}
 use mathlib.Core.List.{List, [], ◌∷◌, ◌++◌, map, map-append, append_assoc, append-nil}
 use native.Mathlib.Omega.{arith}
 use borrow.Author.Tests.{eq-eqb, ne_eqb, eqb-true, eqb-false, ltb-true}
+use denote.Enum.Bare.{sameb}
 use lib.Dec.{eqb}
 use lib.ListN.{length, get_or, set, take, drop, replicate, length-set, length-take, get_or-replicate}
 use lib.ListN.{length-replicate}
 use lib.Seq.{take-take, take_all, get_or-set_same, get_or-set_other}
-use Rattle.spec.specs.Bytes.{bytes}
 use Rattle.spec.specs.Value.{item_of}
 use Rattle.spec.specs.Model.{Checked, name_bytes, name_count, name_cell, name_text, letters, max_components, items}
 use Rattle.spec.specs.Model.{item_word, item_name, component_of, category_of}
@@ -18,13 +18,51 @@ use Rattle.spec.proofs.Words.{and_left, and_right}
 use Rattle.streams.specs.Streams.{Row, row_of, row_in, group_of, packed_ok, words_ok, reply_ok, each, having, row_component}
 use Rattle.streams.specs.Streams.{row_group, groups, tag, end_tag, row_line, between, group_name, item_type, row_lines}
 use Rattle.streams.specs.Streams.{group_lines, ended}
+use Rattle.streams.specs.Groups.{group_number}
+use Rattle.streams.specs.contracts.Group.{the_type}
+use Rattle.streams.specs.declared.Group.{Group}
+use Rattle.streams.specs.declared.Group.TheVariants.{Samples, Events, Condition}
 use Rattle.streams.proofs.Rows.{row_at, rows-length, rows-suc, all-at}
 use Rattle.streams.proofs.Pieces.{ended-append, having-append}
 use Rattle.writer.specs.Puts.{Put, stop}
 use Rattle.writer.specs.declared.Output.{Output}
 use Rattle.writer.proofs.Laws.{put-none, put-append}
-use Rattle.row_groups.specs.Groups.{reply_rows, kept, kept_text, marks, mark_at, filled, Marked, marked, any_marked}
+use Rattle.row_groups.specs.Groups.{reply_rows, kept, kept_text, marks, mark_at, filled, Marked, any_kept}
 use Rattle.row_groups.specs.Groups.{Documented, Placed}
+
+-- ---- the groups' numbers
+
+pub number-small : (g : Group) → group_number g < groups
+number-small Samples = omega arith
+number-small Events = omega arith
+number-small Condition = omega arith
+
+-- the test of two groups is that of their numbers
+tested : (g h : Group) → sameb the_type g h ≡ eqb (group_number g) (group_number h)
+tested Samples Samples = refl
+tested Samples Events = refl
+tested Samples Condition = refl
+tested Events Samples = refl
+tested Events Events = refl
+tested Events Condition = refl
+tested Condition Samples = refl
+tested Condition Events = refl
+tested Condition Condition = refl
+
+module _ (g h : Group) {t : Bool} (e : t ≡ not (sameb the_type g h)) where
+  pub number-same : t ≡ false → group_number g ≡ group_number h
+  number-same f = eqb-true _ _ (sym (tested g h) ∙ go (sameb the_type g h) (sym e ∙ f))
+    where
+      go : (x : Bool) → not x ≡ false → x ≡ true
+      go true f = refl
+      go false f = sym f
+
+  pub number-other : t ≡ true → group_number g ≡ group_number h → ⊥
+  number-other f = eqb-false _ _ (sym (tested g h) ∙ go (sameb the_type g h) (sym e ∙ f))
+    where
+      go : (x : Bool) → not x ≡ true → x ≡ false
+      go true f = sym f
+      go false f = refl
 
 -- ---- what the call's checks give
 
@@ -33,10 +71,6 @@ placed model names reply d =
     record { sizes = d.checked.sizes; component = d.checked.component; accepted = d.accepted }
 
 module _ (model reply : List ℕ) (h : reply_ok model reply ≡ true) where
-  pub words-ok : words_ok reply ≡ true
-  unfolding reply_ok
-  words-ok = and_left (words_ok reply) _ h
-
   -- a row's item is one of the model's
   pub item-there : (i : ℕ) → i < get_or reply 0 0 → item_of (get_or (row_at reply i) 2 0) < items model
   unfolding reply_ok packed_ok
@@ -179,34 +213,34 @@ filled_more : {A : Type 0} (a : List A) (x : A) → filled (a ++ x ∷ []) ≡ t
 filled_more [] x = refl
 filled_more (y ∷ a) x = refl
 
-pub marked-none : (model : List ℕ) → Marked model [] (replicate marks 0)
+pub marked-none : (model : List ℕ) → Marked model [] (replicate marks false)
 unfolding having
 marked-none model =
     record {
-      len = length-replicate {A = ℕ} marks 0;
-      at = λ c g h k. get_or-replicate marks (mark_at c g) 0 0 (omega arith);
+      len = length-replicate {A = Bool} marks false;
+      at = λ c g h k. get_or-replicate marks (mark_at c g) false false (omega arith);
     }
 
-module _ (model : List ℕ) (rows : List Row) {present : List ℕ} (m : Marked model rows present) (x : Row) where
+module _ (model : List ℕ) (rows : List Row) {present : List Bool} (m : Marked model rows present) (x : Row) where
   at_more : row_component model x < max_components → row_group model x < groups
       → (c g : ℕ) → c < max_components → g < groups
-      → get_or (set present (mark_at (row_component model x) (row_group model x)) 1) (mark_at c g) 0
-      ≡ cond (filled (kept model c g (rows ++ x ∷ []))) 1 0
+      → get_or (set present (mark_at (row_component model x) (row_group model x)) true) (mark_at c g) false
+      ≡ filled (kept model c g (rows ++ x ∷ []))
   at_more hc hg c g h k =
       rw (kept_append model c g rows (x ∷ []))
       (go (eqb (row_component model x) c) (eqb (row_group model x) g) refl refl)
     where
       other : (mark_at c g ≡ mark_at (row_component model x) (row_group model x) → ⊥) → kept model c g (x ∷ []) ≡ []
-          → get_or (set present (mark_at (row_component model x) (row_group model x)) 1) (mark_at c g) 0
-          ≡ cond (filled (kept model c g rows ++ kept model c g (x ∷ []))) 1 0
+          → get_or (set present (mark_at (row_component model x) (row_group model x)) true) (mark_at c g) false
+          ≡ filled (kept model c g rows ++ kept model c g (x ∷ []))
       other n e =
           rw (e, append-nil (kept model c g rows))
-          (get_or-set_other present (mark_at (row_component model x) (row_group model x)) (mark_at c g) 1 0 n
+          (get_or-set_other present (mark_at (row_component model x) (row_group model x)) (mark_at c g) true false n
           ∙ m.at c g h k)
 
       go : (t u : Bool) → eqb (row_component model x) c ≡ t → eqb (row_group model x) g ≡ u
-          → get_or (set present (mark_at (row_component model x) (row_group model x)) 1) (mark_at c g) 0
-          ≡ cond (filled (kept model c g rows ++ kept model c g (x ∷ []))) 1 0
+          → get_or (set present (mark_at (row_component model x) (row_group model x)) true) (mark_at c g) false
+          ≡ filled (kept model c g rows ++ kept model c g (x ∷ []))
       go false u e f =
           let n = eqb-false (row_component model x) c e in
           other (λ q. n (omega arith)) (kept-not-component model c g x n)
@@ -218,26 +252,26 @@ module _ (model : List ℕ) (rows : List Row) {present : List ℕ} (m : Marked m
           let p = eqb-true (row_component model x) c e in
           let q = eqb-true (row_group model x) g f in
           rw (kept-own model c g x p q, filled_more (kept model c g rows) x, p, q)
-          (get_or-set_same present (mark_at c g) 1 0 (omega (arith, m.len)))
+          (get_or-set_same present (mark_at c g) true false (omega (arith, m.len)))
 
   pub marked_more : row_component model x < max_components → row_group model x < groups
-      → Marked model (rows ++ x ∷ []) (set present (mark_at (row_component model x) (row_group model x)) 1)
+      → Marked model (rows ++ x ∷ []) (set present (mark_at (row_component model x) (row_group model x)) true)
   marked_more hc hg =
       record {
-        len = length-set present (mark_at (row_component model x) (row_group model x)) 1 ∙ m.len;
+        len = length-set present (mark_at (row_component model x) (row_group model x)) true ∙ m.len;
         at = at_more hc hg;
       }
 
 -- a turn of the marking
-pub marking-more : (model reply : List ℕ) (i : ℕ) → i < get_or reply 0 0 → {present : List ℕ}
-    → Marked model (map row_in (take i (rows_of reply))) present → (w c g at : ℕ)
-    → w ≡ item_word model (item_of (get_or (row_at reply i) 2 0)) → c ≡ component_of w → g ≡ group_of (category_of w)
-    → c < max_components → g < groups → at ≡ mark_at c g
-    → Marked model (map row_in (take (suc i) (rows_of reply))) (set present at 1)
-marking-more model reply i h m w c g at ew ec eg lc lg ea =
+pub marking-more : (model reply : List ℕ) (i : ℕ) → i < get_or reply 0 0 → {present : List Bool}
+    → Marked model (map row_in (take i (rows_of reply))) present → (w c at : ℕ) (g : Group)
+    → w ≡ item_word model (item_of (get_or (row_at reply i) 2 0)) → c ≡ component_of w
+    → group_number g ≡ group_of (category_of w) → c < max_components → at ≡ mark_at c (group_number g)
+    → Marked model (map row_in (take (suc i) (rows_of reply))) (set present at true)
+marking-more model reply i h m w c at g ew ec eg lc ea =
     let x = row_in (row_at reply i) in
     let fc : c ≡ row_component model x = rw ew at ec in
-    let fg : g ≡ row_group model x = rw ew at eg in
+    let fg : group_number g ≡ row_group model x = rw ew at eg in
     rw (
       rows-suc reply i h,
       map-append row_in (take i (rows_of reply)) (row_at reply i ∷ []),
@@ -245,20 +279,11 @@ marking-more model reply i h m w c g at ew ec eg lc lg ea =
       fc,
       fg,
     )
-    (marked_more model (map row_in (take i (rows_of reply))) m x (rw fc at lc) (rw fg at lg))
+    (marked_more model (map row_in (take i (rows_of reply))) m x (rw fc at lc) (rw fg at (number-small g)))
 
-pub marking-all : (model reply : List ℕ) (i : ℕ) → get_or reply 0 0 ≤ i → {present : List ℕ}
+pub marking-all : (model reply : List ℕ) (i : ℕ) → get_or reply 0 0 ≤ i → {present : List Bool}
     → Marked model (map row_in (take i (rows_of reply))) present → Marked model (reply_rows reply) present
 marking-all model reply i h m = rw (take_all i (rows_of reply) (omega (arith, rows-length reply))) at m
-
--- what a mark says
-pub mark-says : (model : List ℕ) (rows : List Row) (present : List ℕ) → Marked model rows present → (c g : ℕ)
-    → c < max_components → g < groups → marked present c g ≡ filled (kept model c g rows)
-mark-says model rows present m c g h k = rw (m.at c g h k) (go (filled (kept model c g rows)))
-  where
-    go : (t : Bool) → not (eqb (cond t 1 0) 0) ≡ t
-    go true = refl
-    go false = refl
 
 -- ---- lines between a start and an end
 
@@ -289,6 +314,9 @@ module _ (start end : List ℕ) (ls : List (List ℕ)) {o : Output} where
 
 -- ---- groups
 
+tag-line : (t : List ℕ) → tag t ++ 10 ∷ [] ≡ 60 ∷ (t ++ 62 ∷ 10 ∷ [])
+tag-line t = simp append_assoc
+
 lines-filled : (model names : List ℕ) (g : ℕ) (rows : List Row) → filled (row_lines model names g rows) ≡ filled rows
 unfolding row_lines
 lines-filled model names g [] = refl
@@ -315,16 +343,12 @@ module _ (model names : List ℕ) (g : ℕ) (rows : List Row) where
     group-none e h = between_none _ _ (row_lines model names g rows) (lines-filled model names g rows ∙ e) h
 
     pub group-put : {o₁ o₂ o₃ : Output} → filled rows ≡ true
-        → Put o (tag (group_name g) ++ 10 ∷ []) o₁ → Put o₁ (ended (row_lines model names g rows)) o₂
-        → Put o₂ (end_tag (group_name g) ++ 10 ∷ []) o₃ → Put o (ended (group_lines model names g rows)) o₃
+        → Put o (60 ∷ (group_name g ++ 62 ∷ 10 ∷ [])) o₁ → Put o₁ (ended (row_lines model names g rows)) o₂
+        → Put o₂ (60 ∷ 47 ∷ (group_name g ++ 62 ∷ 10 ∷ [])) o₃ → Put o (ended (group_lines model names g rows)) o₃
     unfolding group_lines
     group-put e a b d =
-        between_put _ _ (row_lines model names g rows) (lines-filled model names g rows ∙ e) a b d
-
-pub third_group : (g : ℕ) → (g ≡ 0 → ⊥) → (g ≡ 1 → ⊥) → group_name g ≡ bytes "Condition"
-third_group zero h k = absurd (h refl)
-third_group (suc zero) h k = absurd (k refl)
-third_group (suc (suc g)) h k = refl
+        between_put _ _ (row_lines model names g rows) (lines-filled model names g rows ∙ e)
+        (rw (tag-line (group_name g)) a) b (rw (tag-line (47 ∷ group_name g)) d)
 
 -- the three of them
 module _ (f : ℕ → List (List ℕ)) where
@@ -338,11 +362,10 @@ module _ (f : ℕ → List (List ℕ)) where
   three-put a b d =
       rw (three, ended-append (f 0) (f 1 ++ f 2), ended-append (f 1) (f 2)) (put-append a (put-append b d))
 
--- a component has lines where it has marks
-pub component-filled : (model names : List ℕ) (rows : List Row) (present : List ℕ) → Marked model rows present
-    → (c : ℕ) → c < max_components
-    → filled (each (λ g. group_lines model names g (kept model c g rows)) groups 0) ≡ any_marked present c
-component-filled model names rows present m c h =
+-- a component has lines where it has rows
+pub component-filled : (model names : List ℕ) (rows : List Row) (c : ℕ)
+    → filled (each (λ g. group_lines model names g (kept model c g rows)) groups 0) ≡ any_kept model c rows
+component-filled model names rows c =
     let f : ℕ → List (List ℕ) = λ g. group_lines model names g (kept model c g rows) in
     rw (
       three f,
@@ -351,7 +374,4 @@ component-filled model names rows present m c h =
       group-filled model names 0 (kept model c 0 rows),
       group-filled model names 1 (kept model c 1 rows),
       group-filled model names 2 (kept model c 2 rows),
-      mark-says model rows present m c 0 h (omega arith),
-      mark-says model rows present m c 1 h (omega arith),
-      mark-says model rows present m c 2 h (omega arith),
     )

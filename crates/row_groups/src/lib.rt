@@ -1,75 +1,56 @@
 // A component's rows in a document, group by group.
 #![tactic(auto)]
 
-ghost use Rattle.std.specs.Prelude.{[], ◌∷◌, ◌++◌, ◌≡◌, ◌+◌, ◌*◌, ◌<◌, ◌≤◌, length, get_or};
-ghost use Rattle.spec.specs.Model.{name_bytes, name_text, max_components};
+ghost use Rattle.std.specs.Prelude.{true, false, [], ◌∷◌, ◌++◌, ◌≡◌, ◌+◌, ◌*◌, ◌<◌, ◌≤◌, length, get_or, MatchResult};
+ghost use Rattle.spec.specs.declared.Refusal.TheVariants.{Store as Refused};
+ghost use Rattle.spec.specs.Model.{Checked, name_bytes, name_text, max_components};
 ghost use Rattle.spec.specs.Reply.{rows_of};
-ghost use Rattle.streams.specs.Streams.{row_in, each, groups, tag, end_tag, group_name, group_lines, ended};
+ghost use Rattle.streams.specs.Groups.{group_number};
+ghost use Rattle.streams.specs.Streams.{row_in, reply_ok, each, groups, group_name, group_lines, ended};
 ghost use Rattle.writer.specs.Puts.{Put};
-ghost use Rattle.row_groups.specs.Groups.{reply_rows, kept, kept_text, marks, mark_at, marked, any_marked, Marked};
-ghost use Rattle.row_groups.specs.Groups.{Documented, Placed};
+ghost use Rattle.row_groups.specs.Groups.{reply_rows, kept, kept_text, filled, any_kept, marks, mark_at};
+ghost use Rattle.row_groups.specs.Groups.{Marked, Placed};
 
 use model::Words;
-use reply_rows::{group_of, row_at, rows};
+use reply_rows::{Reply, group_of};
 use row_text::put_row;
-use streams::{CONDITION, EVENTS, GROUPS, SAMPLES};
+use spec::Refusal;
+use std::marker::Model;
+use streams::{GROUPS, Group};
 use writer::Output;
 
 // A mark for each group of each component.
-pub const MARKS: usize = (GROUPS * spec::MAX_COMPONENTS) as usize;
+const MARKS: usize = (GROUPS * spec::MAX_COMPONENTS) as usize;
 
 // ---- which groups have rows
 
 // Where the mark of component c's group g stands.
-fn mark_at(c: u64, g: u64) -> usize
-    requires { (c < max_components) × (g < groups) }
-    ensures { (result ≡ mark_at c g) × (result < marks) }
+fn mark_at(c: u64, g: Group) -> usize
+    requires { c < max_components }
+    ensures { (result ≡ mark_at c (group_number g)) × (result < marks) }
 {
-    (GROUPS * c + g) as usize
+    (GROUPS * c + g as u64) as usize
 }
 
-// The marks of the groups that have rows: 1, and 0 of the others.
-pub fn groups_present(model: &Words<'_>, reply: &[u64]) -> [u8; MARKS]
+// Whether each group of each component has rows.
+fn groups_present(model: &Words<'_>, reply: &Reply<'_>) -> [bool; MARKS]
     requires { Placed model.now reply.now }
     ensures { Marked model.now (reply_rows reply.now) result }
 {
-    let mut present: [u8; MARKS] = [0; MARKS];
-    for i in 0..rows(reply) {
-        let item = value::item_of(row_at(reply, i).packed);
+    let mut present = [false; MARKS];
+    for i in 0..reply.rows() {
+        let item = value::item_of(reply.row_at(i).packed);
         let word = model.item_word(item);
         let at = mark_at(
             model::component_of(word),
             group_of(model::category_of(word)),
         );
-        present[at] = 1;
+        present[at] = true;
     }
     present
 }
 
-// Whether component c's group g has rows.
-fn is_marked(present: &[u8; MARKS], c: u64, g: u64) -> bool
-    requires { (c < max_components) × (g < groups) }
-    ensures { result ≡ marked present.now c g }
-{
-    let at = mark_at(c, g);
-    present[at] != 0
-}
-
-// Whether component c has rows.
-pub fn has_rows(present: &[u8; MARKS], c: u64) -> bool
-    requires { c < max_components }
-    ensures { result ≡ any_marked present.now c }
-{
-    if is_marked(present, c, SAMPLES) {
-        return true;
-    }
-    if is_marked(present, c, EVENTS) {
-        return true;
-    }
-    is_marked(present, c, CONDITION)
-}
-
-// ---- a row
+// ---- names and tags
 
 // The bytes of name k.
 pub fn name_text<'a>(names: &'a [u8], k: u64) -> &'a [u8]
@@ -82,119 +63,148 @@ pub fn name_text<'a>(names: &'a [u8], k: u64) -> &'a [u8]
     &names[at..stop]
 }
 
-// Row i's line, if its item is of component c and group g.
-fn put_if(
-    model: &Words<'_>,
-    names: &[u8],
-    reply: &[u64],
-    i: usize,
-    c: u64,
-    g: u64,
-    out: &mut Output,
-)
-    requires documented { Documented model.now names.now reply.now }
-    requires i_bound { i < get_or reply.now 0 0 }
-    ensures { Put out.old
-        (kept_text model.now names.now c g
-        (row_in (get_or (rows_of reply.now) i []) ∷ []))
-        out.new }
+// A group's name.
+fn put_name(g: Group, out: &mut Output)
+    ensures { Put out.old (group_name (group_number g)) out.new }
 {
-    let row = row_at(reply, i);
-    let item = model.item_word(value::item_of(row.packed));
-    if model::component_of(item) != c {
-        return;
-    }
-    if group_of(model::category_of(item)) != g {
-        return;
-    }
-    let t = name_text(names, model::item_name(item));
-    put_row(out, g, t, &row);
-}
-
-// The lines of the rows of component c and group g, in reply order.
-fn put_rows(model: &Words<'_>, names: &[u8], reply: &[u64], c: u64, g: u64, out: &mut Output)
-    requires { Documented model.now names.now reply.now }
-    ensures { Put out.old
-        (kept_text model.now names.now c g (reply_rows reply.now))
-        out.new }
-{
-    for i in 0..rows(reply) {
-        put_if(model, names, reply, i, c, g, out);
+    match g {
+        Group::Samples => out.put_bytes(b"Samples"),
+        Group::Events => out.put_bytes(b"Events"),
+        Group::Condition => out.put_bytes(b"Condition"),
     }
 }
 
-// ---- a group
-
-fn put_start(out: &mut Output, g: u64)
-    ensures { Put out.old (tag (group_name g) ++ 10 ∷ []) out.new }
+// The line of a group's tag, which opens with `before`.
+fn put_tag(before: &[u8], g: Group, out: &mut Output)
+    ensures { Put out.old (before.now ++ (group_name (group_number g) ++ 62 ∷ 10 ∷ [])) out.new }
 {
-    if g == SAMPLES {
-        return out.put_bytes(b"<Samples>\n");
-    }
-    if g == EVENTS {
-        return out.put_bytes(b"<Events>\n");
-    }
-    out.put_bytes(b"<Condition>\n");
+    out.put_bytes(before);
+    put_name(g, out);
+    out.put_bytes(b">\n");
 }
 
-fn put_end(out: &mut Output, g: u64)
-    ensures { Put out.old (end_tag (group_name g) ++ 10 ∷ []) out.new }
-{
-    if g == SAMPLES {
-        return out.put_bytes(b"</Samples>\n");
-    }
-    if g == EVENTS {
-        return out.put_bytes(b"</Events>\n");
-    }
-    out.put_bytes(b"</Condition>\n");
+// ---- a document
+
+// What a document is made of: a checked model with its names, a reply that has only its rows, and the marks of these.
+// A clause sees the words and bytes.
+#[derive(Drop)]
+pub struct Document<'a> {
+    pub model: Words<'a>,
+    pub names: &'a [u8],
+    pub reply: Reply<'a>,
+    present: [bool; MARKS],
 }
 
-// Component c's group g; nothing where it has no rows.
-fn put_group(
-    model: &Words<'_>,
-    names: &[u8],
-    reply: &[u64],
-    present: &[u8; MARKS],
-    c: u64,
-    g: u64,
-    out: &mut Output,
-)
-    requires documented { Documented model.now names.now reply.now }
-    requires marked { Marked model.now (reply_rows reply.now) present.now }
-    requires c_lt_max_components { (c < max_components) × (g < groups) }
-    ensures { Put out.old
-        (ended (group_lines model.now names.now g
-        (kept model.now c g (reply_rows reply.now))))
-        out.new }
-{
-    if !is_marked(present, c, g) {
-        return;
-    }
-    put_start(out, g);
-    put_rows(model, names, reply, c, g, out);
-    put_end(out, g);
+impl<'a> Model for Document<'a> {
+    ghost use Rattle.row_groups.specs.Groups.{Source, Ready};
+
+    ghost Value = { Source };
+
+    ghost view = { λ d. record { model = d.model; names = d.names.now; reply = d.reply } };
+
+    ghost invariant = { λ d. Ready d.model d.names.now d.reply d.present };
 }
 
-// Component c's groups that have rows.
-pub fn put_groups(
-    model: &Words<'_>,
-    names: &[u8],
-    reply: &[u64],
-    present: &[u8; MARKS],
-    c: u64,
-    out: &mut Output,
-)
-    requires documented { Documented model.now names.now reply.now }
-    requires marked { Marked model.now (reply_rows reply.now) present.now }
-    requires c_lt_max_components { c < max_components }
-    ensures { Put out.old
-        (ended (each
-        (λ g. group_lines model.now names.now g
-        (kept model.now c g (reply_rows reply.now)))
-        groups 0))
-        out.new }
-{
-    put_group(model, names, reply, present, c, SAMPLES, out);
-    put_group(model, names, reply, present, c, EVENTS, out);
-    put_group(model, names, reply, present, c, CONDITION, out);
+impl<'a> Document<'a> {
+    // What the document of a reply is made of, or refusal 2.
+    pub fn checked(
+        model: Words<'a>,
+        names: &'a [u8],
+        reply: &'a [u64],
+    ) -> Result<Document<'a>, Refusal>
+        requires { Checked model names.now }
+        ensures { MatchResult result
+            (λ d. (d ≡ record { model = model.entry; names = names.entry.now; reply = reply.entry.now })
+            × (reply_ok model.entry reply.entry.now ≡ true))
+            (λ r. (r ≡ Refused) × (reply_ok model.entry reply.entry.now ≡ false)) }
+    {
+        let reply = reply_rows::checked(&model, reply)?;
+        let present = groups_present(&model, &reply);
+        Ok(Document {
+            model,
+            names,
+            reply,
+            present,
+        })
+    }
+
+    // Whether component c's group g has rows.
+    fn is_marked(&self, c: u64, g: Group) -> bool
+        requires { c < max_components }
+        ensures { result ≡ filled (kept self.now.model c (group_number g) (reply_rows self.now.reply)) }
+    {
+        self.present[mark_at(c, g)]
+    }
+
+    // Whether component c has rows.
+    pub fn has_rows(&self, c: u64) -> bool
+        requires { c < max_components }
+        ensures { result ≡ any_kept self.now.model c (reply_rows self.now.reply) }
+    {
+        self.is_marked(c, Group::Samples)
+            || self.is_marked(c, Group::Events)
+            || self.is_marked(c, Group::Condition)
+    }
+
+    // Row i's line, if its item is of component c and group g.
+    fn put_if(&self, i: usize, c: u64, g: Group, out: &mut Output)
+        requires { i < get_or self.now.reply 0 0 }
+        ensures { Put out.old
+            (kept_text self.now.model self.now.names c (group_number g)
+            (row_in (get_or (rows_of self.now.reply) i []) ∷ []))
+            out.new }
+    {
+        let row = self.reply.row_at(i);
+        let item = self.model.item_word(value::item_of(row.packed));
+        if model::component_of(item) != c {
+            return;
+        }
+        if group_of(model::category_of(item)) != g {
+            return;
+        }
+        let t = name_text(self.names, model::item_name(item));
+        put_row(out, g, t, &row);
+    }
+
+    // The lines of the rows of component c and group g, in reply order.
+    fn put_rows(&self, c: u64, g: Group, out: &mut Output)
+        ensures { Put out.old
+            (kept_text self.now.model self.now.names c (group_number g) (reply_rows self.now.reply))
+            out.new }
+    {
+        for i in 0..self.reply.rows() {
+            self.put_if(i, c, g, out);
+        }
+    }
+
+    // Component c's group g; nothing where it has no rows.
+    fn put_group(&self, c: u64, g: Group, out: &mut Output)
+        requires { c < max_components }
+        ensures { Put out.old
+            (ended (group_lines self.now.model self.now.names (group_number g)
+            (kept self.now.model c (group_number g) (reply_rows self.now.reply))))
+            out.new }
+    {
+        if !self.is_marked(c, g) {
+            return;
+        }
+        put_tag(b"<", g, out);
+        self.put_rows(c, g, out);
+        put_tag(b"</", g, out);
+    }
+
+    // Component c's groups that have rows.
+    pub fn put_groups(&self, c: u64, out: &mut Output)
+        requires { c < max_components }
+        ensures { Put out.old
+            (ended (each
+            (λ g. group_lines self.now.model self.now.names g
+            (kept self.now.model c g (reply_rows self.now.reply)))
+            groups 0))
+            out.new }
+    {
+        self.put_group(c, Group::Samples, out);
+        self.put_group(c, Group::Events, out);
+        self.put_group(c, Group::Condition, out);
+    }
 }

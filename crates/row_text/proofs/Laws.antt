@@ -1,11 +1,10 @@
 -- A row's line by the texts that stand one behind the other in it.
-use Prim.Native.Nat.{ℕ, zero, suc, ◌≤◌, ◌<◌}
-use mathlib.Core.Path.{◌≡◌, refl}
+use Prim.Native.Nat.{ℕ}
+use mathlib.Core.Path.{◌≡◌}
 use mathlib.Core.List.{List, [], ◌∷◌, ◌++◌, append_assoc}
-use native.Mathlib.Omega.{arith}
 use Rattle.lines.specs.Lines.{value_text}
-use Rattle.streams.specs.Streams.{Row, element_name, row_attributes, text_line, state_name, native_code, attribute}
-use Rattle.streams.specs.Streams.{condition_line, row_line}
+use Rattle.streams.specs.Streams.{Row, row_attributes, text_line, state_name, native_code, attribute}
+use Rattle.streams.specs.Streams.{condition_line}
 use Rattle.spec.specs.Bytes.{bytes}
 use Rattle.writer.specs.Puts.{Put}
 use Rattle.writer.specs.declared.Output.{Output}
@@ -37,13 +36,3 @@ module _ {a e : Output} (t : List ℕ) (r : Row) (v : Value) (q : v ≡ r.value)
   condition-put h =
       let a = attribute (bytes "type") t in
       rw (condition-shape (state_name r.value) (row_attributes r) a (native_code r.value)) (rw q at h)
-
-pub row-text : (g : ℕ) (t : List ℕ) (r : Row) → g < 2 → row_line g t r ≡ text_line (element_name t) r
-row-text zero t r h = refl
-row-text (suc zero) t r h = refl
-row-text (suc (suc g)) t r h = absurd (omega arith)
-
-pub row-condition : (g : ℕ) (t : List ℕ) (r : Row) → 2 ≤ g → row_line g t r ≡ condition_line t r
-row-condition zero t r h = absurd (omega arith)
-row-condition (suc zero) t r h = absurd (omega arith)
-row-condition (suc (suc g)) t r h = refl

@@ -4,12 +4,14 @@
 ghost use Rattle.std.specs.Prelude.{[], ◌∷◌, ◌++◌};
 ghost use Rattle.streams.specs.Streams.{row_of, element_name, row_attributes, text_line, state_name, native_code};
 ghost use Rattle.streams.specs.Streams.{condition_line, row_line};
+ghost use Rattle.streams.specs.Groups.{group_number};
 ghost use Rattle.writer.specs.Puts.{Put};
 
 use attributes::{put_number, put_text, put_time};
 use element::put_element;
 use figures::put_value;
 use spec::{Level, Row, Value};
+use streams::Group;
 use value::{decode, item_of};
 use writer::Output;
 
@@ -76,13 +78,13 @@ fn put_condition_row(out: &mut Output, t: &[u8], row: &Row)
 }
 
 // The line of a row of group g, of an item of type t.
-pub fn put_row(out: &mut Output, g: u64, t: &[u8], row: &Row)
+pub fn put_row(out: &mut Output, g: Group, t: &[u8], row: &Row)
     ensures { Put out.old
-        (row_line g t.now (row_of row.now.number row.now.time row.now.packed) ++ 10 ∷ [])
+        (row_line (group_number g) t.now (row_of row.now.number row.now.time row.now.packed) ++ 10 ∷ [])
         out.new }
 {
-    if g < 2 {
-        return put_text_row(out, t, row);
+    match g {
+        Group::Samples | Group::Events => put_text_row(out, t, row),
+        Group::Condition => put_condition_row(out, t, row),
     }
-    put_condition_row(out, t, row);
 }

@@ -5,6 +5,8 @@
 ghost use Rattle.spec.specs.Reply.{Gives};
 ghost use Rattle.streams.specs.Streams.{streams};
 
+use document::Header;
+use row_groups::Document;
 use spec::{Answer, Refusal};
 
 // The document of a reply: how many bytes it has, or the refusal.
@@ -21,12 +23,15 @@ pub fn streams(
         (streams model.now names.now reply.now n instance_id creation_time
         text.old) }
 {
-    let words = model::checked(model, names)?.words;
-    if !reply_rows::reply_ok(&words, reply) {
-        return Err(Refusal::Store);
-    }
-    if !reply_rows::times_ok(creation_time, reply) {
+    let words = model::checked(model, names)?;
+    let made = Document::checked(words, names, reply)?;
+    if !reply_rows::times_ok(creation_time, &made.reply) {
         return Err(Refusal::Stamp);
     }
-    document::write_document(&words, names, reply, n, instance_id, creation_time, text)
+    let header = Header {
+        buffer_size: n,
+        instance: instance_id,
+        creation: creation_time,
+    };
+    document::write_document(&made, &header, text)
 }

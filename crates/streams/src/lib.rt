@@ -1,11 +1,13 @@
 // The terms of streams documents. What they mean stands in specs/.
 #![tactic(auto)]
 
-// The groups of a component's rows, and how many there are.
-pub const SAMPLES: u64 = 0;
+// The groups of a component's rows, in the order in which they stand in it.
+#[derive(Clone, Copy, PartialEq, Eq)]
+pub enum Group {
+    Samples,
+    Events,
+    Condition,
+}
 
-pub const EVENTS: u64 = 1;
-
-pub const CONDITION: u64 = 2;
-
+// How many groups there are.
 pub const GROUPS: u64 = 3;

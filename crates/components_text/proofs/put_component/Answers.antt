@@ -1,28 +1,24 @@
--- Nothing without a mark; with one the start, the groups, the end.
+-- Nothing without rows; with some the start, the groups, the end.
 use native.Mathlib.Omega.{arith}
 use Rattle.row_groups.specs.Groups.{reply_rows}
 use Rattle.components_text.proofs.Laws.{component-none, component-put}
 use Rattle.components_text.proofs.put_component.Goals as goal
 
+pub has_rows-requires : goal.has_rows-requires
+has_rows-requires c =
+    omega (arith, c.d.invariant.documented.checked.sizes.c_max, rw (← c.d.view_is) at c.requires)
+
 pub returns-then-not-has_rows : goal.returns-then-not-has_rows
 returns-then-not-has_rows c =
-    let a = c.args in
-    component-none a.model.now a.names.now (reply_rows a.reply.now) a.present.now c.requires.marked a.c
-    (omega (arith, c.requires.documented.checked.sizes.c_max)) c.has_rows.ensures c.if-not-has_rows.true
-    (omega arith)
+    let d = c.args.d.now in
+    component-none d.model d.names (reply_rows d.reply) c.args.c c.has_rows.ensures c.if-not-has_rows.true (omega arith)
 
 pub put_groups-requires : goal.put_groups-requires
 put_groups-requires c =
-    record {
-      documented = c.requires.documented;
-      marked = c.requires.marked;
-      c_lt_max_components = omega (arith, c.requires.documented.checked.sizes.c_max);
-    }
+    omega (arith, c.d.invariant.documented.checked.sizes.c_max, rw (← c.d.view_is) at c.requires)
 
 pub returns : goal.returns
 returns c =
-    let a = c.args in
-    component-put a.model.now a.names.now (reply_rows a.reply.now) a.present.now c.requires.marked a.c
-    (omega (arith, c.requires.documented.checked.sizes.c_max)) c.has_rows.ensures
-    c.if-not-has_rows.false c.put_start.ensures c.put_groups.ensures
-    c.put_bytes.ensures
+    let d = c.args.d.now in
+    component-put d.model d.names (reply_rows d.reply) c.args.c c.has_rows.ensures c.if-not-has_rows.false
+    c.put_start.ensures c.put_groups.ensures c.put_bytes.ensures

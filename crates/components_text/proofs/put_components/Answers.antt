@@ -6,26 +6,22 @@ use Rattle.components_text.proofs.put_components.Goals as goal
 
 pub loop-c-init : goal.loop-c-init
 loop-c-init c =
-    let a = c.args in
-    components-none a.model.now a.names.now (reply_rows a.reply.now) (omega arith)
+    let d = c.args.d.now in
+    components-none d.model d.names (reply_rows d.reply) (omega arith)
 
 pub put_component-requires : goal.put_component-requires
 put_component-requires c =
-    record {
-      documented = c.requires.documented;
-      marked = c.requires.marked;
-      c_bound = omega (arith, c.components-c-end.ensures.0);
-    }
+    rw (← c.d.view_is) (omega (arith, c.components-c-end.ensures.0))
 
 pub loop-c-preserved : goal.loop-c-preserved
 loop-c-preserved c =
     let q = c.loop-c in
-    let a = c.args in
+    let d = c.args.d.now in
     rw (add-one q.c)
-    (components-more a.model.now a.names.now (reply_rows a.reply.now) q.c q.invariant c.put_component.ensures)
+    (components-more d.model d.names (reply_rows d.reply) q.c q.invariant c.put_component.ensures)
 
 pub returns : goal.returns
 returns c =
-    let a = c.args in
-    components-all a.model.now a.names.now (reply_rows a.reply.now) c.loop-c.c
-    (omega (arith, c.components-c-end.ensures.0)) c.loop-c.invariant
+    let d = c.args.d.now in
+    components-all d.model d.names (reply_rows d.reply) c.loop-c.c
+    (rw (← c.d.view_is) (omega (arith, c.components-c-end.ensures.0))) c.loop-c.invariant

@@ -6,4 +6,5 @@ use Rattle.components_text.proofs.Laws.{first_lines}
 use Rattle.components_text.proofs.put_components.Given as goal
 
 abbrev pub invariant-loop-c : goal.invariant-loop-c
-invariant-loop-c l = Put l.initial.out (ended (first_lines l.model l.names (reply_rows l.reply) l.c)) l.out
+invariant-loop-c l =
+    Put l.initial.out (ended (first_lines l.d.model l.d.names (reply_rows l.d.reply) l.c)) l.out

@@ -6,4 +6,4 @@ use Rattle.document.proofs.write_document.Given as goal
 abbrev pub ghost-write_whole : goal.ghost-write_whole
 ghost-write_whole a =
     let k = closure.captures a.put in
-    document k.model.now k.names.now k.reply.now k.n k.instance k.creation
+    document k.d.now.model k.d.now.names k.d.now.reply k.h.now.buffer_size k.h.now.instance k.h.now.creation

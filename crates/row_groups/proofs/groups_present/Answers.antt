@@ -2,18 +2,11 @@ use mathlib.Core.Path.{ap, ◌∙◌}
 use native.Mathlib.Numerals.{add-one}
 use native.Mathlib.Omega.{arith}
 use Rattle.streams.specs.Streams.{group_of}
-use Rattle.row_groups.proofs.Laws.{words-ok, own-item, own-word, component-small, marked-none, marking-more}
-use Rattle.row_groups.proofs.Laws.{marking-all}
+use Rattle.row_groups.proofs.Laws.{own-item, own-word, component-small, marked-none, marking-more, marking-all}
 use Rattle.row_groups.proofs.groups_present.Goals as goal
-
-pub rows-i-end-requires : goal.rows-i-end-requires
-rows-i-end-requires c = words-ok _ _ c.requires.accepted
 
 pub loop-i-init : goal.loop-i-init
 loop-i-init c = marked-none _
-
-pub row_at-requires : goal.row_at-requires
-row_at-requires c = (words-ok _ _ c.requires.accepted, omega (arith, c.rows-i-end.ensures.0))
 
 -- the row's item is one of the model's
 pub item_word-word-requires : goal.item_word-word-requires
@@ -26,10 +19,8 @@ pub mark_at-at-requires : goal.mark_at-at-requires
 mark_at-at-requires c =
     let a = c.args in
     let there = own-item a.model.now a.reply.now c.loop-i.i c.row_at.ensures.packed c.item_of-item.ensures
-    c.requires.accepted (omega (arith, c.rows-i-end.ensures.0)) in (
-      component-small _ _ c.requires _ _ _ there c.item_word-word.ensures c.component_of.ensures,
-      c.group_of.ensures.1,
-    )
+    c.requires.accepted (omega (arith, c.rows-i-end.ensures.0)) in
+    component-small _ _ c.requires _ _ _ there c.item_word-word.ensures c.component_of.ensures
 
 pub loop-i-preserved : goal.loop-i-preserved
 loop-i-preserved c =
@@ -40,9 +31,8 @@ loop-i-preserved c =
     (marking-more a.model.now a.reply.now q.i (omega (arith, c.rows-i-end.ensures.0)) q.invariant _ _ _ _
     (own-word a.model.now a.reply.now q.i c.row_at.ensures.packed c.item_of-item.ensures c.item_word-word.ensures)
     c.component_of.ensures
-    (c.group_of.ensures.0 ∙ ap group_of c.category_of.ensures)
+    (c.group_of.ensures ∙ ap group_of c.category_of.ensures)
     (component-small _ _ c.requires _ _ _ there c.item_word-word.ensures c.component_of.ensures)
-    c.group_of.ensures.1
     c.mark_at-at.ensures.0)
 
 pub returns : goal.returns

@@ -1,0 +1,8 @@
+-- A reply that passes the test has the words that it needs.
+use Rattle.spec.proofs.Words.{told}
+use Rattle.reply_rows.proofs.Laws.{reply-words}
+use Rattle.reply_rows.proofs.checked.Goals as goal
+
+pub invariant_of-result : goal.invariant_of-result
+invariant_of-result c =
+    reply-words _ _ (told c.reply_ok.ensures c.if-not-reply_ok.false)
