@@ -154,8 +154,8 @@ impl<'a> Document<'a> {
             (row_in (get_or (rows_of self.now.reply) i []) ∷ []))
             out.new }
     {
-        let row = self.reply.row_at(i);
-        let item = self.model.item_word(value::item_of(row.packed));
+        let packed = self.reply.row_at(i).packed;
+        let item = self.model.item_word(value::item_of(packed));
         if model::component_of(item) != c {
             return;
         }
@@ -163,7 +163,8 @@ impl<'a> Document<'a> {
             return;
         }
         let t = name_text(self.names, model::item_name(item));
-        put_row(out, g, t, &row);
+        // read again, so that a row that isn't written costs its packed word alone
+        put_row(out, g, t, &self.reply.row_at(i));
     }
 
     // The lines of the rows of component c and group g, in reply order.

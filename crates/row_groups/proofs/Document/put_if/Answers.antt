@@ -7,14 +7,17 @@ use Rattle.row_groups.proofs.Laws.{number-same, number-other, own-item, own-word
 use Rattle.row_groups.proofs.Laws.{line-put}
 use Rattle.row_groups.proofs.Document.put_if.Goals as goal
 
-pub row_at-row-requires : goal.row_at-row-requires
-row_at-row-requires c = rw (← c.self.view_is) at c.requires
+pub row_at-packed-requires : goal.row_at-packed-requires
+row_at-packed-requires c = rw (← c.self.view_is) at c.requires
+
+pub row_at-requires : goal.row_at-requires
+row_at-requires c = rw (← c.self.view_is) at c.requires
 
 -- the row's item is one of the model's
 pub item_word-item-requires : goal.item_word-item-requires
 item_word-item-requires c =
     let d = c.self.inside in
-    own-item d.model d.reply c.args.i c.row_at-row.ensures.packed c.item_of.ensures
+    own-item d.model d.reply c.args.i c.row_at-packed.ensures.packed c.item_of.ensures
     c.self.invariant.documented.accepted (rw (← c.self.view_is) at c.requires)
 
 pub returns-then-component_of-c : goal.returns-then-component_of-c
@@ -22,7 +25,7 @@ returns-then-component_of-c c =
     let d = c.self.inside in
     rw (← c.self.view_is)
     (line-not-component d.model d.names.now c.args.c _ (row_at d.reply c.args.i)
-    (own-word d.model d.reply c.args.i c.row_at-row.ensures.packed c.item_of.ensures c.item_word-item.ensures)
+    (own-word d.model d.reply c.args.i c.row_at-packed.ensures.packed c.item_of.ensures c.item_word-item.ensures)
     (λ q. c.if-component_of-c.true (c.component_of.ensures ∙ q)) (omega arith))
 
 pub returns-then-ne : goal.returns-then-ne
@@ -31,14 +34,14 @@ returns-then-ne c =
     let group = c.group_of.ensures ∙ ap group_of c.category_of.ensures in
     rw (← c.self.view_is)
     (line-not-group d.model d.names.now c.args.c _ (row_at d.reply c.args.i)
-    (own-word d.model d.reply c.args.i c.row_at-row.ensures.packed c.item_of.ensures c.item_word-item.ensures)
+    (own-word d.model d.reply c.args.i c.row_at-packed.ensures.packed c.item_of.ensures c.item_word-item.ensures)
     (sym c.component_of.ensures ∙ c.if-component_of-c.false)
     (λ q. number-other _ _ c.ne.ensures c.if-ne.true (group ∙ q)) (omega arith))
 
 pub name_text-t-requires : goal.name_text-t-requires
 name_text-t-requires c =
     let d = c.self.inside in
-    let there = own-item d.model d.reply c.args.i c.row_at-row.ensures.packed c.item_of.ensures
+    let there = own-item d.model d.reply c.args.i c.row_at-packed.ensures.packed c.item_of.ensures
     c.self.invariant.documented.accepted (rw (← c.self.view_is) at c.requires) in
     rw c.item_name.ensures
     (item_room d.model d.names.now c.self.invariant.documented.checked c.item_of.result _ there
@@ -50,8 +53,8 @@ returns c =
     let group = c.group_of.ensures ∙ ap group_of c.category_of.ensures in
     rw (← c.self.view_is)
     (line-put d.model d.names.now c.args.c _ (row_at d.reply c.args.i)
-    (own-word d.model d.reply c.args.i c.row_at-row.ensures.packed c.item_of.ensures c.item_word-item.ensures)
+    (own-word d.model d.reply c.args.i c.row_at-packed.ensures.packed c.item_of.ensures c.item_word-item.ensures)
     (sym c.component_of.ensures ∙ c.if-component_of-c.false)
     (sym group ∙ number-same _ _ c.ne.ensures c.if-ne.false) _ _ _ _ _
-    c.name_text-t.ensures c.item_name.ensures c.row_at-row.ensures.number
-    c.row_at-row.ensures.time c.row_at-row.ensures.packed c.put_row.ensures)
+    c.name_text-t.ensures c.item_name.ensures c.row_at.ensures.number
+    c.row_at.ensures.time c.row_at.ensures.packed c.put_row.ensures)
