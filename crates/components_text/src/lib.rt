@@ -16,7 +16,10 @@ use writer::Output;
 pub fn put_device(d: &Document<'_>, out: &mut Output)
     ensures { Put out.old (tag (device_tag d.now.model d.now.names) ++ 10 ∷ []) out.new }
 {
-    let t = name_text(d.names, model::component_name(d.model.component_word(0)));
+    let t = name_text(
+        d.model.names,
+        model::component_name(d.model.words.component_word(0)),
+    );
     put_text(out, b"<DeviceStream name=\"", t);
     put_text(out, b" uuid=\"", t);
     out.put_bytes(b">\n");
@@ -27,7 +30,10 @@ fn put_start(d: &Document<'_>, c: u64, out: &mut Output)
     requires { c < components d.now.model }
     ensures { Put out.old (tag (component_tag d.now.model d.now.names c) ++ 10 ∷ []) out.new }
 {
-    let t = name_text(d.names, model::component_name(d.model.component_word(c)));
+    let t = name_text(
+        d.model.names,
+        model::component_name(d.model.words.component_word(c)),
+    );
     put_text(out, b"<ComponentStream component=\"", t);
     put_text(out, b" name=\"", t);
     put_number(out, b" componentId=\"c", c);
@@ -43,7 +49,7 @@ fn put_component(d: &Document<'_>, c: u64, out: &mut Output)
         out.new }
 {
     // its sizes bound c
-    let _model = &d.model;
+    let _words = &d.model.words;
     if !d.has_rows(c) {
         return;
     }
@@ -58,7 +64,7 @@ pub fn put_components(d: &Document<'_>, out: &mut Output)
         (ended (components_lines d.now.model d.now.names (reply_rows d.now.reply)))
         out.new }
 {
-    for c in 0..d.model.components() {
+    for c in 0..d.model.words.components() {
         put_component(d, c, out);
     }
 }

@@ -3,7 +3,7 @@
 
 ghost use Rattle.std.specs.Prelude.{true, false, [], ◌∷◌, ◌++◌, ◌≡◌, ◌+◌, ◌*◌, ◌<◌, ◌≤◌, length, get_or, MatchResult};
 ghost use Rattle.spec.specs.declared.Refusal.TheVariants.{Store as Refused};
-ghost use Rattle.spec.specs.Model.{Checked, name_bytes, name_text, max_components};
+ghost use Rattle.spec.specs.Model.{name_bytes, name_text, max_components};
 ghost use Rattle.spec.specs.Reply.{rows_of};
 ghost use Rattle.streams.specs.Groups.{group_number};
 ghost use Rattle.streams.specs.Streams.{row_in, reply_ok, each, groups, group_name, group_lines, ended};
@@ -11,7 +11,7 @@ ghost use Rattle.writer.specs.Puts.{Put};
 ghost use Rattle.row_groups.specs.Groups.{reply_rows, kept, kept_text, filled, any_kept, marks, mark_at};
 ghost use Rattle.row_groups.specs.Groups.{Marked, Placed};
 
-use model::Words;
+use model::{Named, Words};
 use reply_rows::{Reply, group_of};
 use row_text::put_row;
 use spec::Refusal;
@@ -85,12 +85,11 @@ fn put_tag(before: &[u8], g: Group, out: &mut Output)
 
 // ---- a document
 
-// What a document is made of: a checked model with its names, a reply that has only its rows, and the marks of these.
+// What a document is made of: a model with its names, a reply that has only the model's rows, and the marks of these.
 // A clause sees the words and bytes.
 #[derive(Drop)]
 pub struct Document<'a> {
-    pub model: Words<'a>,
-    pub names: &'a [u8],
+    pub model: Named<'a>,
     pub reply: Reply<'a>,
     present: [bool; MARKS],
 }
@@ -100,29 +99,23 @@ impl<'a> Model for Document<'a> {
 
     ghost Value = { Source };
 
-    ghost view = { λ d. record { model = d.model; names = d.names.now; reply = d.reply } };
+    ghost view = { λ d. record { model = d.model.words; names = d.model.names.now; reply = d.reply } };
 
-    ghost invariant = { λ d. Ready d.model d.names.now d.reply d.present };
+    ghost invariant = { λ d. Ready d.model.words d.model.names.now d.reply d.present };
 }
 
 impl<'a> Document<'a> {
     // What the document of a reply is made of, or refusal 2.
-    pub fn checked(
-        model: Words<'a>,
-        names: &'a [u8],
-        reply: &'a [u64],
-    ) -> Result<Document<'a>, Refusal>
-        requires { Checked model names.now }
+    pub fn checked(model: Named<'a>, reply: &'a [u64]) -> Result<Document<'a>, Refusal>
         ensures { MatchResult result
-            (λ d. (d ≡ record { model = model.entry; names = names.entry.now; reply = reply.entry.now })
-            × (reply_ok model.entry reply.entry.now ≡ true))
-            (λ r. (r ≡ Refused) × (reply_ok model.entry reply.entry.now ≡ false)) }
+            (λ d. (d ≡ record { model = model.entry.words; names = model.entry.names.now; reply = reply.entry.now })
+            × (reply_ok model.entry.words reply.entry.now ≡ true))
+            (λ r. (r ≡ Refused) × (reply_ok model.entry.words reply.entry.now ≡ false)) }
     {
-        let reply = reply_rows::checked(&model, reply)?;
-        let present = groups_present(&model, &reply);
+        let reply = reply_rows::checked(&model.words, reply)?;
+        let present = groups_present(&model.words, &reply);
         Ok(Document {
             model,
-            names,
             reply,
             present,
         })
@@ -155,14 +148,14 @@ impl<'a> Document<'a> {
             out.new }
     {
         let packed = self.reply.row_at(i).packed;
-        let item = self.model.item_word(value::item_of(packed));
+        let item = self.model.words.item_word(value::item_of(packed));
         if model::component_of(item) != c {
             return;
         }
         if group_of(model::category_of(item)) != g {
             return;
         }
-        let t = name_text(self.names, model::item_name(item));
+        let t = name_text(self.model.names, model::item_name(item));
         // read again, so that a row that isn't written costs its packed word alone
         put_row(out, g, t, &self.reply.row_at(i));
     }

@@ -23,8 +23,8 @@ pub fn streams(
         (streams model.now names.now reply.now n instance_id creation_time
         text.old) }
 {
-    let words = model::checked(model, names)?;
-    let made = Document::checked(words, names, reply)?;
+    let named = model::checked(model, names)?;
+    let made = Document::checked(named, reply)?;
     if !reply_rows::times_ok(creation_time, &made.reply) {
         return Err(Refusal::Stamp);
     }

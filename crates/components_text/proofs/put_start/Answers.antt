@@ -8,14 +8,14 @@ component_word-requires c =
 
 pub name_text-t-requires : goal.name_text-t-requires
 name_text-t-requires c =
-    name-room c.d.inside.model c.d.inside.names.now c.d.invariant.documented.checked c.args.c _ _
+    name-room c.d.inside.model.words c.d.inside.model.names.now c.d.invariant.documented.checked c.args.c _ _
     (rw (← c.d.view_is) at c.requires) c.component_word.ensures c.component_name.ensures
 
 pub returns : goal.returns
 returns c =
     let d = c.d.inside in
     rw (← c.d.view_is)
-    (start-put d.model d.names.now _ c.args.c
-    (type-is d.model d.names.now c.args.c _ _ _ c.component_word.ensures
+    (start-put d.model.words d.model.names.now _ c.args.c
+    (type-is d.model.words d.model.names.now c.args.c _ _ _ c.component_word.ensures
     c.component_name.ensures c.name_text-t.ensures)
     c.put_text.ensures c.put_text-2.ensures c.put_number.ensures c.put_bytes.ensures)

@@ -9,6 +9,6 @@ write_whole-requires c κs within =
     let b = within.1 in
     let d = b.1 in
     let o = part b.0 (⊑_static _) in
-    let m = ⊑_meet _ _ _ within.0 (⊑_meet _ _ _ o (part b.0 (⊑_meet _ _ _ o (⊑_static _)))) in
+    let m = ⊑_meet _ _ _ within.0 (⊑_meet _ _ _ (⊑_meet _ _ _ o o) (⊑_meet _ _ _ o (⊑_static _))) in
     let all = ⊑_meet _ _ _ m (part d.0 (⊑_static _)) in
     (⊑_meet _ _ _ all all, (search rules, λ a b p. search rules))

@@ -1,43 +1,37 @@
 -- The tests decide, and behind them the document is written where there is room.
 use mathlib.Core.Path.{ap, ◌∙◌}
 use Rattle.std.proofs.lemmas.Result.{err_from_is_err_and}
-use Rattle.spec.proofs.Model.{checked}
 use Rattle.spec.proofs.Words.{told}
 use Rattle.streams.specs.Streams.{times_ok}
 use Rattle.row_groups.specs.Groups.{Source}
 use Rattle.streaming.proofs.Laws.{model-refused, reply-refused, times-refused, passed}
 use Rattle.streaming.proofs.streams.Goals as goal
 
-pub returns-in_err-words : goal.returns-in_err-words
-returns-in_err-words c =
+pub returns-in_err-named : goal.returns-in_err-named
+returns-in_err-named c =
     let p = err_from_is_err_and c.from_residual.result c.from_residual.ensures.1 in
-    let n = rw c.in_err-words.was at c.checked.ensures in
+    let n = rw c.in_err-named.was at c.checked.ensures in
     rw (p.1, p.2, n.0) (model-refused _ _ _ _ _ _ _ n.1)
-
-pub checked-requires-2 : goal.checked-requires-2
-checked-requires-2 c =
-    let n = rw c.in_ok-words.was at c.checked.ensures in
-    checked _ _ (rw (← n.0) at n.1)
 
 pub returns-in_err-made : goal.returns-in_err-made
 returns-in_err-made c =
     let p = err_from_is_err_and c.from_residual-in_err-made.result c.from_residual-in_err-made.ensures.1 in
-    let n = rw c.in_ok-words.was at c.checked.ensures in
+    let n = rw c.in_ok-named.was at c.checked.ensures in
     let d = rw c.in_err-made.was at c.checked-2.ensures in
-    rw (p.1, p.2, d.0) (reply-refused _ _ _ _ _ _ _ n.1 (rw n.0 at d.1))
+    rw (p.1, p.2, d.0) (reply-refused _ _ _ _ _ _ _ n.2 (rw n.0 at d.1))
 
 pub returns-then-not-times_ok : goal.returns-then-not-times_ok
 returns-then-not-times_ok c =
-    let n = rw c.in_ok-words.was at c.checked.ensures in
+    let n = rw c.in_ok-named.was at c.checked.ensures in
     let d = rw c.in_ok-made.was at c.checked-2.ensures in
     let t = c.times_ok.ensures ∙ ap (λ (s : Source). times_ok c.args.creation_time s.reply) (c.made.view_is ∙ d.0) in
-    times-refused _ _ _ _ _ _ _ n.1 (rw n.0 at d.1) (told t c.if-not-times_ok.true)
+    times-refused _ _ _ _ _ _ _ n.2 (rw n.0 at d.1) (told t c.if-not-times_ok.true)
 
 pub returns : goal.returns
 returns c =
-    let n = rw c.in_ok-words.was at c.checked.ensures in
+    let n = rw c.in_ok-named.was at c.checked.ensures in
     let d = rw c.in_ok-made.was at c.checked-2.ensures in
     let t = c.times_ok.ensures ∙ ap (λ (s : Source). times_ok c.args.creation_time s.reply) (c.made.view_is ∙ d.0) in
     let w = c.write_document.ensures in
-    passed _ _ _ _ _ _ _ n.1 (rw n.0 at d.1) (told t c.if-not-times_ok.false)
-    (rw (d.0, n.0) at w.text_after, rw (d.0, n.0) at w.value)
+    passed _ _ _ _ _ _ _ n.2 (rw n.0 at d.1) (told t c.if-not-times_ok.false)
+    (rw (d.0, n.0, n.1) at w.text_after, rw (d.0, n.0, n.1) at w.value)

@@ -17,15 +17,15 @@ row_at-requires c = rw (← c.self.view_is) at c.requires
 pub item_word-item-requires : goal.item_word-item-requires
 item_word-item-requires c =
     let d = c.self.inside in
-    own-item d.model d.reply c.args.i c.row_at-packed.ensures.packed c.item_of.ensures
+    own-item d.model.words d.reply c.args.i c.row_at-packed.ensures.packed c.item_of.ensures
     c.self.invariant.documented.accepted (rw (← c.self.view_is) at c.requires)
 
 pub returns-then-component_of-c : goal.returns-then-component_of-c
 returns-then-component_of-c c =
     let d = c.self.inside in
     rw (← c.self.view_is)
-    (line-not-component d.model d.names.now c.args.c _ (row_at d.reply c.args.i)
-    (own-word d.model d.reply c.args.i c.row_at-packed.ensures.packed c.item_of.ensures c.item_word-item.ensures)
+    (line-not-component d.model.words d.model.names.now c.args.c _ (row_at d.reply c.args.i)
+    (own-word d.model.words d.reply c.args.i c.row_at-packed.ensures.packed c.item_of.ensures c.item_word-item.ensures)
     (λ q. c.if-component_of-c.true (c.component_of.ensures ∙ q)) (omega arith))
 
 pub returns-then-ne : goal.returns-then-ne
@@ -33,18 +33,18 @@ returns-then-ne c =
     let d = c.self.inside in
     let group = c.group_of.ensures ∙ ap group_of c.category_of.ensures in
     rw (← c.self.view_is)
-    (line-not-group d.model d.names.now c.args.c _ (row_at d.reply c.args.i)
-    (own-word d.model d.reply c.args.i c.row_at-packed.ensures.packed c.item_of.ensures c.item_word-item.ensures)
+    (line-not-group d.model.words d.model.names.now c.args.c _ (row_at d.reply c.args.i)
+    (own-word d.model.words d.reply c.args.i c.row_at-packed.ensures.packed c.item_of.ensures c.item_word-item.ensures)
     (sym c.component_of.ensures ∙ c.if-component_of-c.false)
     (λ q. number-other _ _ c.ne.ensures c.if-ne.true (group ∙ q)) (omega arith))
 
 pub name_text-t-requires : goal.name_text-t-requires
 name_text-t-requires c =
     let d = c.self.inside in
-    let there = own-item d.model d.reply c.args.i c.row_at-packed.ensures.packed c.item_of.ensures
+    let there = own-item d.model.words d.reply c.args.i c.row_at-packed.ensures.packed c.item_of.ensures
     c.self.invariant.documented.accepted (rw (← c.self.view_is) at c.requires) in
     rw c.item_name.ensures
-    (item_room d.model d.names.now c.self.invariant.documented.checked c.item_of.result _ there
+    (item_room d.model.words d.model.names.now c.self.invariant.documented.checked c.item_of.result _ there
     c.item_word-item.ensures)
 
 pub returns : goal.returns
@@ -52,8 +52,8 @@ returns c =
     let d = c.self.inside in
     let group = c.group_of.ensures ∙ ap group_of c.category_of.ensures in
     rw (← c.self.view_is)
-    (line-put d.model d.names.now c.args.c _ (row_at d.reply c.args.i)
-    (own-word d.model d.reply c.args.i c.row_at-packed.ensures.packed c.item_of.ensures c.item_word-item.ensures)
+    (line-put d.model.words d.model.names.now c.args.c _ (row_at d.reply c.args.i)
+    (own-word d.model.words d.reply c.args.i c.row_at-packed.ensures.packed c.item_of.ensures c.item_word-item.ensures)
     (sym c.component_of.ensures ∙ c.if-component_of-c.false)
     (sym group ∙ number-same _ _ c.ne.ensures c.if-ne.false) _ _ _ _ _
     c.name_text-t.ensures c.item_name.ensures c.row_at.ensures.number
