@@ -17,8 +17,7 @@ use spec::ITEM_SLOTS;
 // The numbers of a run to the newest places, while their items are of the model and not in `steps`; the first that
 // isn't, or the run's end. Most rings have few others, and a test for them is all that this costs.
 fn plain_run(st: &Store<'_>, steps: u64, f: u64, run: Run, seen: &mut [u64; ITEM_SLOTS]) -> u64
-    requires part { Part st.now f run.from run.to run.place }
-    requires from_le_to { run.from ≤ run.to }
+    requires { Part st.now f run.from run.to run.place }
     ensures bounds { (run.from ≤ result) × (result ≤ run.to) }
     ensures skipped { Skipped steps (item_count st.now) st.now f run.to run.from result seen.old seen.new }
 {

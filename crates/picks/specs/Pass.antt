@@ -53,6 +53,7 @@ seen_from st f (suc k) s w = seen_from st f k (suc s) (set w (item_of (word_of s
 
 -- the numbers from s up to e of a pass that begins with f: they stand in the ring from place p on, without a wrap
 pub record Part (st : List ℕ) (f s e p : ℕ) : Type 0 where
+  pub ordered : s ≤ e
   pub run : Unwrapped (ring_size st) (base st) e s p
   pub from : f ≤ s
   pub near : e - f ≤ ring_size st

@@ -1,5 +1,6 @@
 // A block of the ring, in the pass of current with at: each item's newest place, and the entries of condition items,
-// picked out and stepped to their items' marks.
+// picked out and stepped to their items' marks. `Part` stays a clause: it ties a run to the store and to the pass's
+// first number, so no type of the run alone can hold it.
 #![tactic(auto)]
 
 ghost use Rattle.std.specs.Prelude.{◌≡◌, true, is_some, not, ◌-◌, ◌^◌, ◌<◌, ◌≤◌, length};
@@ -34,7 +35,7 @@ fn gather(
     picks: &mut [u8; PICK_SLOTS],
 ) -> Option<()>
     requires part { Part st.now f run.from run.to run.place }
-    requires from_le_to { (run.from ≤ run.to) × (run.to - run.from ≤ block) }
+    requires short { run.to - run.from ≤ block }
     ensures value { is_some result ≡ items_ok (item_count st.now) st.now run.from run.to }
     ensures gathered { is_some result ≡ true →
         Gathered steps st.now f run.from run.to seen.old seen.new picks.new }
@@ -117,7 +118,7 @@ pub fn step_block(
     marks: &mut Marks,
 ) -> Option<()>
     requires part { Part st.now f run.from run.to run.place }
-    requires from_le_to { (run.from ≤ run.to) × (run.to - run.from ≤ block) }
+    requires short { run.to - run.from ≤ block }
     ensures { let st = st.entry.now in
         Passed steps (item_count st) st f run.from run.to marks.old marks.new seen.old seen.new (is_some result) }
 {

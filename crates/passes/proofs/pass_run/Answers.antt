@@ -13,6 +13,7 @@ step_block-requires-clause-part c =
     let n = rw c.split.ensures.behind at c.min.ensures in
     let high : p.result + c.min.result ≤ c.loop-rest.rest.to = omega (arith, p.ensures.bounds.1, n) in
     rw (c.split-in-loop-rest.ensures.before, c.split.ensures.behind) (record {
+      ordered = omega arith;
       run = run-to w.run (omega arith) high;
       from = w.from;
       near = omega (arith, high, v.end, c.requires.near);

@@ -8,7 +8,7 @@ pub loop-number-init : goal.loop-number-init
 loop-number-init c =
     let r = c.args.run in
     let q : r.place + (r.from - r.from) ≡ r.place = omega arith in
-    rw q (skipping-start _ _ _ _ _ _ _ _ c.requires.part.run c.requires.from_le_to)
+    rw q (skipping-start _ _ _ _ _ _ _ _ c.requires.run c.requires.ordered)
 
 pub loop-number-preserved : goal.loop-number-preserved
 loop-number-preserved c =

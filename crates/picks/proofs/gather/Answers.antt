@@ -10,7 +10,7 @@ loop-number-init c =
     let r = c.args.run in
     let q : r.place + (r.from - r.from) ≡ r.place = omega arith in
     rw q
-    (gathering-start _ _ _ _ _ _ _ _ _ c.requires.part.run c.requires.from_le_to.0 c.told-picks)
+    (gathering-start _ _ _ _ _ _ _ _ _ c.requires.part.run c.requires.part.ordered c.told-picks)
 
 pub returns-then-m-i : goal.returns-then-m-i
 returns-then-m-i c =
@@ -29,10 +29,10 @@ loop-number-preserved c =
     let w = rw c.slice-words.ensures.value at c.ring_word.ensures in
     rw q
     (gathering-more c.loop-number.invariant c.loop-number-test.true c.ring_size-n.ensures.is
-    w c.item_of-i.ensures (rw c.items-m.ensures.0 at c.if-m-i.false) c.requires.from_le_to.1 refl refl
+    w c.item_of-i.ensures (rw c.items-m.ensures.0 at c.if-m-i.false) c.requires.short refl refl
     c.bit_of-count.ensures)
 
 pub returns : goal.returns
 returns c =
-    let w = gathering-end c.loop-number.invariant c.loop-number-test.false c.requires.from_le_to.1 in
+    let w = gathering-end c.loop-number.invariant c.loop-number-test.false c.requires.short in
     record { value = w.0; gathered = λ z. w.1 }
