@@ -11,7 +11,6 @@ use stamp::put_stamp;
 use writer::Output;
 
 // What `put` puts, as an attribute's text.
-#[inline]
 fn put_attribute<F: Fn(&mut Output)>(out: &mut Output, before: &[u8], put: F)
     ghost s: { List ℕ }
     requires callable { F.IsAlwaysCallable put }
@@ -24,7 +23,6 @@ fn put_attribute<F: Fn(&mut Output)>(out: &mut Output, before: &[u8], put: F)
 }
 
 // A number.
-#[inline]
 pub fn put_number(out: &mut Output, before: &[u8], n: u64)
     ensures { Put out.old (before.now ++ (decimal n ++ 34 ∷ [])) out.new }
 {
@@ -32,7 +30,6 @@ pub fn put_number(out: &mut Output, before: &[u8], n: u64)
 }
 
 // A text.
-#[inline]
 pub fn put_text(out: &mut Output, before: &[u8], text: &[u8])
     ensures { Put out.old (before.now ++ (text.now ++ 34 ∷ [])) out.new }
 {
@@ -40,7 +37,6 @@ pub fn put_text(out: &mut Output, before: &[u8], text: &[u8])
 }
 
 // A time, in full.
-#[inline]
 pub fn put_time(out: &mut Output, before: &[u8], t: u64)
     ensures { Put out.old (before.now ++ (stamp_text t ++ 34 ∷ [])) out.new }
 {

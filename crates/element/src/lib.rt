@@ -10,7 +10,7 @@ ghost use Rattle.element.specs.Pascal.{case_of, bare};
 use scan::is_digit;
 use writer::Output;
 
-// What byte x of a name gives, at a word's start or behind it.
+// What byte x of a name gives, at a word's start or behind it. An enum is no plainer: the flag is a test's answer.
 #[inline]
 fn put_case(out: &mut Output, start: bool, x: u8)
     ensures { Put out.old (case_of start x) out.new }

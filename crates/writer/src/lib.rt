@@ -13,7 +13,6 @@ use spec::{Answer, Refusal};
 const STOP: usize = 9223372036854775808;
 
 // The place n bytes on; it stops at 2^63.
-#[inline]
 fn onward(at: usize, n: usize) -> usize
     ensures { result ≡ onward at n }
 {
@@ -38,7 +37,6 @@ impl<'a> Output<'a> {
     }
 
     // How long the text so far is.
-    #[inline]
     pub fn len(&self) -> usize
         ensures { result ≡ self.now.at }
     {
@@ -46,7 +44,6 @@ impl<'a> Output<'a> {
     }
 
     // One byte.
-    #[inline]
     pub fn put_byte(&mut self, b: u8)
         ensures { Put self.old (b ∷ []) self.new }
     {
@@ -59,7 +56,6 @@ impl<'a> Output<'a> {
     }
 
     // The bytes of s, which fit: a plain copy.
-    #[inline]
     fn copy_in(&mut self, s: &[u8])
         requires { self.old.at + length s.now ≤ length self.old.bytes.now }
         ensures { Put self.old s.now self.new }
@@ -80,7 +76,6 @@ impl<'a> Output<'a> {
     }
 
     // The bytes of s: none where the buffer ends before, and at once where they fit.
-    #[inline]
     pub fn put_bytes(&mut self, s: &[u8])
         ensures { Put self.old s.now self.new }
     {
@@ -96,7 +91,6 @@ impl<'a> Output<'a> {
     }
 
     // The last K digits of n. A slice of the array asks for the clause: no array is known to be that short.
-    #[inline]
     pub fn put_fixed<const K: usize>(&mut self, n: u64)
         requires { K < 2 ^ 63 }
         ensures { Put self.old (fixed K n) self.new }
@@ -104,6 +98,7 @@ impl<'a> Output<'a> {
         let mut digits = [0; K];
         let mut rest = n;
         for i in (0..K).rev() {
+            // a remainder by 10 fits a byte, here and below
             digits[i] = 48 + ((rest % 10) as u8);
             rest /= 10;
         }
