@@ -11,7 +11,8 @@ ghost use Rattle.asset_reply.specs.Cells as specs;
 use assets::Assets;
 use spec::{Answer, Refusal};
 
-// Cells in the order of a reply.
+// Cells in the order of a reply. That they are the store's is a clause below, and no invariant: the store stands beside
+// them.
 pub trait Cells {
     ghost list: { Self → List ℕ };
 

@@ -1,13 +1,13 @@
 -- The asset store's definitions, as the code reads and writes them.
-use Prim.Native.Nat.{ℕ, zero, suc, ◌+◌, ◌-◌, ◌*◌, ◌≤◌, ◌<◌}
+use Prim.Native.Nat.{ℕ, zero, suc, ◌+◌, ◌-◌, ◌*◌, ◌/◌, ◌%◌, ◌≤◌, ◌<◌}
 use mathlib.Core.Path.{◌≡◌, sym, ap, ◌∙◌}
 use mathlib.Core.Bool.{Bool, true, false, ◌&&◌, false≢true}
-use mathlib.Core.List.{List, append-nil}
+use mathlib.Core.List.{List, [], ◌∷◌, append-nil}
 use native.Mathlib.Omega.{arith}
-use borrow.Author.Tests.{le-leb, leb-true, ltb-true, lt-ltb, le-ltb}
+use borrow.Author.Tests.{le-leb, leb-true, ltb-true, lt-ltb}
 use lib.Dec.{leb, ltb, eqb}
-use lib.ListN.{length, get_or, set, take, drop, replicate, length-replicate, length-drop, drop_of_length-le}
-use lib.Seq.{sets, sets-eq, length-take-le}
+use lib.ListN.{length, set, take, drop, replicate, length-replicate, drop_of_length-le}
+use lib.Seq.{sets, sets-eq}
 use Rattle.spec.specs.Bytes.{same}
 use Rattle.spec.specs.Assets.{max_assets, id_bytes, cell_bytes, asset_bytes, max_body, capacity, used, ids_at}
 use Rattle.spec.specs.Assets.{bodies_at}
@@ -19,6 +19,8 @@ use Rattle.cells.proofs.Laws.{padded-length}
 use Rattle.spec.proofs.Assets.{id-max, given-up-room, given-up-max, used-after-more, used-after-max}
 use Rattle.assets.specs.Cells.{with_asset}
 use Rattle.std.specs.Prelude.{Some, None}
+use Rattle.std.specs.Int.{to_be_bytes}
+use Rattle.std.proofs.Common.{w16}
 use Rattle.spec.specs.Words.{first_where}
 use Rattle.spec.proofs.Words.{and_left, and_right, not_so, first-here, first_on, first-end}
 
@@ -46,9 +48,9 @@ start_is bs l a h e =
 
 -- ---- bodies
 
-pub length-is : (bs : List ℕ) (i b x y : ℕ) → b ≡ bodies_at (capacity bs) → x ≡ get_or bs (b + i * cell_bytes) 0
-    → y ≡ get_or bs (b + i * cell_bytes + 1) 0 → x * 256 + y ≡ length_at bs i
-length-is bs i b x y eb ex ey = rw (ex, ey, eb)
+-- the two bytes of a body's length, the high one first
+pub length-bytes : (n : ℕ) → n ≤ max_body → to_be_bytes w16 n ≡ (n / 256) ∷ (n % 256) ∷ []
+length-bytes n h = let high : n / 256 % 256 ≡ n / 256 = omega arith in rw high
 
 -- ---- find
 
@@ -97,11 +99,6 @@ cell-is bs i = let q : ids_at + i * id_bytes + id_bytes - (ids_at + i * id_bytes
 module _ {bs id key : List ℕ} {u i : ℕ} (r : Searching bs id key u i) where
   holds-is : (t : Bool) → t ≡ same (id_part bs i) key → t ≡ holds_at bs id i
   holds-is t g = g ∙ rw (cell-is bs i, r.key-is)
-
-  pub searching-lengths : ids_at + i * id_bytes + id_bytes ≤ length bs → length (id_part bs i) ≡ length key
-  searching-lengths h =
-      let at = ids_at + i * id_bytes in
-      rw (cell-is bs i) (length-take-le id_bytes (drop at bs) (omega (arith, length-drop at bs)) ∙ sym r.key-length)
 
   pub searching-here : i < u → (t : Bool) → t ≡ same (id_part bs i) key → t ≡ true → i ≡ find bs id
   searching-here h t g e = first-here (holds_at bs id) (find bs id) i u r.rest h (sym (holds-is t g) ∙ e)
@@ -167,17 +164,6 @@ pub with-asset-is : (out n b : ℕ) (id body o l₁ l₂ : List ℕ) → b ≡ b
     → set l₂ 1 n ≡ with_asset out n id body o
 unfolding with_asset
 with-asset-is out n b id body o l₁ l₂ eb e₁ e₂ = rw (e₂, e₁, eb)
-
--- the cell that is given up, by what the code reads
-module _ (bs id : List ℕ) (u i : ℕ) (eu : u ≡ used bs) (ei : i ≡ find bs id) where
-  pub out-found : i < u → i ≡ out_for id bs
-  out-found h = rw (← eu, ← ei, lt-ltb i u h)
-
-  pub out-free : (a : ℕ) → a ≡ capacity bs → u ≤ i → u < a → u ≡ out_for id bs
-  out-free a ea h g = rw (← eu, ← ei, ← ea, le-ltb i u h, lt-ltb u a g)
-
-  pub out-oldest : (a : ℕ) → a ≡ capacity bs → u ≤ i → a ≤ u → 0 ≡ out_for id bs
-  out-oldest a ea h g = rw (← eu, ← ei, ← ea, le-ltb i u h, le-ltb u a g)
 
 -- the numbers that store works out
 pub record Renewal (bs id : List ℕ) (out n : ℕ) : Type 0 where

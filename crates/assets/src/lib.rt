@@ -134,7 +134,7 @@ fn put_asset(bs: &mut [u8], out: u64, n: u64, id: &[u8], body: &[u8])
     ensures { bs.new ≡ with_asset out n id.now body.now bs.old }
 {
     let bodies = Assets::of(bs).bodies_at() as usize;
-    let head = [(body.len() / 256) as u8, (body.len() % 256) as u8];
+    let head = (body.len() as u16).to_be_bytes();
     cells::renew_cells(
         bs,
         ID_BYTES,
@@ -157,7 +157,7 @@ fn put_asset(bs: &mut [u8], out: u64, n: u64, id: &[u8], body: &[u8])
 }
 
 // The asset replaces the one with its id, goes into a free cell, or takes the oldest one's place. The answer is its
-// cell.
+// cell. Id and body in one struct would be no plainer: they come apart, and each goes to a cell of its own.
 pub fn store(bs: &mut [u8], id: &[u8], body: &[u8]) -> u64
     requires asset_head { AssetHead bs.old }
     requires body_value { spec.asset_ok id.now body.now ≡ true }

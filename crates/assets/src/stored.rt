@@ -85,7 +85,7 @@ impl<'a> Assets<'a> {
     {
         let bytes = self.bytes;
         let at = (self.bodies_at() + i * CELL_BYTES as u64) as usize;
-        u64::from(bytes[at]) * 256 + u64::from(bytes[at + 1])
+        u64::from(u16::from_be_bytes([bytes[at], bytes[at + 1]]))
     }
 
     // The part of the store that is the asset's body; nothing for a missing id or a wrong length.

@@ -9,7 +9,7 @@ use mathlib.Core.Bool.{Bool, true, ◌&&◌, and_assoc, and-true}
 use lib.Dec.{eqb}
 use lib.ListN.{length, get_or, set, take, drop, replicate, length-set, length-append, length-drop, length-replicate}
 use lib.ListN.{drop_of_length-le}
-use lib.Seq.{sets, sets-eq, paste, drop-cons, drop-set-lt, get_or-drop, get_or-take, drop-drop, length-take-le}
+use lib.Seq.{sets, sets-eq, drop-cons, drop-set-lt, get_or-drop, get_or-take, drop-drop, length-take-le}
 use borrow.Rule.Slice.PartMut.{put_mid}
 use Rattle.std.proofs.lemmas.List.Edits.{paste_all}
 use Rattle.std.proofs.lemmas.Slice.{put_mid-paste}
@@ -55,11 +55,6 @@ pub part-set : (a k : ℕ) (o v w : List ℕ) → v ≡ w → k ≡ length w →
 part-set a k o v w e f h =
     put_mid-paste a k o v w k e refl f
     ∙ (paste_all o a w k f ∙ (sym (append_assoc (take a o) w _) ∙ rw f (sym (sets-eq w o a h))))
-
--- a part that was copied there
-pub paste-set : (a n : ℕ) (o s : List ℕ) → n ≤ length s → a + n ≤ length o → paste o a s n ≡ sets o a (take n s)
-paste-set a n o s h g =
-    let e = length-take-le n s h in sym (sets-eq (take n s) o a (omega arith) ∙ rw e)
 
 -- the n bytes from a on
 pub part_length : (a n : ℕ) (o : List ℕ) → a + n ≤ length o → length (take n (drop a o)) ≡ n

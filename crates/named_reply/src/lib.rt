@@ -1,10 +1,11 @@
 // The reply of the assets that a text names, in its order.
 #![tactic(auto)]
 
-ghost use Rattle.std.specs.Prelude.{◌≡◌, true, ◌+◌, ◌<◌, ◌≤◌, List, ℕ, length, set, take, drop};
+ghost use Rattle.std.specs.Prelude.{◌≡◌, true, ◌<◌, ◌≤◌, List, ℕ, length, set, take, MatchResult};
 ghost use Rattle.spec.specs.Bytes.{split};
+ghost use Rattle.spec.specs.declared.Refusal.TheVariants.{AssetNotFound};
 ghost use Rattle.spec.specs.Text.{id_texts, longest_text};
-ghost use Rattle.spec.specs.Assets.{max_assets};
+ghost use Rattle.spec.specs.Assets.{used, capacity, find};
 ghost use Rattle.history.specs.Calls.{named_reply};
 ghost use Rattle.named_reply.specs.Cells.{FoundAll};
 
@@ -16,37 +17,42 @@ mod found;
 
 use found::Found;
 
-// The cells of the ids joined by ';' from `start` on, in their order, or 13 by the first that isn't stored. No id is
-// empty, so a text has at most 128.
-fn find_all(assets: &Assets, text: &[u8], start: usize, found: &mut Found) -> Result<(), Refusal>
-    requires start_in_bounds { (start ≤ length text.now) × (length text.now ≤ longest_text) }
-    requires text_value { id_texts (split 59 (drop start text.now)) ≡ true }
-    requires none_found { found.old.count ≡ 0 }
-    ensures { FoundAll assets.now (split 59 (drop start text.now)) (take found.new.count found.new.cells) result }
+// The cell of an id, or 13.
+fn cell_of(assets: &Assets, id: &[u8]) -> Result<u64, Refusal>
+    ensures { MatchResult result
+        (λ i. (i ≡ find assets.now id.now) × (i < used assets.now) × (used assets.now ≤ capacity assets.now))
+        (λ r. (r ≡ AssetNotFound) × (used assets.now ≤ find assets.now id.now)) }
 {
-    let mut at = start;
-    // each id tells where the next begins, so no range serves
-    loop {
-        let end = parts::id_end(text, at);
-        let Some(cell) = assets.find(&text[at..end]) else {
-            return Err(Refusal::AssetNotFound);
-        };
-        found.push(cell);
-        if text.len() <= end {
-            return Ok(());
-        }
-        at = end + 1;
-    }
+    assets.find(id).ok_or(Refusal::AssetNotFound)
 }
 
-// The reply of the assets whose ids stand in the text from `start` on: 13 by any of them, then 2 by a cell's length.
-pub fn reply_named(assets: &Assets, text: &[u8], start: usize, reply: &mut [u64]) -> Answer
-    requires start_in_bounds { (start ≤ length text.now) × (length text.now ≤ longest_text) }
-    requires text_value { id_texts (split 59 (drop start text.now)) ≡ true }
-    ensures { let x = named_reply assets.now (split 59 (drop start text.now)) reply.old in
+// The cells of the ids joined by ';', in their order, or 13 by the first that isn't stored. No id is empty, so a text
+// has at most 128.
+fn find_all(assets: &Assets, ids: &[u8], found: &mut Found) -> Result<(), Refusal>
+    requires ids_length { length ids.now ≤ longest_text }
+    requires ids_value { id_texts (split 59 ids.now) ≡ true }
+    requires none_found { found.old.count ≡ 0 }
+    ensures { FoundAll assets.now (split 59 ids.now) (take found.new.count found.new.cells) result }
+{
+    let mut rest = ids;
+    while let Some((id, more)) = scan::split_once(rest, b';') {
+        let cell = cell_of(assets, id)?;
+        found.push(cell);
+        rest = more;
+    }
+    let cell = cell_of(assets, rest)?;
+    found.push(cell);
+    Ok(())
+}
+
+// The reply of the assets whose ids the text has, joined by ';': 13 by any of them, then 2 by a cell's length.
+pub fn reply_named(assets: &Assets, ids: &[u8], reply: &mut [u64]) -> Answer
+    requires ids_length { length ids.now ≤ longest_text }
+    requires ids_value { id_texts (split 59 ids.now) ≡ true }
+    ensures { let x = named_reply assets.now (split 59 ids.now) reply.old in
         (result ≡ x.answer) × (reply.new ≡ x.reply) }
 {
     let mut found = Found::new();
-    find_all(assets, text, start, &mut found)?;
+    find_all(assets, ids, &mut found)?;
     asset_reply::reply_cells(assets, &found, reply)
 }

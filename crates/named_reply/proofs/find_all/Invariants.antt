@@ -1,12 +1,12 @@
--- The cells found, then those of the ids from `at` on, are all of them; each id before `at` took two bytes. The measure
--- is the text's rest.
-use Prim.Native.Nat.{◌-◌}
-use lib.ListN.{length}
+-- The cells found, then those of the ids that are left, are all of them. The measure is how many are left.
+use Rattle.std.proofs.Common.{length}
+use Rattle.spec.specs.Bytes.{split}
 use Rattle.named_reply.proofs.Laws.{Finding}
 use Rattle.named_reply.proofs.find_all.Given as goal
 
-abbrev pub invariant-loop-cell : goal.invariant-loop-cell
-invariant-loop-cell l = Finding l.assets l.text l.start l.at l.found.count l.found.cells
+abbrev pub invariant-loop-id : goal.invariant-loop-id
+invariant-loop-id l =
+    Finding l.assets (split 59 l.ids) (split 59 l.rest) l.found.count l.found.cells
 
-abbrev pub decreases-loop-cell : goal.decreases-loop-cell
-decreases-loop-cell l = length l.text - l.at
+abbrev pub decreases-loop-id : goal.decreases-loop-id
+decreases-loop-id l = length (split 59 l.rest)
