@@ -31,7 +31,7 @@ fn event(minus: bool, point: bool, n: u64) -> Option<Value>
     Some(Value::Event(code))
 }
 
-// A level with its native code.
+// A level with its native code: of 24 bits, so that none is lost.
 fn state(level: Level, code: u64) -> Option<Value>
     ensures { unwrap_or result no_value ≡ state_for level code }
 {

@@ -19,7 +19,7 @@ pub struct Date {
 }
 
 // The form of a line's value: UNAVAILABLE, a decimal by its sign, point, whole part and thousandths, or a level with
-// its code.
+// its code. The sign stands apart: -0.5 has one, and its whole part, 0, has none.
 #[derive(Clone, Copy)]
 pub enum Form {
     Missing,
