@@ -84,7 +84,7 @@ pub fn asset_ok(id: &[u8], body: &[u8]) -> bool
     length_ok(body.len() as u64)
 }
 
-// The assets of a store with a right head, or refusal 2.
+// The assets of a store with a right head, or refusal 2. Why no trait has this: model::checked.
 pub fn checked<'a>(bs: &'a [u8]) -> Result<Assets<'a>, Refusal>
     ensures { MatchResult result
         (λ s. (s ≡ bs.entry.now) × (spec.asset_head_ok bs.entry.now ≡ true))

@@ -4,35 +4,27 @@ ghost use Rattle.spec.specs.Model.{asset_change, category_of};
 ghost use Rattle.spec.specs.Model.{sizes_ok, component_ok, item_ok, components_ok, items_ok, changes_ok};
 
 use super::{
-    ASSET_CHANGE, COMPONENTS_AT, MAX_CATEGORY, Words, category_of, component_name, component_of,
-    item_name, parent_of,
+    ASSET_CHANGE, MAX_CATEGORY, Words, category_of, component_name, component_of, item_name,
+    parent_of,
 };
 
 // Whether both sizes are in their range and the length is theirs: there are no Words before that is known.
+#[tactic(auto, unfolding(spec::specs::Model::sizes_ok))]
 pub fn sizes_ok(model: &[u32]) -> bool
     ensures { result ≡ sizes_ok model.now }
 {
-    if (model.len() as u64) < COMPONENTS_AT {
+    let [c, m, words @ ..] = model else {
         return false;
-    }
-    let c = u64::from(model[0]);
-    let m = u64::from(model[1]);
-    if c < 1 {
-        return false;
-    }
-    if spec::MAX_COMPONENTS < c {
-        return false;
-    }
-    if m < 1 {
-        return false;
-    }
-    if spec::MAX_ITEMS < m {
-        return false;
-    }
-    model.len() as u64 == COMPONENTS_AT + c + m
+    };
+    let c = u64::from(*c);
+    let m = u64::from(*m);
+    (1..=spec::MAX_COMPONENTS).contains(&c)
+        && (1..=spec::MAX_ITEMS).contains(&m)
+        && words.len() as u64 == c + m
 }
 
 // Whether a word is one of component i: its parent before it (0 for component 0), its name one of the names.
+#[tactic(auto, unfolding(spec::specs::Model::component_ok))]
 fn component_ok(names: u64, i: u64, word: u64) -> bool
     ensures { result ≡ component_ok names i word }
 {
@@ -41,16 +33,11 @@ fn component_ok(names: u64, i: u64, word: u64) -> bool
 }
 
 // Whether a word is one of a data item: a category, a component of c, a name of the names.
+#[tactic(auto, unfolding(spec::specs::Model::item_ok))]
 fn item_ok(c: u64, names: u64, word: u64) -> bool
     ensures { result ≡ item_ok c names word }
 {
-    if MAX_CATEGORY < category_of(word) {
-        return false;
-    }
-    if c <= component_of(word) {
-        return false;
-    }
-    item_name(word) < names
+    category_of(word) <= MAX_CATEGORY && component_of(word) < c && item_name(word) < names
 }
 
 // 1 for the word of an asset change item, 0 for another.

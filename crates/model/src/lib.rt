@@ -81,24 +81,21 @@ pub fn name_length(cell: &[u8]) -> usize
 }
 
 // Whether model and names keep their rules.
+#[tactic(auto, unfolding(spec::specs::Model::model_ok))]
 pub fn model_ok(model: &[u32], names: &[u8]) -> bool
     ensures { result ≡ model_ok model.now names.now }
 {
-    if !checks::sizes_ok(model) {
-        return false;
-    }
-    if !names::names_ok(names) {
+    if !checks::sizes_ok(model) || !names::names_ok(names) {
         return false;
     }
     let words = Words::of(model);
+    // By `as`, as everywhere between usize and u64: no From is there, and try_from would refuse what never comes.
     let count = (names.len() / spec::NAME_BYTES) as u64;
-    if !checks::components_ok(&words, count) {
-        return false;
-    }
-    checks::items_ok(&words, count)
+    checks::components_ok(&words, count) && checks::items_ok(&words, count)
 }
 
-// A model and its names that keep the rules, or refusal 1.
+// A model and its names that keep the rules, or refusal 1. No trait over this and what observations and assets have of
+// the name: each has other arguments, another test and another refusal, and they share one `if`.
 pub fn checked<'a>(model: &'a [u32], names: &'a [u8]) -> Result<Named<'a>, Refusal>
     ensures { MatchResult result
         (λ s. (s.words ≡ model.entry.now) × (s.names.now ≡ names.entry.now)

@@ -46,7 +46,7 @@ pub fn moved_up(taken: bool, set: u64) -> u64
 pub fn count(selection: u64) -> u64
     ensures { (result ≡ ones selection) × (result ≤ max_items) }
 {
-    u64::count_ones(selection) as u64
+    u64::from(u64::count_ones(selection))
 }
 
 // All of m items.
