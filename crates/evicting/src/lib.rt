@@ -7,29 +7,22 @@ ghost use Rattle.history.specs.Observations.{place, set_newest, evict};
 ghost use Rattle.evicting.specs.Writing.{Overwriting, InTable};
 
 use model::Words;
+use spec::Row;
 
 // The table at word t takes an observation of the item: the entries of a condition item, or another's one row.
-pub fn set_newest(
-    model: &Words<'_>,
-    st: &mut [u64],
-    t: u64,
-    item: u64,
-    number: u64,
-    time: u64,
-    word: u64,
-)
+pub fn set_newest(model: &Words<'_>, st: &mut [u64], t: u64, item: u64, row: Row)
     requires in_table { InTable (category model.now) (items model.now) t item st.old }
     ensures { st.new
         ≡ set_newest (category model.now) st.old t (items model.now) item
-        (number ∷ time ∷ word ∷ []) }
+        (row.number ∷ row.time ∷ row.packed ∷ []) }
 {
     let w = spec::ENTRIES * model.items();
     let k = spec::ENTRIES * item;
     let category = model.category(item);
     if category == spec::CONDITION {
-        stepping::step(st, w, t, k, item, number, time, word);
+        stepping::step(st, w, t, k, item, row.number, row.time, row.packed);
     } else {
-        observations::put_row(st, w, t, k, number, time, word);
+        observations::put_row(st, w, t, k, row);
     }
 }
 
@@ -41,9 +34,14 @@ pub fn evict(model: &Words<'_>, st: &mut [u64], n: u64, b: u64, s: u64, p: u64)
 {
     if n <= s - b {
         let time = observations::ring_time(st, n, p);
-        let word = observations::ring_word(st, n, p);
-        let item = value::item_of(word);
+        let packed = observations::ring_word(st, n, p);
+        let item = value::item_of(packed);
         let checkpoint = observations::checkpoint_at(n, model.items());
-        set_newest(model, st, checkpoint, item, s - n, time, word);
+        let evicted = Row {
+            number: s - n,
+            time,
+            packed,
+        };
+        set_newest(model, st, checkpoint, item, evicted);
     }
 }

@@ -212,11 +212,13 @@ pub fn put_ring(st: &mut [u64], n: u64, p: u64, time: u64, word: u64)
 }
 
 // Row k of the table of w rows that begins at word t takes an observation.
-pub fn put_row(st: &mut [u64], w: u64, t: u64, k: u64, number: u64, time: u64, packed: u64)
+pub fn put_row(st: &mut [u64], w: u64, t: u64, k: u64, row: Row)
     requires { (k < w) × (t + 3 * w ≤ length st.old) }
-    ensures { st.new ≡ put st.old t w k (number ∷ time ∷ packed ∷ []) }
+    ensures { st.new ≡ put st.old t w k (row.number ∷ row.time ∷ row.packed ∷ []) }
 {
-    put_three(st, t as usize, w as usize, k as usize, number, time, packed);
+    put_three(
+        st, t as usize, w as usize, k as usize, row.number, row.time, row.packed,
+    );
 }
 
 // The newest number becomes s.

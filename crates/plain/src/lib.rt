@@ -8,19 +8,20 @@ ghost use Rattle.history.specs.Calls.{room_for, added};
 ghost use Rattle.plain.specs.Short.{InRing, put_number};
 
 use model::Words;
+use spec::Row;
 
-// Number s at place p, by one row: the ring, the item's first latest entry, and last.
-pub fn put_number(st: &mut [u64], n: u64, m: u64, p: u64, item: u64, s: u64, time: u64, word: u64)
+// A number at place p, by one row: the ring, the item's first latest entry, and last.
+pub fn put_number(st: &mut [u64], n: u64, m: u64, p: u64, item: u64, row: Row)
     requires p_lt_n { (p < n) × (n ≤ max_ring) }
     requires item_lt_m { (item < m) × (m ≤ max_items) }
     requires st_len { length st.old ≡ store_words n m }
-    ensures { st.new ≡ put_number n m p item s time word st.old }
+    ensures { st.new ≡ put_number n m p item row.number row.time row.packed st.old }
 {
-    observations::put_ring(st, n, p, time, word);
+    observations::put_ring(st, n, p, row.time, row.packed);
     let latest = observations::latest_at(n);
     let k = spec::ENTRIES * item;
-    observations::put_row(st, spec::ENTRIES * m, latest, k, s, time, word);
-    observations::set_last(st, s);
+    observations::put_row(st, spec::ENTRIES * m, latest, k, row);
+    observations::set_last(st, row.number);
 }
 
 // The entry that number s is about to overwrite, if any, goes to its item's checkpoint as its one row. None, and
@@ -39,8 +40,8 @@ fn evict_plain(model: &Words<'_>, st: &mut [u64], n: u64, b: u64, s: u64) -> Opt
     let m = model.items();
     let at = observations::place(n, b, s);
     let time = observations::ring_time(st, n, at);
-    let word = observations::ring_word(st, n, at);
-    let item = value::item_of(word);
+    let packed = observations::ring_word(st, n, at);
+    let item = value::item_of(packed);
     if m <= item {
         return None;
     }
@@ -49,7 +50,12 @@ fn evict_plain(model: &Words<'_>, st: &mut [u64], n: u64, b: u64, s: u64) -> Opt
     }
     let t = observations::checkpoint_at(n, m);
     let k = spec::ENTRIES * item;
-    observations::put_row(st, spec::ENTRIES * m, t, k, s - n, time, word);
+    let evicted = Row {
+        number: s - n,
+        time,
+        packed,
+    };
+    observations::put_row(st, spec::ENTRIES * m, t, k, evicted);
     Some(())
 }
 
@@ -75,6 +81,11 @@ pub fn add_plain(model: &Words<'_>, st: &mut [u64], item: u64, time: u64, word: 
     }
     evict_plain(model, st, n, b, s)?;
     let p = observations::place(n, b, s);
-    put_number(st, n, m, p, item, s, time, word);
+    let row = Row {
+        number: s,
+        time,
+        packed: word,
+    };
+    put_number(st, n, m, p, item, row);
     Some(s)
 }

@@ -11,7 +11,7 @@ ghost use Rattle.plain.specs.Short.{overwritable};
 ghost use Rattle.evicting.specs.Writing.{Overwriting, InTable};
 
 use model::Words;
-use spec::Refusal;
+use spec::{Refusal, Row};
 
 // Whether the entry about to be overwritten, by its packed word, has an item of the model whose checkpoint takes it.
 fn may_overwrite(model: &Words<'_>, st: &[u64], n: u64, word: u64) -> bool
@@ -53,19 +53,19 @@ pub fn room_for(model: &Words<'_>, st: &[u64]) -> Result<(), Refusal>
     Err(Refusal::Store)
 }
 
-// Number s: the overwritten entry's checkpoint, the ring, the item's latest, and last.
-fn write(model: &Words<'_>, st: &mut [u64], n: u64, b: u64, s: u64, item: u64, time: u64, word: u64)
-    requires overwriting { Overwriting (category model.now) n (items model.now) b s st.old }
+// A row's number: the overwritten entry's checkpoint, the ring, the item's latest, and last.
+fn write(model: &Words<'_>, st: &mut [u64], n: u64, b: u64, item: u64, row: Row)
+    requires overwriting { Overwriting (category model.now) n (items model.now) b row.number st.old }
     requires in_table { InTable (category model.now) (items model.now) (latest_at n) item st.old }
     ensures { st.new
-        ≡ add (category model.now) n (items model.now) b s item time word st.old }
+        ≡ add (category model.now) n (items model.now) b row.number item row.time row.packed st.old }
 {
-    let p = observations::place(n, b, s);
-    evicting::evict(model, st, n, b, s, p);
-    observations::put_ring(st, n, p, time, word);
+    let p = observations::place(n, b, row.number);
+    evicting::evict(model, st, n, b, row.number, p);
+    observations::put_ring(st, n, p, row.time, row.packed);
     let latest = observations::latest_at(n);
-    evicting::set_newest(model, st, latest, item, s, time, word);
-    observations::set_last(st, s);
+    evicting::set_newest(model, st, latest, item, row);
+    observations::set_last(st, row.number);
 }
 
 // One observation more, as last + 1.
@@ -80,6 +80,10 @@ pub fn add(model: &Words<'_>, st: &mut [u64], item: u64, time: u64, word: u64)
     let m = model.items();
     let n = observations::ring_size(st, m);
     let b = observations::base(st, m);
-    let last = observations::last(st, m);
-    write(model, st, n, b, last + 1, item, time, word);
+    let row = Row {
+        number: observations::last(st, m) + 1,
+        time,
+        packed: word,
+    };
+    write(model, st, n, b, item, row);
 }

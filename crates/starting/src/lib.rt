@@ -8,7 +8,7 @@ ghost use Rattle.history.specs.Calls.{start_ok, start_both};
 ghost use Rattle.starting.specs.Start.{Starting};
 
 use model::Words;
-use spec::{Answer, MAX_ASSETS, MAX_NUMBER, MAX_RING, Refusal, Value};
+use spec::{Answer, MAX_ASSETS, MAX_NUMBER, MAX_RING, Refusal, Row, Value};
 
 // Whether the sizes, the first number and the stores' lengths are ones that start takes.
 fn start_ok(m: u64, n: u64, a: u64, b: u64, words: u64, size: u64) -> bool
@@ -51,9 +51,13 @@ fn start_store(model: &Words<'_>, st: &mut [u64], n: u64, b: u64, host: u64)
     observations::make_blank(st, n, m, b);
     let mut p: u64 = 0;
     for item in 0..m {
-        let word = value::pack(item, Value::Unavailable);
-        evicting::evict(model, st, n, b, b + item, p);
-        plain::put_number(st, n, m, p, item, b + item, host, word);
+        let row = Row {
+            number: b + item,
+            time: host,
+            packed: value::pack(item, Value::Unavailable),
+        };
+        evicting::evict(model, st, n, b, row.number, p);
+        plain::put_number(st, n, m, p, item, row);
         p += 1;
         if p == n {
             p = 0;

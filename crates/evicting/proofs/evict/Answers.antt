@@ -8,13 +8,13 @@ pub set_newest-requires : goal.set_newest-requires
 set_newest-requires c =
     record {
       in_table = rw (c.checkpoint_at-checkpoint.ensures, c.items.ensures.0)
-          (goes_in _ _ _ _ _ _ _ _ c.requires.p_value.0 c.ring_word-word.ensures _ c.item_of-item.ensures (omega arith)
+          (goes_in _ _ _ _ _ _ _ _ c.requires.p_value.0 c.ring_word-packed.ensures _ c.item_of-item.ensures (omega arith)
           c.requires.overwriting);
     }
 
 pub returns-then-n-s : goal.returns-then-n-s
 returns-then-n-s c =
-    evicted _ _ _ _ _ _ _ _ c.requires.p_value.0 c.ring_word-word.ensures _ c.item_of-item.ensures (omega arith) _ _
+    evicted _ _ _ _ _ _ _ _ c.requires.p_value.0 c.ring_word-packed.ensures _ c.item_of-item.ensures (omega arith) _ _
     c.ring_time-time.ensures
     (rw (c.checkpoint_at-checkpoint.ensures, c.items.ensures.0) at c.set_newest.ensures)
 

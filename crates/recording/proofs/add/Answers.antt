@@ -5,7 +5,7 @@ use Rattle.recording.proofs.add.Goals as goal
 
 pub write-requires : goal.write-requires
 write-requires c =
-    let o = next_fits c.ring_size-n.ensures.is c.base-b.ensures c.last-last.ensures.is c.requires.head
+    let o = next_fits c.ring_size-n.ensures.is c.base-b.ensures c.last.ensures.is c.requires.head
     c.requires.st_value in
     let f = latest-form _ _ _ _ _ c.requires.item_value in
     record {
@@ -15,4 +15,4 @@ write-requires c =
 
 pub returns : goal.returns
 returns c =
-    rw (c.write.ensures, c.ring_size-n.ensures.is, c.base-b.ensures, c.last-last.ensures.is, add-one)
+    rw (c.write.ensures, c.ring_size-n.ensures.is, c.base-b.ensures, c.last.ensures.is, add-one)

@@ -1,4 +1,3 @@
-use mathlib.Core.Path.{sym, ◌∙◌}
 use native.Mathlib.Omega.{arith}
 use Rattle.starting.proofs.Filling.{filling-none, filling-fits, filling-place, filling-words, place-on}
 use Rattle.starting.proofs.Filling.{place-back, filling-more, filling-all}
@@ -36,11 +35,11 @@ loop-item-preserved c =
     elim c.if-p-n.branch [
       | then-p-n w ↦
           rw w.p-is
-          (filling-more f c.requires.starting (omega arith) c.items-m.ensures.0 c.pack-word.ensures c.evict.ensures
+          (filling-more f c.requires.starting (omega arith) c.items-m.ensures.0 c.pack.ensures c.evict.ensures
           c.put_number.ensures (place-back f w.if-p-n.true))
       | else-p-n w ↦
           rw w.p-is
-          (filling-more f c.requires.starting (omega arith) c.items-m.ensures.0 c.pack-word.ensures c.evict.ensures
+          (filling-more f c.requires.starting (omega arith) c.items-m.ensures.0 c.pack.ensures c.evict.ensures
           c.put_number.ensures (place-on f c.requires.starting w.if-p-n.false))
     ]
 
