@@ -97,6 +97,12 @@ pub record Reading (own : ℕ) (rows : List (List ℕ)) (marks : List ℕ) (n j 
   pub more : j < 8
   pub is : get_or rows j [] ≡ number ∷ time ∷ word ∷ []
 
+-- what is known once row j is read
+pub reading : {own : ℕ} {rows : List (List ℕ)} {marks : List ℕ} {n j number time word : ℕ}
+    → Filling own rows marks n j → length rows ≡ 8 → j < 8 → get_or rows j [] ≡ number ∷ time ∷ word ∷ []
+    → Reading own rows marks n j number time word
+reading f size more is = record { filling = f; size = size; more = more; is = is }
+
 module _ {own : ℕ} {rows : List (List ℕ)} {marks : List ℕ} {n j number time word : ℕ}
     (d : Reading own rows marks n j number time word) where
   abbrev here : List ℕ

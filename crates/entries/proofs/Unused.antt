@@ -1,17 +1,16 @@
 -- The rows behind an item's first: zeros where their words, or-ed, are 0; one entry is used then.
-use Prim.Native.Nat.{ℕ, zero, suc, ◌+◌, ◌≤◌}
+use Prim.Native.Nat.{ℕ, zero, suc, ◌+◌, ◌-◌, ◌≤◌, ◌<◌}
 use mathlib.Core.Path.{◌≡◌, refl, sym, ap, ◌∙◌}
 use mathlib.Core.Bool.{Bool, true, false, ◌&&◌, and-true, and_assoc}
 use mathlib.Core.List.{List, [], ◌∷◌}
-use native.Mathlib.Nat.{add-zero}
 use native.Mathlib.Omega.{arith}
-use native.Mathlib.Numerals.{add-one}
 use lib.Bits.{bit_or, or_add_and, and_le_r}
 use lib.Dec.{eqb}
-use lib.ListN.{get_or}
+use lib.ListN.{length, get_or, take, drop}
+use lib.Seq.{take_all}
+use Rattle.std.proofs.lemmas.List.{length-drop}
+use Rattle.std.proofs.lemmas.Grind.{get_or_after_one}
 use borrow.Author.Tests.{eqb-true, eqb-false, ne_eqb}
-use Rattle.spec.specs.Words.{row}
-use Rattle.spec.specs.Blocks.{table_rows}
 use Rattle.spec.specs.Entries.{each_row, zero_row, used_rows, form_ok}
 use Rattle.spec.proofs.Words.{and_left, by-test}
 use Rattle.entries.specs.Forms.{filled}
@@ -37,40 +36,44 @@ or-three n a b c =
     all-four true true r s = refl
 
 -- one row more
-zeros-snoc : (st : List ℕ) (t w n k : ℕ)
-    → each_row zero_row (table_rows st t w (suc n) k)
-    ≡ each_row zero_row (table_rows st t w n k) && zero_row (row st t w (k + n) 3)
-unfolding each_row table_rows
-zeros-snoc st t w zero k = rw (add-zero k) (and-true (zero_row (row st t w k 3)))
-zeros-snoc st t w (suc n) k =
-    let e : suc k + n ≡ k + suc n = omega arith in
-    ap (λ (b : Bool). zero_row (row st t w k 3) && b) (zeros-snoc st t w n (suc k))
-    ∙ rw e (sym (and_assoc (zero_row (row st t w k 3)) (each_row zero_row (table_rows st t w n (suc k)))
-    (zero_row (row st t w (k + suc n) 3))))
+zeros-snoc : (n : ℕ) (rows : List (List ℕ)) → n < length rows
+    → each_row zero_row (take (suc n) rows) ≡ each_row zero_row (take n rows) && zero_row (get_or rows n [])
+unfolding each_row
+zeros-snoc n [] h = absurd (omega arith)
+zeros-snoc zero (r ∷ rows) h = and-true (zero_row r)
+zeros-snoc (suc n) (r ∷ rows) h =
+    ap (λ (b : Bool). zero_row r && b) (zeros-snoc n rows (omega arith))
+    ∙ sym (and_assoc (zero_row r) (each_row zero_row (take n rows)) (zero_row (get_or rows n [])))
 
--- the words of j rows from row k on, or-ed
-pub record Ored (st : List ℕ) (t w k any j : ℕ) : Type 0 where
-  pub few : j ≤ 7
-  pub is : eqb any 0 ≡ each_row zero_row (table_rows st t w j k)
+-- the words of the entries behind the first and before j, or-ed
+pub record Ored (rows : List (List ℕ)) (any j : ℕ) : Type 0 where
+  pub some : 1 ≤ j
+  pub few : j ≤ 8
+  pub is : eqb any 0 ≡ each_row zero_row (take (j - 1) (drop 1 rows))
 
-pub ored-none : (st : List ℕ) (t w k : ℕ) → Ored st t w k 0 0
-unfolding each_row table_rows
-ored-none st t w k = record { few = omega arith; is = refl }
+pub ored-none : (rows : List (List ℕ)) → Ored rows 0 1
+unfolding each_row
+ored-none rows = record { some = omega arith; few = omega arith; is = refl }
 
-module _ {st : List ℕ} {t w k any j : ℕ} (o : Ored st t w k any j) where
-  pub ored-more : {a b c : ℕ} → suc j ≤ 7 → a ≡ t + (k + j) → b ≡ t + w + (k + j) → c ≡ t + w + w + (k + j)
-      → Ored st t w k (bit_or (bit_or (bit_or any (get_or st a 0)) (get_or st b 0)) (get_or st c 0)) (j + 1)
-  unfolding row
-  ored-more {a} {b} {c} h p q r =
+module _ {rows : List (List ℕ)} {any j : ℕ} (o : Ored rows any j) (eight : length rows ≡ 8) where
+  pub ored-more : {a b c : ℕ} → j < 8 → get_or rows j [] ≡ a ∷ b ∷ c ∷ []
+      → Ored rows (bit_or (bit_or (bit_or any a) b) c) (j + 1)
+  ored-more {a} {b} {c} h r =
+      let l : length (drop 1 rows) ≡ 7 = omega (arith, length-drop 1 rows, eight) in
+      let e : j + 1 - 1 ≡ suc (j - 1) = omega (arith, o.some) in
+      let f : 1 + (j - 1) ≡ j = omega (arith, o.some) in
+      let q : get_or (drop 1 rows) (j - 1) [] ≡ a ∷ b ∷ c ∷ [] = get_or_after_one rows (j - 1) [] ∙ rw f r in
+      let z = zeros-snoc (j - 1) (drop 1 rows) (omega (arith, l, h, o.some)) in
       record {
-        few = omega arith;
-        is =
-            or-three any (get_or st a 0) (get_or st b 0) (get_or st c 0)
-            ∙ rw (p, q, r, o.is, add-one j) (sym (zeros-snoc st t w j k));
+        some = omega arith;
+        few = omega (arith, h);
+        is = or-three any a b c ∙ rw (e, z, q, ← o.is) refl;
       }
 
-  pub ored-all : 7 ≤ j → eqb any 0 ≡ each_row zero_row (table_rows st t w 7 k)
-  ored-all h = let e : j ≡ 7 = omega (arith, o.few) in o.is ∙ rw e
+  pub ored-all : 8 ≤ j → eqb any 0 ≡ each_row zero_row (drop 1 rows)
+  ored-all h =
+      let l : length (drop 1 rows) ≡ 7 = omega (arith, length-drop 1 rows, eight) in
+      o.is ∙ ap (each_row zero_row) (take_all (j - 1) (drop 1 rows) (omega (arith, l, h)))
 
 -- ---- one entry
 
@@ -84,9 +87,8 @@ one-used : (own : ℕ) (r : List ℕ) (rs : List (List ℕ)) → (get_or r 0 0 �
 unfolding filled form_ok used_rows
 one-used own r rs u z = rw (ne_eqb (get_or r 0 0) 0 u, none-used rs z, z)
 
-pub first_alone : (own : ℕ) (st : List ℕ) (t w k : ℕ) → (get_or st (t + k) 0 ≡ 0 → ⊥)
-    → each_row zero_row (table_rows st t w 7 (k + 1)) ≡ true
-    → Some 1 ≡ filled own (table_rows st t w 8 k)
-unfolding table_rows row
-first_alone own st t w k u z =
-    one-used own (row st t w k 3) (table_rows st t w 7 (suc k)) u (rw (add-one k) at z)
+pub first_alone : (own : ℕ) (rows : List (List ℕ)) {number time word : ℕ}
+    → get_or rows 0 [] ≡ number ∷ time ∷ word ∷ [] → (number ≡ 0 → ⊥) → each_row zero_row (drop 1 rows) ≡ true
+    → Some 1 ≡ filled own rows
+first_alone own [] e u z = absurd (u (ap (λ r. get_or r 0 0) (sym e)))
+first_alone own (r ∷ rows) e u z = one-used own r rows (λ y. u (ap (λ r. get_or r 0 0) (sym e) ∙ y)) z

@@ -20,7 +20,7 @@ pub fn set_newest(model: &Words<'_>, st: &mut [u64], t: u64, item: u64, row: Row
     let k = spec::ENTRIES * item;
     let category = model.category(item);
     if category == spec::CONDITION {
-        stepping::step(st, w, t, k, item, row.number, row.time, row.packed);
+        stepping::step(st, w, t, k, item, row);
     } else {
         observations::put_row(st, w, t, k, row);
     }

@@ -2,10 +2,9 @@
 #![tactic(auto)]
 
 ghost use Rattle.std.specs.Prelude.{◌≡◌, ◌^◌, ◌<◌, length};
-ghost use Rattle.spec.specs.Blocks.{table_rows};
-ghost use Rattle.entries.specs.Forms.{Table};
 ghost use Rattle.judging.specs.Findings.{repeated_if, raised_judged, cleared_judged, judged};
 
+use entries::Entries;
 use spec::{ENTRY_SLOTS, Refusal, Value};
 
 // What observe finds in an item's latest entries, where nothing is refused.
@@ -24,16 +23,12 @@ fn repeated_if(test: bool) -> Judged
 
 // What observe finds of a Warning or Fault with this key: its level stands for its code, or it is a ninth code.
 fn judge_raised(
-    st: &[u64],
-    w: u64,
-    t: u64,
-    k: u64,
+    entries: &Entries<'_>,
     marks: &[u64; ENTRY_SLOTS],
     key: u64,
     word: u64,
 ) -> Result<Judged, Refusal>
-    requires table { Table w t k (length st.now) }
-    ensures { result ≡ raised_judged (table_rows st.now t w 8 k) marks.now key word }
+    ensures { result ≡ raised_judged entries.now marks.now key word }
 {
     let Some(j) = marks::find(marks, key) else {
         return Err(Refusal::Crowded);
@@ -41,7 +36,7 @@ fn judge_raised(
     if marks[j] == 0 {
         return Ok(Judged::New);
     }
-    let row = observations::row_at(st, w, t, k + (j as u64));
+    let row = entries.row(j as u64);
     Ok(repeated_if(row.packed == word))
 }
 
@@ -56,13 +51,12 @@ fn judge_cleared(marks: &[u64; ENTRY_SLOTS], key: u64) -> Judged
 }
 
 // What observe finds in item own's eight latest entries, of a packed word.
-pub fn judge(st: &[u64], w: u64, t: u64, k: u64, own: u64, word: u64) -> Result<Judged, Refusal>
-    requires table { Table w t k (length st.now) }
+pub fn judge(entries: &Entries<'_>, own: u64, word: u64) -> Result<Judged, Refusal>
     requires own_bound { own < 2 ^ 24 }
-    ensures { result ≡ judged own (table_rows st.now t w 8 k) word }
+    ensures { result ≡ judged own entries.now word }
 {
     let mut marks = [0u64; ENTRY_SLOTS];
-    let Some(n) = entries::fill(st, w, t, k, own, &mut marks) else {
+    let Some(n) = entries::fill(entries, own, &mut marks) else {
         return Err(Refusal::Store);
     };
     if n == 0 {
@@ -70,9 +64,9 @@ pub fn judge(st: &[u64], w: u64, t: u64, k: u64, own: u64, word: u64) -> Result<
     }
     let key = marks::key_of(own, word);
     if key != 0 {
-        return judge_raised(st, w, t, k, &marks, key, word);
+        return judge_raised(entries, &marks, key, word);
     }
-    let first = observations::row_at(st, w, t, k);
+    let first = entries.row(0);
     if !marks::is_normal(word) {
         return Ok(repeated_if(first.packed == word));
     }

@@ -10,6 +10,7 @@ ghost use Rattle.entries.specs.Forms.{Table};
 ghost use Rattle.rows.specs.Rows.{rows_at, rows_into};
 ghost use Rattle.latest.specs.Latest.{extra_in, first_rows};
 
+use entries::Entries;
 use model::Words;
 use observations::Store;
 
@@ -26,7 +27,8 @@ pub fn extra(model: &Words<'_>, st: &Store<'_>, selection: u64) -> Option<u64>
     let mut extra: u64 = 0;
     for i in 0..m {
         if selection::has(selection, i) && model.category(i) == spec::CONDITION {
-            let Some(n) = entries::count(words, spec::ENTRIES * m, t, spec::ENTRIES * i, i) else {
+            let entries = Entries::of(words, spec::ENTRIES * m, t, spec::ENTRIES * i);
+            let Some(n) = entries::count(&entries, i) else {
                 return None;
             };
             if n == 0 {

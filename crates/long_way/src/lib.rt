@@ -9,6 +9,7 @@ ghost use Rattle.history.specs.Calls.{room_for, observe_by};
 ghost use Rattle.judging.specs.declared.Judged.TheVariants.{New};
 ghost use Rattle.short_way.specs.Found.{found, observed_by};
 
+use entries::Entries;
 use judging::Judged;
 use model::Words;
 use spec::{Noted, ObserveAnswer, Refusal};
@@ -59,7 +60,8 @@ fn judge_latest(
     let m = model.items();
     let t = observations::latest_at(observations::ring_size(observations, m));
     let k = spec::ENTRIES * item;
-    judging::judge(observations, spec::ENTRIES * m, t, k, item, word)
+    let entries = Entries::of(observations, spec::ENTRIES * m, t, k);
+    judging::judge(&entries, item, word)
 }
 
 // The long way of a value that its item takes: what is found in its latest decides.

@@ -10,6 +10,7 @@ ghost use Rattle.history.specs.Calls.{room_for, added};
 ghost use Rattle.plain.specs.Short.{overwritable};
 ghost use Rattle.evicting.specs.Writing.{Overwriting, InTable};
 
+use entries::Entries;
 use model::Words;
 use spec::{Refusal, Row};
 
@@ -28,7 +29,8 @@ fn may_overwrite(model: &Words<'_>, st: &[u64], n: u64, word: u64) -> bool
         return true;
     }
     let t = observations::checkpoint_at(n, m);
-    stepping::takes_one(st, spec::ENTRIES * m, t, spec::ENTRIES * item, item, word)
+    let entries = Entries::of(st, spec::ENTRIES * m, t, spec::ENTRIES * item);
+    stepping::takes_one(&entries, item, word)
 }
 
 // Whether a number is left, and the entry that it overwrites, if any, may go to its item's checkpoint.

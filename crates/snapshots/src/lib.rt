@@ -13,6 +13,7 @@ ghost use Rattle.entries.specs.Forms.{marks_of};
 ghost use Rattle.snapshot_rows.specs.Held.{held_by};
 ghost use Rattle.snapshots.specs.Snapshots.{steps_of, begun, forms_ok, plain_place, settled};
 
+use entries::Entries;
 use marks::Marks;
 use model::Words;
 use observations::Store;
@@ -42,7 +43,8 @@ fn begin_item(st: &Store<'_>, i: u64, marks: &mut [u64; ENTRY_SLOTS]) -> Option<
     let words = st.slice();
     let w = spec::ENTRIES * st.items();
     let t = st.checkpoint_at();
-    entries::fill(words, w, t, spec::ENTRIES * i, i, marks)?;
+    let entries = Entries::of(words, w, t, spec::ENTRIES * i);
+    entries::fill(&entries, i, marks)?;
     Some(())
 }
 

@@ -10,16 +10,16 @@ ghost use Rattle.entries.specs.Forms.{Table};
 ghost use Rattle.stepping.specs.Taking.{takes_one};
 
 use changes::Change;
-use spec::ENTRY_SLOTS;
+use entries::Entries;
+use spec::{ENTRY_SLOTS, Row};
 
 // Whether item own's eight entries have their written form and take one more observation without a ninth.
-pub fn takes_one(st: &[u64], w: u64, t: u64, k: u64, own: u64, word: u64) -> bool
-    requires table { Table w t k (length st.now) }
+pub fn takes_one(entries: &Entries<'_>, own: u64, word: u64) -> bool
     requires own_bound { own < 2 ^ 24 }
-    ensures { result ≡ takes_one own (table_rows st.now t w 8 k) word }
+    ensures { result ≡ takes_one own entries.now word }
 {
     let mut marks = [0u64; ENTRY_SLOTS];
-    if entries::fill(st, w, t, k, own, &mut marks).is_none() {
+    if entries::fill(entries, own, &mut marks).is_none() {
         return false;
     }
     !matches!(changes::change_for(&marks, own, word), Change::Full)
@@ -36,20 +36,21 @@ fn change_front(words: &mut [u64], change: Change, x: u64)
     eights::apply(eight, change, x);
 }
 
-// The step of item own's eight entries by an observation, in place.
-pub fn step(st: &mut [u64], w: u64, t: u64, k: u64, own: u64, number: u64, time: u64, word: u64)
+// The step of item own's eight entries by an observation, in place: the rows from row k on of the table of w rows that
+// begins at word t. By numbers: a struct around a `&mut` would need a clause that the reference is still the same.
+pub fn step(st: &mut [u64], w: u64, t: u64, k: u64, own: u64, row: Row)
     requires table { Table w t k (length st.old) }
     requires own_bound { (own < 2 ^ 24) × (form_ok own 0 (table_rows st.old t w 8 k) ≡ true) }
     ensures { let es = used_rows (table_rows st.old t w 8 k) in
-        st.new ≡ put_rows st.old t w k (padded 8 (step own es (number ∷ time ∷ word ∷ []))) }
+        st.new ≡ put_rows st.old t w k (padded 8 (step own es (row.number ∷ row.time ∷ row.packed ∷ []))) }
 {
     let mut marks = [0u64; ENTRY_SLOTS];
-    entries::fill(st, w, t, k, own, &mut marks);
-    let change = changes::change_for(&marks, own, word);
+    entries::fill(&Entries::of(st, w, t, k), own, &mut marks);
+    let change = changes::change_for(&marks, own, row.packed);
     let numbers = (t + k) as usize;
     let times = numbers + (w as usize);
     let words = times + (w as usize);
-    change_front(&mut st[numbers..numbers + ENTRY_SLOTS], change, number);
-    change_front(&mut st[times..times + ENTRY_SLOTS], change, time);
-    change_front(&mut st[words..words + ENTRY_SLOTS], change, word);
+    change_front(&mut st[numbers..numbers + ENTRY_SLOTS], change, row.number);
+    change_front(&mut st[times..times + ENTRY_SLOTS], change, row.time);
+    change_front(&mut st[words..words + ENTRY_SLOTS], change, row.packed);
 }

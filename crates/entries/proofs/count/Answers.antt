@@ -5,4 +5,4 @@ use Rattle.entries.proofs.count.Goals as goal
 
 pub returns-then-rest_unused : goal.returns-then-rest_unused
 returns-then-rest_unused c =
-    first_alone _ _ _ _ _ c.if-st-t-ne0.true (sym c.rest_unused.ensures ∙ c.if-rest_unused.true)
+    first_alone _ _ c.row-first.ensures c.if-first-ne0.true (sym c.rest_unused.ensures ∙ c.if-rest_unused.true)

@@ -1,54 +1,42 @@
-use Rattle.spec.specs.Blocks.{table_rows}
-use Rattle.spec.specs.Words.{row}
-use Rattle.entries.proofs.Filling.{Filling, filling-start, filling-end, row_of, rows-many}
-use Rattle.entries.proofs.Filling.{Reading, reading-spoilt, reading-unused, reading-late, reading-refused}
-use Rattle.entries.proofs.Filling.{reading-used}
+use native.Mathlib.Omega.{arith}
+use Rattle.entries.proofs.Filling.{filling-start, filling-end, reading-spoilt, reading-unused, reading-late}
+use Rattle.entries.proofs.Filling.{reading, reading-refused, reading-used}
 use Rattle.entries.proofs.Laws.{broken}
-use mathlib.Core.Path.{◌≡◌, ◌∙◌}
-use mathlib.Core.List.{List, [], ◌∷◌}
-use Prim.Native.Nat.{ℕ, ◌+◌, ◌<◌}
 use Rattle.entries.proofs.fill.Goals as goal
 use Rattle.entries.proofs.fill.Goals.{then-row-eq0+else-row-ne0+else-row-ne0-2}
 use Rattle.entries.proofs.fill.Goals.{else-row-eq0+else-n-j+else-not-may_follow}
-
--- what is known once row j is read
-reading : (st : List ℕ) (t w k : ℕ) {own : ℕ} {marks : List ℕ} {n j number time word : ℕ}
-    → Filling own (table_rows st t w 8 k) marks n j → j < 8 → row st t w (k + j) 3 ≡ number ∷ time ∷ word ∷ []
-    → Reading own (table_rows st t w 8 k) marks n j number time word
-reading st t w k f more is =
-    record { filling = f; size = rows-many _ _ _ 8 _; more = more; is = row_of _ _ _ 8 _ _ more ∙ is }
 
 pub loop-j-init : goal.loop-j-init
 loop-j-init c = filling-start _ _ c.requires.unmarked
 
 pub returns-then-row-ne0 : goal.returns-then-row-ne0
 returns-then-row-ne0 c =
-    let d = reading _ _ _ _ c.loop-j.invariant c.loop-j-test.true c.row_at-row.ensures in
+    let d = reading c.loop-j.invariant c.len-j-end.ensures.1 (omega arith) c.row-row.ensures in
     let e = reading-spoilt d c.if-row-eq0.true (λ x y. c.if-row-ne0.true x) in
-    record { value = e; marks_after = broken _ _ e }
+    record { value = e; marks_after = broken _ _ e; eight = c.len-j-end.ensures.1 }
 
 pub returns-then-row-ne0-2 : goal.returns-then-row-ne0-2
 returns-then-row-ne0-2 c =
-    let d = reading _ _ _ _ c.loop-j.invariant c.loop-j-test.true c.row_at-row.ensures in
+    let d = reading c.loop-j.invariant c.len-j-end.ensures.1 (omega arith) c.row-row.ensures in
     let e = reading-spoilt d c.if-row-eq0.true (λ x y. c.if-row-ne0-2.true y) in
-    record { value = e; marks_after = broken _ _ e }
+    record { value = e; marks_after = broken _ _ e; eight = c.len-j-end.ensures.1 }
 
 pub returns-then-n-j : goal.returns-then-n-j
 returns-then-n-j c =
-    let d = reading _ _ _ _ c.loop-j.invariant c.loop-j-test.true c.row_at-row.ensures in
+    let d = reading c.loop-j.invariant c.len-j-end.ensures.1 (omega arith) c.row-row.ensures in
     let e = reading-late d c.if-row-eq0.false c.if-n-j.true in
-    record { value = e; marks_after = broken _ _ e }
+    record { value = e; marks_after = broken _ _ e; eight = c.len-j-end.ensures.1 }
 
 pub returns-then-not-may_follow : goal.returns-then-not-may_follow
 returns-then-not-may_follow c =
-    let d = reading _ _ _ _ c.loop-j.invariant c.loop-j-test.true c.row_at-row.ensures in
+    let d = reading c.loop-j.invariant c.len-j-end.ensures.1 (omega arith) c.row-row.ensures in
     let e = reading-refused d c.if-row-eq0.false c.key_of-key.ensures.0 c.if-n-j.false c.may_follow.ensures
     c.if-not-may_follow.true in
-    record { value = e; marks_after = broken _ _ e }
+    record { value = e; marks_after = broken _ _ e; eight = c.len-j-end.ensures.1 }
 
 pub loop-j-preserved : goal.loop-j-preserved
 loop-j-preserved c =
-    let d = reading _ _ _ _ c.loop-j.invariant c.loop-j-test.true c.row_at-row.ensures in
+    let d = reading c.loop-j.invariant c.len-j-end.ensures.1 (omega arith) c.row-row.ensures in
     elim c.if-row-eq0.branch [
       | then-row-eq0+else-row-ne0+else-row-ne0-2 w ↦
           rw (w.marks-is, w.n-is)
@@ -61,5 +49,5 @@ loop-j-preserved c =
 
 pub returns : goal.returns
 returns c =
-    let whole = filling-end c.loop-j.invariant (rows-many _ _ _ 8 _) c.loop-j-test.false in
-    record { value = whole.0; marks_after = whole.1 }
+    let whole = filling-end c.loop-j.invariant c.len-j-end.ensures.1 (omega arith) in
+    record { value = whole.0; marks_after = whole.1; eight = c.len-j-end.ensures.1 }

@@ -1,7 +1,6 @@
 -- n of the rows before j are used and come first, their marks are made, and the rows left decide.
-use Rattle.spec.specs.Blocks.{table_rows}
 use Rattle.entries.proofs.Filling.{Filling}
 use Rattle.entries.proofs.fill.Given as goal
 
 abbrev pub invariant-loop-j : goal.invariant-loop-j
-invariant-loop-j l = Filling l.own (table_rows l.st l.t l.w 8 l.k) l.marks l.n l.j
+invariant-loop-j l = Filling l.own l.entries l.marks l.n l.j

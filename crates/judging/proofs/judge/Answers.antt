@@ -2,7 +2,7 @@
 use native.Mathlib.Numerals.{add-one}
 use Rattle.marks.proofs.Laws.{key-zero, key-some}
 use Rattle.entries.proofs.Laws.{filled-broken}
-use Rattle.entries.proofs.Filling.{filled-by, row_first, rows-many}
+use Rattle.entries.proofs.Filling.{filled-by}
 use Rattle.judging.proofs.Laws.{judged-broken, judged-none, judged-raised, judged-first, judged-idle}
 use Rattle.judging.proofs.Laws.{judged-cleared, judged-all}
 use Prim.Native.Nat.{suc}
@@ -17,25 +17,25 @@ returns-in_default c =
 
 pub returns-then-n-eq0 : goal.returns-then-n-eq0
 returns-then-n-eq0 c =
-    let d = filled-by _ _ (rows-many _ _ _ 8 _) c.in-Some.ensures.value c.fill.ensures.marks_after in
+    let d = filled-by _ _ c.fill.ensures.eight c.in-Some.ensures.value c.fill.ensures.marks_after in
     judged-none _ _ _ (sym d.many ∙ c.if-n-eq0.true)
 
 pub returns-then-key-ne0 : goal.returns-then-key-ne0
 returns-then-key-ne0 c =
-    let d = filled-by _ _ (rows-many _ _ _ 8 _) c.in-Some.ensures.value c.fill.ensures.marks_after in
+    let d = filled-by _ _ c.fill.ensures.eight c.in-Some.ensures.value c.fill.ensures.marks_after in
     let some = key-some _ _ c.key_of-key.ensures.0 c.if-key-ne0.true in
     c.judge_raised.ensures ∙ judged-raised d c.if-n-eq0.false _ some c.key_of-key.ensures.0
 
 pub returns-then-not-is_normal : goal.returns-then-not-is_normal
 returns-then-not-is_normal c =
-    let d = filled-by _ _ (rows-many _ _ _ 8 _) c.in-Some.ensures.value c.fill.ensures.marks_after in
+    let d = filled-by _ _ c.fill.ensures.eight c.in-Some.ensures.value c.fill.ensures.marks_after in
     let idle = key-zero _ _ c.key_of-key.ensures.0 c.if-key-ne0.false in
-    judged-first d c.if-n-eq0.false _ idle (row_first _ _ _ 7 _ ∙ c.row_at-first.ensures)
+    judged-first d c.if-n-eq0.false _ idle c.row-first.ensures
     (sym c.is_normal.ensures ∙ c.if-not-is_normal.true) c.repeated_if.ensures
 
 pub returns-then-code-ne0 : goal.returns-then-code-ne0
 returns-then-code-ne0 c =
-    let d = filled-by _ _ (rows-many _ _ _ 8 _) c.in-Some.ensures.value c.fill.ensures.marks_after in
+    let d = filled-by _ _ c.fill.ensures.eight c.in-Some.ensures.value c.fill.ensures.marks_after in
     let idle = key-zero _ _ c.key_of-key.ensures.0 c.if-key-ne0.false in
     ap (λ (x : Judged). Ok x) c.judge_cleared.ensures
     ∙ judged-cleared d c.if-n-eq0.false _ idle (sym c.is_normal.ensures ∙ c.if-not-is_normal.false)
@@ -43,7 +43,7 @@ returns-then-code-ne0 c =
 
 pub returns-then-key_in-ne0 : goal.returns-then-key_in-ne0
 returns-then-key_in-ne0 c =
-    let d = filled-by _ _ (rows-many _ _ _ 8 _) c.in-Some.ensures.value c.fill.ensures.marks_after in
+    let d = filled-by _ _ c.fill.ensures.eight c.in-Some.ensures.value c.fill.ensures.marks_after in
     let idle = key-zero _ _ c.key_of-key.ensures.0 c.if-key-ne0.false in
     judged-all d c.if-n-eq0.false _ idle (sym c.is_normal.ensures ∙ c.if-not-is_normal.false)
     (sym c.code_of-code.ensures.0 ∙ c.if-code-ne0.false)
@@ -51,9 +51,9 @@ returns-then-key_in-ne0 c =
 
 pub returns : goal.returns
 returns c =
-    let d = filled-by _ _ (rows-many _ _ _ 8 _) c.in-Some.ensures.value c.fill.ensures.marks_after in
+    let d = filled-by _ _ c.fill.ensures.eight c.in-Some.ensures.value c.fill.ensures.marks_after in
     let idle = key-zero _ _ c.key_of-key.ensures.0 c.if-key-ne0.false in
-    judged-idle d c.if-n-eq0.false _ idle (row_first _ _ _ 7 _ ∙ c.row_at-first.ensures)
+    judged-idle d c.if-n-eq0.false _ idle c.row-first.ensures
     (sym c.is_normal.ensures ∙ c.if-not-is_normal.false)
     (sym c.code_of-code.ensures.0 ∙ c.if-code-ne0.false)
     (sym c.key_in.ensures.0 ∙ c.if-key_in-ne0.false)

@@ -1,8 +1,6 @@
 -- The place of the key decides, and the row there.
 use mathlib.Core.Path.{refl, sym, ◌∙◌}
-use Prim.Native.Nat.{◌<◌}
 use native.Mathlib.Omega.{arith}
-use Rattle.entries.proofs.Filling.{row_of}
 use Rattle.marks.proofs.Laws.{found-some, found-none}
 use Rattle.judging.proofs.Laws.{raised-none, raised-free, raised_by}
 use Rattle.judging.proofs.judge_raised.Goals as goal
@@ -28,6 +26,5 @@ returns-then-marks-j-eq0 c =
 pub returns : goal.returns
 returns c =
     let f = found-some c.args.key c.args.marks.now c.in-Some.ensures in
-    let h : c.in-Some.j < 8 = omega (arith, f.1) in
     raised_by _ _ f.0 _ _ (λ e. omega (arith, f.1)) c.if-marks-j-eq0.false
-    (row_of c.args.st.now _ _ 8 _ _ h ∙ c.row_at-row.ensures) c.repeated_if.ensures
+    c.row-row.ensures c.repeated_if.ensures

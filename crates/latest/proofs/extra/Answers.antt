@@ -22,18 +22,20 @@ pub loop-i-init : goal.loop-i-init
 loop-i-init c =
     beyond-start _ _ _ _
 
-pub count-requires : goal.count-requires
-count-requires c =
+pub of-entries-requires : goal.of-entries-requires
+of-entries-requires c =
     let h : c.loop-i.i < items c.args.model.now = omega arith in
     let v =
     turn c.loop-i.invariant h (told c.has.ensures c.if-has.true)
     (told c.category.ensures c.if-category-eq-CONDITION.true) c.items-m.ensures.0 refl
     c.latest_at-t.ensures in
-    record {
-      table = rw c.slice-words.ensures.value
-          (latest-table _ _ (rw c.requires.agree at c.slice-words.ensures.head.head) v.many v.ring v.table v.below);
-      own_bound = omega (arith, v.below, c.items-m.ensures);
-    }
+    rw c.slice-words.ensures.value
+    (latest-table _ _ (rw c.requires.agree at c.slice-words.ensures.head.head) v.many v.ring v.table v.below)
+
+pub count-requires : goal.count-requires
+count-requires c =
+    let h : c.loop-i.i < items c.args.model.now = omega arith in
+    record { own_bound = omega (arith, h, c.items-m.ensures) }
 
 pub returns-in_default : goal.returns-in_default
 returns-in_default c =
@@ -42,7 +44,7 @@ returns-in_default c =
     turn c.loop-i.invariant h (told c.has.ensures c.if-has.true)
     (told c.category.ensures c.if-category-eq-CONDITION.true) c.items-m.ensures.0 refl
     c.latest_at-t.ensures in
-    beyond-unformed v (rw c.slice-words.ensures.value at c.in_default.ensures)
+    beyond-unformed v (rw (c.of-entries.ensures, c.slice-words.ensures.value) at c.in_default.ensures)
 
 pub returns-then-n-eq0 : goal.returns-then-n-eq0
 returns-then-n-eq0 c =
@@ -51,7 +53,7 @@ returns-then-n-eq0 c =
     turn c.loop-i.invariant h (told c.has.ensures c.if-has.true)
     (told c.category.ensures c.if-category-eq-CONDITION.true) c.items-m.ensures.0 refl
     c.latest_at-t.ensures in
-    beyond-empty v (rw c.slice-words.ensures.value at c.in-Some.ensures) c.if-n-eq0.true
+    beyond-empty v (rw (c.of-entries.ensures, c.slice-words.ensures.value) at c.in-Some.ensures) c.if-n-eq0.true
 
 pub overflow_add-extra : goal.overflow_add-extra
 overflow_add-extra c =
@@ -60,7 +62,7 @@ overflow_add-extra c =
     turn c.loop-i.invariant h (told c.has.ensures c.if-has.true)
     (told c.category.ensures c.if-category-eq-CONDITION.true) c.items-m.ensures.0 refl
     c.latest_at-t.ensures in
-    let more = beyond-more v (rw c.slice-words.ensures.value at c.in-Some.ensures) c.if-n-eq0.false in
+    let more = beyond-more v (rw (c.of-entries.ensures, c.slice-words.ensures.value) at c.in-Some.ensures) c.if-n-eq0.false in
     omega (arith, beyond-few more (omega (arith, c.items-m.ensures)))
 
 pub loop-i-preserved : goal.loop-i-preserved
@@ -73,7 +75,7 @@ loop-i-preserved c =
           (told w.category.ensures w.if-category-eq-CONDITION.true) c.items-m.ensures.0 refl
           c.latest_at-t.ensures in
           rw w.extra-is
-          (beyond-more v (told w.in-Some.is (rw c.slice-words.ensures.value at w.count.ensures)) w.if-n-eq0.false)
+          (beyond-more v (told w.in-Some.is (rw (w.of-entries.ensures, c.slice-words.ensures.value) at w.count.ensures)) w.if-n-eq0.false)
       | else-has w ↦
           rw w.extra-is
           (elim w.else-has.branch [

@@ -12,4 +12,4 @@ pub returns : goal.returns
 returns c =
     found-entries (category c.args.model.now) _ _ _ _ _ _ _ c.items-m.ensures.0
     (rw c.ring_size.ensures.is at c.latest_at-t.ensures) (told c.requires.item_bound.1 c.if-cat-ne-CONDITION.false)
-    c.judge.ensures
+    (rw c.of-entries.ensures at c.judge.ensures)

@@ -18,4 +18,4 @@ returns-then-category-ne-CONDITION c =
 pub returns : goal.returns
 returns c =
     over-entries _ _ _ _ _ _ c.item_of-item.ensures (omega arith) _ _ c.items-m.ensures.0
-    c.checkpoint_at-t.ensures (told c.category.ensures c.if-category-ne-CONDITION.false) c.takes_one.ensures
+    c.checkpoint_at-t.ensures (told c.category.ensures c.if-category-ne-CONDITION.false) (rw c.of-entries.ensures at c.takes_one.ensures)

@@ -4,7 +4,7 @@ use mathlib.Core.Path.{sym, ap, ◌∙◌}
 use Rattle.std.specs.Option.{is_some}
 use Rattle.changes.specs.Changes.{is_full}
 use Rattle.entries.proofs.Laws.{some-filled}
-use Rattle.entries.proofs.Filling.{formed-by, rows-many}
+use Rattle.entries.proofs.Filling.{formed-by}
 use Rattle.stepping.proofs.Laws.{takes-broken, takes-by, not_full}
 use Rattle.stepping.proofs.takes_one.Goals as goal
 use Rattle.stepping.proofs.takes_one.Goals.{in-Full, in_default}
@@ -15,7 +15,7 @@ returns-then-is_none c =
 
 pub returns : goal.returns
 returns c =
-    let d = formed-by _ _ (rows-many _ _ _ 8 _) c.fill.ensures.value c.fill.ensures.marks_after
+    let d = formed-by _ _ c.fill.ensures.eight c.fill.ensures.value c.fill.ensures.marks_after
     (c.if-is_none.ensures {u = tt}) in
     elim c.match-matches.branch [
       | in-Full w ↦
