@@ -7,7 +7,7 @@ use spec::Row;
 use std::marker::Model;
 
 // The store's words, how many rows the table has and the word that it begins at, and the item's first row; a clause
-// sees the eight rows.
+// sees the eight rows. The item's number goes beside it: with both, each clause would take a pair apart.
 #[derive(Drop)]
 pub struct Entries<'a> {
     words: &'a [u64],

@@ -70,7 +70,7 @@ fn write(model: &Words<'_>, st: &mut [u64], n: u64, b: u64, item: u64, row: Row)
     observations::set_last(st, row.number);
 }
 
-// One observation more, as last + 1.
+// One observation more, as last + 1: a row without its number, which isn't known before.
 pub fn add(model: &Words<'_>, st: &mut [u64], item: u64, time: u64, word: u64)
     requires head { Head (items model.now) st.old }
     requires st_value { room_for (category model.now) (items model.now) st.old ≡ Ok tt }
