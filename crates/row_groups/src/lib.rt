@@ -63,7 +63,7 @@ pub fn name_text<'a>(names: &'a [u8], k: u64) -> &'a [u8]
     &names[at..stop]
 }
 
-// A group's name.
+// A group's name. No one function with figures::put_level is plainer: they share neither type nor text.
 fn put_name(g: Group, out: &mut Output)
     ensures { Put out.old (group_name (group_number g)) out.new }
 {
