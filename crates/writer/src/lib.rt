@@ -33,7 +33,16 @@ impl<'a> Output<'a> {
         ensures bytes { result.bytes.now ≡ bytes.old }
         ensures at { result.at ≡ 0 }
     {
-        Output { bytes, at: 0 }
+        Output::behind(bytes, 0)
+    }
+
+    // A buffer with a text of n bytes in front, of which as much stands there as it has room for.
+    pub fn behind(bytes: &'a mut [u8], n: usize) -> Output<'a>
+        ensures same { result.bytes.ghost_name ≡ bytes.entry.ghost_name }
+        ensures bytes { result.bytes.now ≡ bytes.old }
+        ensures at { result.at ≡ n }
+    {
+        Output { bytes, at: n }
     }
 
     // How long the text so far is.
