@@ -1,5 +1,6 @@
 // The C interface: every exported function, thin over the calls of `agent`, `delivery`, `line_reading`, `line_writing`
-// and `streaming`. include/mtcore.h declares the same.
+// and `streaming`. include/mtcore.h declares the same: slices and numbers stand apart, as C hands them over, and
+// so they do in those calls.
 #![tactic(auto)]
 
 ghost use Rattle.std.specs.Prelude.{◌≡◌, take, drop};
@@ -12,7 +13,8 @@ ghost use Rattle.agent.specs.Place.{place_start, place_length};
 
 use spec::{Answer, Record, Span};
 
-// The answer of start, request, observe_batch, write_line and streams: 0 and k, or the refusal's number and 0.
+// The answer of start, request, observe_batch, write_line and streams: 0 and k, or the refusal's number and 0. C has no
+// Result.
 #[repr(C)]
 #[derive(Clone, Copy)]
 pub struct Outcome {
@@ -20,7 +22,7 @@ pub struct Outcome {
     pub count: u64,
 }
 
-// A part of the asset store; length 0 where it was refused.
+// A part of the asset store; length 0 where it was refused. C has no Option.
 #[repr(C)]
 #[derive(Clone, Copy)]
 pub struct Part {

@@ -46,6 +46,7 @@ fn taken_word(category: u64, item: u64, word: u64) -> Option<u64>
 
 // An observation of an item, its packed word told by its category: refused, Same where it repeats the item's latest, or
 // recorded. Each caller has an instance of its own, which the compiler joins into it: the walk over a batch needs that.
+// Item, time and value stand apart: each caller would join them only for them to be taken apart here.
 fn observe_with<F: FnOnce(u64) -> Option<u64>>(
     model: &Words<'_>,
     observations: &mut [u64],

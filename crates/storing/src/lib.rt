@@ -34,12 +34,13 @@ fn keep_changed(
 {
     recording::room_for(model, observations)?;
     let cell = assets::store(assets, id, body);
+    // cells are few: a TryFrom would ask for an answer that can't be
     let word = value::pack(change, Value::Event(cell as u32));
     recording::add(model, observations, change, host, word);
     Ok(cell)
 }
 
-// An asset's id and body: refused, or stored in their cell.
+// An asset's id and body, which stand apart as C hands them over: refused, or stored in their cell.
 pub fn keep_asset(
     model: &Words<'_>,
     observations: &mut [u64],

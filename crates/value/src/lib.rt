@@ -10,14 +10,16 @@ use spec::{Level, Value};
 // How many native codes there are.
 const CODES: u32 = 16777216;
 
-// The units of a packed word: of its item, of its value's kind, and of the level above a condition's code.
+// The units of a packed word: of its item, of its value's kind, and of the level above a condition's code. A constant
+// can call no From.
 const ITEM: u64 = 1099511627776;
 
 const KIND: u64 = 4294967296;
 
 const LEVEL: u64 = CODES as u64;
 
-// The kinds that have a low word.
+// The kinds that have a low word. Numbers and no enum, since a word that the C interface brings, or a lent buffer has,
+// may have any number there.
 const SAMPLE: u64 = 1;
 
 const EVENT: u64 = 2;
@@ -35,7 +37,7 @@ pub fn low_word(x: i32) -> u64
     u64::from(x.cast_unsigned())
 }
 
-// A level's number.
+// A level's number: its discriminant.
 pub fn level_number(l: Level) -> u64
     ensures value { result ≡ level_number l }
     ensures upper_bound { result < 3 }
@@ -111,6 +113,7 @@ pub fn decode(word: u64) -> Value
         return Value::Unavailable;
     }
     let kind = word / KIND;
+    // no From or TryFrom: nothing is lost behind the remainder
     let low = (word % KIND) as u32;
     match kind {
         SAMPLE => Value::Sample(low.cast_signed()),
