@@ -14,12 +14,10 @@ pub const CONDITION: u64 = 2;
 
 pub const DISCRETE: u64 = 4;
 
-// Entries of an item in each of its tables; the length of an array with a place for each of every item.
+// Entries of an item in each of its tables.
 pub const ENTRIES: u64 = 8;
 
 pub const ENTRY_SLOTS: usize = ENTRIES as usize;
-
-pub const MARK_SLOTS: usize = ENTRY_SLOTS * ITEM_SLOTS;
 
 // Names: bytes of a cell, and cells.
 pub const NAME_BYTES: usize = 24;
