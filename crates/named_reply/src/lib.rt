@@ -35,7 +35,7 @@ fn find_all(assets: &Assets, ids: &[u8], found: &mut Found) -> Result<(), Refusa
     ensures { FoundAll assets.now (split 59 ids.now) (take found.new.count found.new.cells) result }
 {
     let mut rest = ids;
-    // a slice has no split in std: each cut leaves the rest
+    // each cut leaves the rest
     while let Some((id, more)) = scan::split_once(rest, b';') {
         let cell = cell_of(assets, id)?;
         found.push(cell);
