@@ -11,22 +11,20 @@ ghost use Rattle.rows.specs.Rows.{rows_at, rows_into};
 ghost use Rattle.latest.specs.Latest.{extra_in, first_rows};
 
 use entries::Entries;
-use model::Words;
-use observations::Store;
+use observations::{Modelled, Store};
 
 // How many rows the selected condition items have beyond the first of each; None where the entries of one are not in
 // their written form, or none is used.
-pub fn extra(model: &Words<'_>, st: &Store<'_>, selection: u64) -> Option<u64>
-    requires agree { item_count st.now ≡ items model.now }
-    ensures { let model = model.entry.now in
-        result ≡ extra_in (category model) (items model) st.now selection }
+pub fn extra(source: Modelled<'_>, selection: u64) -> Option<u64>
+    ensures { let model = source.entry.model.now in
+        result ≡ extra_in (category model) (items model) source.entry.store.now selection }
 {
-    let words = st.slice();
-    let m = model.items();
-    let t = st.latest_at();
+    let words = source.store.slice();
+    let m = source.model.items();
+    let t = source.store.latest_at();
     let mut extra: u64 = 0;
     for i in 0..m {
-        if selection::has(selection, i) && model.category(i) == spec::CONDITION {
+        if selection::has(selection, i) && source.model.category(i) == spec::CONDITION {
             let entries = Entries::of(words, spec::ENTRIES * m, t, spec::ENTRIES * i);
             let Some(n) = entries::count(&entries, i) else {
                 return None;
@@ -41,7 +39,8 @@ pub fn extra(model: &Words<'_>, st: &Store<'_>, selection: u64) -> Option<u64>
 }
 
 // The used ones of eight entries, the rows from row x on of the table of w rows at word t, where `done` of the k rows
-// are written; how many are written then.
+// are written; how many are written then. `done`, `k` and `out` stay apart: a struct would hold a lent buffer, and each
+// contract would name its three parts and say that it lends the same buffer still.
 fn write_entries(st: &[u64], w: u64, t: u64, x: u64, done: u64, k: u64, out: &mut [u64]) -> u64
     requires table { Table w t x (length st.now) }
     requires x_bound { (done + length (used_rows (table_rows st.now t w 8 x)) ≤ k) × (3 * k ≤ length out.old) }
@@ -92,24 +91,23 @@ fn write_firsts(st: &Store<'_>, selection: u64, k: u64, out: &mut [u64])
 }
 
 // The rows of the selected items' latest entries, which are k: of each as many as it has.
-fn write_each(model: &Words<'_>, st: &Store<'_>, selection: u64, k: u64, out: &mut [u64])
-    requires agree { item_count st.now ≡ items model.now }
-    requires k_value { k ≡ length
-        (current_rows (category model.now) (ring_size st.now) (items model.now) st.now selection) }
+fn write_each(source: Modelled<'_>, selection: u64, k: u64, out: &mut [u64])
+    requires k_value { let model = source.model.now in
+        let st = source.store.now in
+        k ≡ length (current_rows (category model) (ring_size st) (items model) st selection) }
     requires k_in_bounds { 3 * k ≤ length out.old }
-    ensures { let cat = category model.now in
-        let m = items model.now in
-        let rows = current_rows cat (ring_size st.now) m st.now selection in
-        out.new ≡ rows_into out.old k rows }
+    ensures { let model = source.entry.model.now in
+        let st = source.entry.store.now in
+        out.new ≡ rows_into out.old k (current_rows (category model) (ring_size st) (items model) st selection) }
 {
-    let words = st.slice();
-    let m = model.items();
+    let words = source.store.slice();
+    let m = source.model.items();
     let w = spec::ENTRIES * m;
-    let t = st.latest_at();
+    let t = source.store.latest_at();
     let mut c: u64 = 0;
     for i in 0..m {
         if selection::has(selection, i) {
-            if model.category(i) == spec::CONDITION {
+            if source.model.category(i) == spec::CONDITION {
                 c = write_entries(words, w, t, spec::ENTRIES * i, c, k, out);
             } else {
                 write_first(words, w, t, spec::ENTRIES * i, c, k, out);
@@ -121,22 +119,22 @@ fn write_each(model: &Words<'_>, st: &Store<'_>, selection: u64, k: u64, out: &m
 
 // Current: the rows of the selected items' latest entries, which are k. Most often there is one to an item, whatever
 // its category.
-pub fn write_latest(model: &Words<'_>, st: &Store<'_>, selection: u64, k: u64, out: &mut [u64])
-    requires agree { item_count st.now ≡ items model.now }
-    requires fact { let cat = category model.now in
-        let m = items model.now in
-        (selection < 2 ^ m) × (current_ok cat (ring_size st.now) m st.now selection ≡ true) }
-    requires k_value { k ≡ length
-        (current_rows (category model.now) (ring_size st.now) (items model.now) st.now selection) }
+pub fn write_latest(source: Modelled<'_>, selection: u64, k: u64, out: &mut [u64])
+    requires fact { let model = source.model.now in
+        let st = source.store.now in
+        (selection < 2 ^ items model)
+        × (current_ok (category model) (ring_size st) (items model) st selection ≡ true) }
+    requires k_value { let model = source.model.now in
+        let st = source.store.now in
+        k ≡ length (current_rows (category model) (ring_size st) (items model) st selection) }
     requires k_in_bounds { 3 * k ≤ length out.old }
-    ensures { let cat = category model.now in
-        let m = items model.now in
-        let rows = current_rows cat (ring_size st.now) m st.now selection in
-        out.new ≡ rows_into out.old k rows }
+    ensures { let model = source.entry.model.now in
+        let st = source.entry.store.now in
+        out.new ≡ rows_into out.old k (current_rows (category model) (ring_size st) (items model) st selection) }
 {
     if k == selection::count(selection) {
-        write_firsts(st, selection, k, out);
+        write_firsts(source.store, selection, k, out);
     } else {
-        write_each(model, st, selection, k, out);
+        write_each(source, selection, k, out);
     }
 }

@@ -10,8 +10,10 @@ ghost use Rattle.history.specs.Observations.{head_ok, Head, blank};
 ghost use Rattle.history.specs.Calls.{first};
 ghost use Rattle.observations.specs.Ring.{ring_time, ring_word};
 
+mod modelled;
 mod store;
 
+pub use modelled::Modelled;
 pub use spec::Row;
 pub use store::{Store, checked};
 
@@ -54,6 +56,8 @@ pub fn checkpoint_at(n: u64, m: u64) -> u64
 {
     latest_at(n) + TABLE_WORDS * m
 }
+
+// What the head says, over words: those who write a store hold them alone. `Store`'s methods are these.
 
 // How many observations the ring holds at most.
 pub fn ring_size(st: &[u64], m: u64) -> u64

@@ -6,10 +6,9 @@ ghost use Rattle.history.specs.Observations.{max_ring, max_number, ring_size, it
 ghost use Rattle.history.specs.Observations.{latest_at, checkpoint_at, place, head_ok};
 ghost use Rattle.spec.specs.Words.{row};
 ghost use Rattle.history.specs.Calls.{first};
-ghost use Rattle.observations.specs.Ring.{ring_time, ring_word};
 ghost use Rattle.observations.specs.Headed.{Headed};
 
-use super::{BASE_AT, ITEM_COUNT_AT, LAST_AT, RING_AT, RING_SIZE_AT, Row, head_ok};
+use super::{ITEM_COUNT_AT, Row, head_ok};
 use spec::Refusal;
 use std::marker::Model;
 
@@ -56,14 +55,14 @@ impl<'a> Store<'a> {
         ensures is { result ≡ ring_size self.now }
         ensures bounds { (1 ≤ result) × (result ≤ max_ring) }
     {
-        self.words[RING_SIZE_AT]
+        super::ring_size(self.words, self.items())
     }
 
     // The first number.
     pub fn base(&self) -> u64
         ensures { result ≡ base self.now }
     {
-        self.words[BASE_AT]
+        super::base(self.words, self.items())
     }
 
     // The newest number.
@@ -71,7 +70,7 @@ impl<'a> Store<'a> {
         ensures is { result ≡ last self.now }
         ensures high { result ≤ max_number }
     {
-        self.words[LAST_AT]
+        super::last(self.words, self.items())
     }
 
     // The lowest number that the ring holds.
@@ -80,11 +79,7 @@ impl<'a> Store<'a> {
         ensures low { base self.now ≤ result }
         ensures high { result ≤ last self.now + 1 }
     {
-        let words = self.words;
-        let n = words[RING_SIZE_AT];
-        let b = words[BASE_AT];
-        let next = words[LAST_AT] + 1;
-        if b + n <= next { next - n } else { b }
+        super::first(self.words, self.items())
     }
 
     // The ring place of number s.
@@ -93,8 +88,7 @@ impl<'a> Store<'a> {
         ensures is { result ≡ place (ring_size self.now) (base self.now) s }
         ensures low { result < ring_size self.now }
     {
-        let words = self.words;
-        super::place(words[RING_SIZE_AT], words[BASE_AT], s)
+        super::place(self.ring_size(), self.base(), s)
     }
 
     // Where the latest table begins.
@@ -119,24 +113,6 @@ impl<'a> Store<'a> {
     {
         let t = self.checkpoint_at();
         super::row_at(self.words, spec::ENTRIES * self.items(), t, k)
-    }
-
-    // The time at place p of the ring.
-    pub fn ring_time(&self, p: u64) -> u64
-        requires { p < ring_size self.now }
-        ensures { result ≡ ring_time self.now (ring_size self.now) p }
-    {
-        let words = self.words;
-        words[(RING_AT + p) as usize]
-    }
-
-    // The packed word at place p of the ring.
-    pub fn ring_word(&self, p: u64) -> u64
-        requires { p < ring_size self.now }
-        ensures { result ≡ ring_word self.now (ring_size self.now) p }
-    {
-        let words = self.words;
-        words[(RING_AT + words[RING_SIZE_AT] + p) as usize]
     }
 }
 

@@ -78,7 +78,7 @@ pub fn pass(
         Passed steps (item_count st) st f f e marks.old marks.new seen.old seen.new (is_some result) }
 {
     let mut picks = [0u8; PICK_SLOTS];
-    let (front, back) = rows::runs(st, f, e);
+    let (front, back) = rows::runs(st.ring_size(), st.base(), f, e);
     pass_run(st, steps, f, front, seen, &mut picks, marks)?;
     pass_run(st, steps, f, back, seen, &mut picks, marks)
 }

@@ -34,13 +34,15 @@ impl Run {
     }
 }
 
-// The two runs of the numbers from f up to e, at most a ring of them: up to the ring's end, then from place 0 on.
-pub fn runs(st: &Store<'_>, f: u64, e: u64) -> (Run, Run)
-    requires st_bound { (base st.now ≤ f) × ((f ≤ e) × (e - f ≤ ring_size st.now)) }
-    ensures { TwoRuns (ring_size st.now) (base st.now) f e result.0 result.1 }
+// The two runs of the numbers from f up to e, at most a ring of them, for a ring of n entries and the first number b:
+// up to the ring's end, then from place 0 on.
+pub fn runs(n: u64, b: u64, f: u64, e: u64) -> (Run, Run)
+    requires n_pos { 1 ≤ n }
+    requires range { (b ≤ f) × ((f ≤ e) × (e - f ≤ n)) }
+    ensures { TwoRuns n b f e result.0 result.1 }
 {
-    let place = st.place(f);
-    let turn = f + (st.ring_size() - place).min(e - f);
+    let place = observations::place(n, b, f);
+    let turn = f + (n - place).min(e - f);
     let front = Run {
         place,
         from: f,
@@ -78,7 +80,7 @@ pub fn count_rows(st: &Store<'_>, selection: u64, f: u64, e: u64) -> Option<u64>
     requires st_bound { (base st.now ≤ f) × ((f ≤ e) × (e - f ≤ ring_size st.now)) }
     ensures { result ≡ counted (item_count st.now) st.now selection f e }
 {
-    let (front, back) = runs(st, f, e);
+    let (front, back) = runs(st.ring_size(), st.base(), f, e);
     let before = count_run(st, selection, front)?;
     let behind = count_run(st, selection, back)?;
     Some(before + behind)
@@ -130,7 +132,7 @@ pub fn write_rows(st: &Store<'_>, selection: u64, f: u64, e: u64, k: u64, out: &
     requires k_value { (k ≡ length (sampled st.now selection f e)) × (3 * k ≤ length out.old) }
     ensures { out.new ≡ rows_into out.old k (sampled st.now selection f e) }
 {
-    let (front, back) = runs(st, f, e);
+    let (front, back) = runs(st.ring_size(), st.base(), f, e);
     let done = write_run(st, selection, front, 0, k, out);
     write_run(st, selection, back, done, k, out);
 }

@@ -16,7 +16,7 @@ ghost use Rattle.snapshots.specs.Snapshots.{steps_of, begun, forms_ok, plain_pla
 use entries::Entries;
 use marks::Marks;
 use model::Words;
-use observations::Store;
+use observations::{Modelled, Store};
 use spec::{ENTRY_SLOTS, ITEM_SLOTS};
 
 // The selected condition items.
@@ -97,33 +97,26 @@ fn settle(st: &Store<'_>, selection: u64, steps: u64, seen: &[u64; ITEM_SLOTS], 
 // The rows behind the numbers from f up to e, at most a ring of them, to the marks, which are 0. None where a number
 // has no item of the model, a selected condition item's checkpoint isn't in its written form, or one comes to nine
 // entries.
-pub fn hold(
-    model: &Words<'_>,
-    st: &Store<'_>,
-    selection: u64,
-    f: u64,
-    e: u64,
-    marks: &mut Marks,
-) -> Option<()>
-    requires agree { item_count st.now ≡ items model.now }
-    requires st_bound { (base st.now ≤ f) × ((f ≤ e) × (e - f ≤ ring_size st.now)) }
+pub fn hold(source: Modelled<'_>, selection: u64, f: u64, e: u64, marks: &mut Marks) -> Option<()>
+    requires st_bound { let st = source.store.now in (base st ≤ f) × ((f ≤ e) × (e - f ≤ ring_size st)) }
     requires marks_value { marks.old ≡ replicate max_items (replicate 8 0) }
-    ensures result_value { let st = st.entry.now in
-        let m = items model.now in
-        let cat = category model.now in
+    ensures result_value { let st = source.entry.store.now in
+        let m = items source.entry.model.now in
+        let cat = category source.entry.model.now in
         is_some result
         ≡ (ring_ok (ring_size st) m (base st) st (e - f) f
         && at_ok cat (ring_size st) m (base st) st selection (e - f) f) }
     ensures fact { is_some result ≡ true →
-        let st = st.entry.now in
-        let m = items model.now in
-        let cat = category model.now in
+        let st = source.entry.store.now in
+        let m = items source.entry.model.now in
+        let cat = category source.entry.model.now in
         held_by m st f marks.new selection ≡ at_rows cat (ring_size st) m (base st) st selection (e - f) f }
 {
+    let st = source.store;
     // behind it the head is known
     let _ = st.slice();
     let mut seen = [0u64; ITEM_SLOTS];
-    let steps = steps_of(model, selection);
+    let steps = steps_of(source.model, selection);
     begin(st, steps, marks)?;
     passes::pass(st, steps, f, e, &mut seen, marks)?;
     settle(st, selection, steps, &seen, marks);

@@ -24,22 +24,22 @@ loop-i-init c =
 
 pub of-entries-requires : goal.of-entries-requires
 of-entries-requires c =
-    let h : c.loop-i.i < items c.args.model.now = omega arith in
+    let h : c.loop-i.i < items c.args.source.model.now = omega arith in
     let v =
     turn c.loop-i.invariant h (told c.has.ensures c.if-has.true)
     (told c.category.ensures c.if-category-eq-CONDITION.true) c.items-m.ensures.0 refl
     c.latest_at-t.ensures in
     rw c.slice-words.ensures.value
-    (latest-table _ _ (rw c.requires.agree at c.slice-words.ensures.head.head) v.many v.ring v.table v.below)
+    (latest-table _ _ (rw c.args.source.agree at c.slice-words.ensures.head.head) v.many v.ring v.table v.below)
 
 pub count-requires : goal.count-requires
 count-requires c =
-    let h : c.loop-i.i < items c.args.model.now = omega arith in
+    let h : c.loop-i.i < items c.args.source.model.now = omega arith in
     record { own_bound = omega (arith, h, c.items-m.ensures) }
 
 pub returns-in_default : goal.returns-in_default
 returns-in_default c =
-    let h : c.loop-i.i < items c.args.model.now = omega arith in
+    let h : c.loop-i.i < items c.args.source.model.now = omega arith in
     let v =
     turn c.loop-i.invariant h (told c.has.ensures c.if-has.true)
     (told c.category.ensures c.if-category-eq-CONDITION.true) c.items-m.ensures.0 refl
@@ -48,7 +48,7 @@ returns-in_default c =
 
 pub returns-then-n-eq0 : goal.returns-then-n-eq0
 returns-then-n-eq0 c =
-    let h : c.loop-i.i < items c.args.model.now = omega arith in
+    let h : c.loop-i.i < items c.args.source.model.now = omega arith in
     let v =
     turn c.loop-i.invariant h (told c.has.ensures c.if-has.true)
     (told c.category.ensures c.if-category-eq-CONDITION.true) c.items-m.ensures.0 refl
@@ -57,7 +57,7 @@ returns-then-n-eq0 c =
 
 pub overflow_add-extra : goal.overflow_add-extra
 overflow_add-extra c =
-    let h : c.loop-i.i < items c.args.model.now = omega arith in
+    let h : c.loop-i.i < items c.args.source.model.now = omega arith in
     let v =
     turn c.loop-i.invariant h (told c.has.ensures c.if-has.true)
     (told c.category.ensures c.if-category-eq-CONDITION.true) c.items-m.ensures.0 refl
@@ -67,7 +67,7 @@ overflow_add-extra c =
 
 pub loop-i-preserved : goal.loop-i-preserved
 loop-i-preserved c =
-    let h : c.loop-i.i < items c.args.model.now = omega arith in
+    let h : c.loop-i.i < items c.args.source.model.now = omega arith in
     elim c.if-has.branch [
       | then-has+then-category-eq-CONDITION+in-Some+else-n-eq0 w ↦
           let v =

@@ -16,9 +16,9 @@ loop-i-init c =
 pub write_entries-c-requires : goal.write_entries-c-requires
 write_entries-c-requires c =
     let v = c.loop-i.invariant in
-    let h : c.loop-i.i < items c.args.model.now = omega arith in record {
+    let h : c.loop-i.i < items c.args.source.model.now = omega arith in record {
       table = rw c.slice-words.ensures.value
-          (latest-table _ _ (rw c.requires.agree at c.slice-words.ensures.head.head) c.items-m.ensures.0 refl
+          (latest-table _ _ (rw c.args.source.agree at c.slice-words.ensures.head.head) c.items-m.ensures.0 refl
           c.latest_at-t.ensures h);
       x_bound = (
         rw c.slice-words.ensures.value (entries-room v h (told c.has.ensures c.if-has.true) c.items-m.ensures.0 refl
@@ -31,9 +31,9 @@ write_entries-c-requires c =
 pub write_first-requires : goal.write_first-requires
 write_first-requires c =
     let v = c.loop-i.invariant in
-    let h : c.loop-i.i < items c.args.model.now = omega arith in record {
+    let h : c.loop-i.i < items c.args.source.model.now = omega arith in record {
       table = rw c.slice-words.ensures.value
-          (latest-table _ _ (rw c.requires.agree at c.slice-words.ensures.head.head) c.items-m.ensures.0 refl
+          (latest-table _ _ (rw c.args.source.agree at c.slice-words.ensures.head.head) c.items-m.ensures.0 refl
           c.latest_at-t.ensures h);
       done_lt_k = (
         first-room v h (told c.has.ensures c.if-has.true) c.items-m.ensures.0 refl
@@ -46,7 +46,7 @@ write_first-requires c =
 pub loop-i-preserved : goal.loop-i-preserved
 loop-i-preserved c =
     let v = c.loop-i.invariant in
-    let h : c.loop-i.i < items c.args.model.now = omega arith in
+    let h : c.loop-i.i < items c.args.source.model.now = omega arith in
     elim c.if-has.branch [
       | then-has+then-category-eq-CONDITION w ↦
           rw (w.out-is, w.c-is)

@@ -12,9 +12,8 @@ use Rattle.observation_reply.proofs.reply_at.Goals as goal
 pub hold-requires : goal.hold-requires
 hold-requires c =
     let f = c.first-first in
-    let r = in-ring c.args.st.now f.result (c.args.number + 1) (omega (arith, f.ensures.is)) (omega arith) in
+    let r = in-ring c.args.source.store.now f.result (c.args.number + 1) (omega (arith, f.ensures.is)) (omega arith) in
     record {
-      agree = c.requires.agree;
       st_bound = (r.0, (omega (arith, f.ensures.is), r.1));
       marks_value = search rules;
     }
@@ -25,7 +24,7 @@ returns-in_err-ok_or c =
     let n = none-of c.hold.result c.ok_or.ensures.value c.in_err-ok_or.was in
     rw (p.1, p.2, n.1)
     (both _
-    (at-broken _ _ c.args.st.now c.args.selection c.args.number _ c.args.reply.now
+    (at-broken _ _ c.args.source.store.now c.args.selection c.args.number _ c.args.reply.now
     c.first-first.ensures.is c.hold.ensures.result_value (sym (ap is_some n.0))))
 
 pub returns-in_err-fit_sizes : goal.returns-in_err-fit_sizes
@@ -34,9 +33,9 @@ returns-in_err-fit_sizes c =
     let p = err_from_is_err_and c.from_residual-in_err-fit_sizes.result c.from_residual-in_err-fit_sizes.ensures.1 in
     rw (p.1, p.2, c.fit_sizes.ensures.refused _ w)
     (both _
-    (at-short _ _ c.args.st.now c.args.selection c.args.number _ c.args.reply.now
+    (at-short _ _ c.args.source.store.now c.args.selection c.args.number _ c.args.reply.now
     c.first-first.ensures.is c.hold.ensures.result_value (sym (ap is_some (some-of c.hold.result _ c.ok_or.ensures.value c.in_ok-ok_or.was))) c.hold.ensures.fact
-    (held-many (c.items.ensures.0 ∙ c.requires.agree) _ _ _ _ _ c.count-k.ensures.0) c.last-last.ensures.is
+    (held-many (c.items.ensures.0 ∙ c.args.source.agree) _ _ _ _ _ c.count-k.ensures.0) c.last-last.ensures.is
     c.fit_sizes.ensures.fitted (ap is_ok w)))
 
 pub slice_bounds-write_held-count : goal.slice_bounds-write_held-count
@@ -45,7 +44,7 @@ slice_bounds-write_held-count c =
 
 pub write_held-requires : goal.write_held-requires
 write_held-requires c =
-    let k = held-many c.items.ensures.0 c.args.st.now _ _ _ _ c.count-k.ensures.0 in
+    let k = held-many c.items.ensures.0 c.args.source.store.now _ _ _ _ c.count-k.ensures.0 in
     let y = (ap is_ok c.in_ok-fit_sizes.was) in
     record {
       st_bound = (c.first-first.ensures.low, omega (arith, c.first-first.ensures.high));
@@ -55,7 +54,7 @@ write_held-requires c =
 pub returns : goal.returns
 returns c =
     both _
-    (at-whole _ _ c.args.st.now c.args.selection c.args.number _ c.args.reply.now
+    (at-whole _ _ c.args.source.store.now c.args.selection c.args.number _ c.args.reply.now
     c.first-first.ensures.is c.hold.ensures.result_value (sym (ap is_some (some-of c.hold.result _ c.ok_or.ensures.value c.in_ok-ok_or.was))) c.hold.ensures.fact
-    (held-many (c.items.ensures.0 ∙ c.requires.agree) _ _ _ _ _ c.count-k.ensures.0) c.last-last.ensures.is
-    c.fit_sizes.ensures.fitted _ (ap is_ok c.in_ok-fit_sizes.was) (rw c.requires.agree at c.write_held.ensures))
+    (held-many (c.items.ensures.0 ∙ c.args.source.agree) _ _ _ _ _ c.count-k.ensures.0) c.last-last.ensures.is
+    c.fit_sizes.ensures.fitted _ (ap is_ok c.in_ok-fit_sizes.was) (rw c.args.source.agree at c.write_held.ensures))

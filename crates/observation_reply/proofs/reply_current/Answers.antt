@@ -15,22 +15,22 @@ returns-in_err-extra c =
     let n = none-of c.extra.result c.ok_or.ensures.value c.in_err-extra.was in
     rw (p.1, p.2, n.1)
     (both _
-    (current-broken _ _ c.args.st.now c.args.selection c.args.reply.now (n.0 ∙ c.extra.ensures)))
+    (current-broken _ _ c.args.source.store.now c.args.selection c.args.reply.now (n.0 ∙ c.extra.ensures)))
 
 pub overflow_add-k : goal.overflow_add-k
 overflow_add-k c =
     let n = some-of c.extra.result _ c.ok_or.ensures.value c.in_ok-extra.was ∙ c.extra.ensures in
-    omega (arith, extra-few (category c.args.model.now) _ _ _ n c.slice.ensures.sizes.m_max)
+    omega (arith, extra-few (category c.args.source.model.now) _ _ _ n c.slice.ensures.sizes.m_max)
 
 pub overflow_mul-k : goal.overflow_mul-k
 overflow_mul-k c =
     let n = some-of c.extra.result _ c.ok_or.ensures.value c.in_ok-extra.was ∙ c.extra.ensures in
-    omega (arith, extra-few (category c.args.model.now) _ _ _ n c.slice.ensures.sizes.m_max)
+    omega (arith, extra-few (category c.args.source.model.now) _ _ _ n c.slice.ensures.sizes.m_max)
 
 pub fit_sizes-requires : goal.fit_sizes-requires
 fit_sizes-requires c =
     let n = some-of c.extra.result _ c.ok_or.ensures.value c.in_ok-extra.was ∙ c.extra.ensures in
-    omega (arith, extra-few (category c.args.model.now) _ _ _ n c.slice.ensures.sizes.m_max)
+    omega (arith, extra-few (category c.args.source.model.now) _ _ _ n c.slice.ensures.sizes.m_max)
 
 pub returns-in_err-fit_sizes : goal.returns-in_err-fit_sizes
 returns-in_err-fit_sizes c =
@@ -39,7 +39,7 @@ returns-in_err-fit_sizes c =
     let p = err_from_is_err_and c.from_residual-in_err-fit_sizes.result c.from_residual-in_err-fit_sizes.ensures.1 in
     rw (p.1, p.2, c.fit_sizes.ensures.refused _ w)
     (both _
-    (current-short _ _ c.args.st.now c.args.selection c.args.reply.now n c.requires.selection_bound
+    (current-short _ _ c.args.source.store.now c.args.selection c.args.reply.now n c.requires.selection_bound
     c.count.ensures.0 c.first-first.ensures.is c.last-last.ensures.is c.fit_sizes.ensures.fitted (ap is_ok w)))
 
 pub slice_bounds-write_latest-count : goal.slice_bounds-write_latest-count
@@ -50,9 +50,8 @@ pub write_latest-requires : goal.write_latest-requires
 write_latest-requires c =
     let n = some-of c.extra.result _ c.ok_or.ensures.value c.in_ok-extra.was ∙ c.extra.ensures in
     record {
-      agree = c.requires.agree;
-      fact = (c.requires.selection_bound, extra-ok (category c.args.model.now) _ _ _ n);
-      k_value = current-many _ _ c.args.st.now c.args.selection c.args.reply.now n c.requires.selection_bound
+      fact = (c.requires.selection_bound, extra-ok (category c.args.source.model.now) _ _ _ n);
+      k_value = current-many _ _ c.args.source.store.now c.args.selection c.args.reply.now n c.requires.selection_bound
           c.count.ensures.0;
       k_in_bounds = lends c.fit_sizes.ensures.fitted (ap is_ok c.in_ok-fit_sizes.was) _ (omega arith);
     }
@@ -61,6 +60,6 @@ pub returns : goal.returns
 returns c =
     let n = some-of c.extra.result _ c.ok_or.ensures.value c.in_ok-extra.was ∙ c.extra.ensures in
     both _
-    (current-whole _ _ c.args.st.now c.args.selection c.args.reply.now n c.requires.selection_bound
+    (current-whole _ _ c.args.source.store.now c.args.selection c.args.reply.now n c.requires.selection_bound
     c.count.ensures.0 c.first-first.ensures.is c.last-last.ensures.is c.fit_sizes.ensures.fitted _
     (ap is_ok c.in_ok-fit_sizes.was) c.write_latest.ensures)

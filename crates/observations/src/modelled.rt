@@ -1,0 +1,14 @@
+// A model and an observation store for as many items as it has.
+ghost use Rattle.std.specs.Prelude.{◌≡◌};
+ghost use Rattle.spec.specs.Model.{items};
+ghost use Rattle.history.specs.Observations.{item_count};
+
+use super::Store;
+use model::Words;
+
+#[derive(Clone, Copy)]
+pub struct Modelled<'a> {
+    pub model: &'a Words<'a>,
+    pub store: &'a Store<'a>,
+    ghost agree: { item_count store.now ≡ items model.now },
+}
