@@ -10,7 +10,8 @@ use lib.ListN.{length, set, take, drop, length-append, length-take, length-drop,
 use lib.Seq.{sets, sets-eq, set_comm, length-sets, take_all, take_at, drop-append-add, drop-drop}
 use borrow.Author.Tests.{leb-true}
 use Rattle.spec.specs.Reply.{Replied, over, written}
-use Rattle.std.specs.Prelude.{Option, Some, None, Result, Ok, Err}
+use Rattle.std.specs.Prelude.{Option, Some, None, Result, Ok, Err, IsErrAnd}
+use Rattle.std.proofs.lemmas.Result.{err_from_is_err_and}
 use Rattle.std.specs.Option.{ok_or}
 use Rattle.spec.specs.declared.Refusal.{Refusal}
 use Rattle.spec.specs.declared.Refusal.TheVariants.{Space}
@@ -128,3 +129,13 @@ pub some-of : {A : Type 0} (o : Option A) (e : Refusal) {x : A} {r : Result A Re
     → Some x ≡ o
 some-of None e h g = cc
 some-of (Some y) e h g = cc
+
+-- the refusal is the call's answer
+pub refused : (o : Replied) {r : Answer} {d e : Refusal} {y : List ℕ} → IsErrAnd r (λ z. z ≡ d) → d ≡ e
+    → o ≡ record { answer = Err e; reply = y } → (r ≡ o.answer) × (y ≡ o.reply)
+refused o {r} h g w = let p = err_from_is_err_and r h in rw (p.1, p.2, g) (both o w)
+
+pub none-refused : {A : Type 0} (x : Option A) {e d : Refusal} {q : Result A Refusal} (o : Replied) {r : Answer}
+    {y : List ℕ} → IsErrAnd r (λ z. z ≡ d) → q ≡ ok_or x e → q ≡ Err d
+    → (None ≡ x → o ≡ record { answer = Err e; reply = y }) → (r ≡ o.answer) × (y ≡ o.reply)
+none-refused x o h g was w = let n = none-of x g was in refused o h n.1 (w n.0)

@@ -125,7 +125,8 @@ fn write_run(st: &Store<'_>, selection: u64, run: Run, done: u64, k: u64, out: &
     c
 }
 
-// The rows of the numbers from f up to e, which are k: k numbers, then k pairs of time and packed word.
+// The rows of the numbers from f up to e, which are k: k numbers, then k pairs of time and packed word. So no slice of
+// rows has the form of `out`, and its room stays a clause.
 pub fn write_rows(st: &Store<'_>, selection: u64, f: u64, e: u64, k: u64, out: &mut [u64])
     requires st_bound { (base st.now ≤ f) × ((f ≤ e) × (e - f ≤ ring_size st.now)) }
     requires e_value { items_ok (item_count st.now) st.now f e ≡ true }

@@ -2,9 +2,8 @@
 use Prim.Native.Nat.{◌+◌}
 use mathlib.Core.Path.{sym, ap, ◌∙◌}
 use Rattle.std.specs.Prelude.{is_ok, is_some}
-use Rattle.std.proofs.lemmas.Result.{err_from_is_err_and}
 use native.Mathlib.Omega.{arith}
-use Rattle.reply.proofs.Laws.{behind, lends, both, none-of, some-of}
+use Rattle.reply.proofs.Laws.{behind, lends, both, some-of, refused, none-refused}
 use Rattle.observation_reply.proofs.Laws.{in-ring, at-broken, at-short, at-whole, held-many}
 use borrow.Author.Rules.{rules}
 use Rattle.observation_reply.proofs.reply_at.Goals as goal
@@ -20,23 +19,19 @@ hold-requires c =
 
 pub returns-in_err-ok_or : goal.returns-in_err-ok_or
 returns-in_err-ok_or c =
-    let p = err_from_is_err_and c.from_residual.result c.from_residual.ensures.1 in
-    let n = none-of c.hold.result c.ok_or.ensures.value c.in_err-ok_or.was in
-    rw (p.1, p.2, n.1)
-    (both _
-    (at-broken _ _ c.args.source.store.now c.args.selection c.args.number _ c.args.reply.now
-    c.first-first.ensures.is c.hold.ensures.result_value (sym (ap is_some n.0))))
+    none-refused c.hold.result _ c.from_residual.ensures.1 c.ok_or.ensures.value c.in_err-ok_or.was
+    (λ n.
+    at-broken _ _ c.args.source.store.now c.args.selection c.args.number _ c.args.reply.now
+    c.first-first.ensures.is c.hold.ensures.result_value (sym (ap is_some n)))
 
 pub returns-in_err-fit_sizes : goal.returns-in_err-fit_sizes
 returns-in_err-fit_sizes c =
     let w = c.in_err-fit_sizes.was in
-    let p = err_from_is_err_and c.from_residual-in_err-fit_sizes.result c.from_residual-in_err-fit_sizes.ensures.1 in
-    rw (p.1, p.2, c.fit_sizes.ensures.refused _ w)
-    (both _
+    refused _ c.from_residual-in_err-fit_sizes.ensures.1 (c.fit_sizes.ensures.refused _ w)
     (at-short _ _ c.args.source.store.now c.args.selection c.args.number _ c.args.reply.now
     c.first-first.ensures.is c.hold.ensures.result_value (sym (ap is_some (some-of c.hold.result _ c.ok_or.ensures.value c.in_ok-ok_or.was))) c.hold.ensures.fact
     (held-many (c.items.ensures.0 ∙ c.args.source.agree) _ _ _ _ _ c.count-k.ensures.0) c.last-last.ensures.is
-    c.fit_sizes.ensures.fitted (ap is_ok w)))
+    c.fit_sizes.ensures.fitted (ap is_ok w))
 
 pub slice_bounds-write_held-count : goal.slice_bounds-write_held-count
 slice_bounds-write_held-count c =

@@ -2,20 +2,16 @@
 use mathlib.Core.Path.{ap, ◌∙◌}
 use native.Mathlib.Omega.{arith}
 use Rattle.spec.specs.Model.{category}
-use Rattle.std.proofs.lemmas.Result.{err_from_is_err_and}
 use Rattle.std.specs.Prelude.{is_ok}
 use Rattle.latest.proofs.Laws.{extra-few, extra-ok}
-use Rattle.reply.proofs.Laws.{behind, lends, both, none-of, some-of}
+use Rattle.reply.proofs.Laws.{behind, lends, both, some-of, refused, none-refused}
 use Rattle.observation_reply.proofs.Laws.{current-broken, current-many, current-short, current-whole}
 use Rattle.observation_reply.proofs.reply_current.Goals as goal
 
 pub returns-in_err-extra : goal.returns-in_err-extra
 returns-in_err-extra c =
-    let p = err_from_is_err_and c.from_residual.result c.from_residual.ensures.1 in
-    let n = none-of c.extra.result c.ok_or.ensures.value c.in_err-extra.was in
-    rw (p.1, p.2, n.1)
-    (both _
-    (current-broken _ _ c.args.source.store.now c.args.selection c.args.reply.now (n.0 ∙ c.extra.ensures)))
+    none-refused c.extra.result _ c.from_residual.ensures.1 c.ok_or.ensures.value c.in_err-extra.was
+    (λ n. current-broken _ _ c.args.source.store.now c.args.selection c.args.reply.now (n ∙ c.extra.ensures))
 
 pub overflow_add-k : goal.overflow_add-k
 overflow_add-k c =
@@ -36,11 +32,9 @@ pub returns-in_err-fit_sizes : goal.returns-in_err-fit_sizes
 returns-in_err-fit_sizes c =
     let n = some-of c.extra.result _ c.ok_or.ensures.value c.in_ok-extra.was ∙ c.extra.ensures in
     let w = c.in_err-fit_sizes.was in
-    let p = err_from_is_err_and c.from_residual-in_err-fit_sizes.result c.from_residual-in_err-fit_sizes.ensures.1 in
-    rw (p.1, p.2, c.fit_sizes.ensures.refused _ w)
-    (both _
+    refused _ c.from_residual-in_err-fit_sizes.ensures.1 (c.fit_sizes.ensures.refused _ w)
     (current-short _ _ c.args.source.store.now c.args.selection c.args.reply.now n c.requires.selection_bound
-    c.count.ensures.0 c.first-first.ensures.is c.last-last.ensures.is c.fit_sizes.ensures.fitted (ap is_ok w)))
+    c.count.ensures.0 c.first-first.ensures.is c.last-last.ensures.is c.fit_sizes.ensures.fitted (ap is_ok w))
 
 pub slice_bounds-write_latest-count : goal.slice_bounds-write_latest-count
 slice_bounds-write_latest-count c =

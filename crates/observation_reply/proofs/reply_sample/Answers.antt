@@ -1,11 +1,10 @@
 -- The rows that were counted are written behind the sizes.
 use mathlib.Core.Path.{ap, ◌∙◌}
 use native.Mathlib.Omega.{arith}
-use Rattle.std.proofs.lemmas.Result.{err_from_is_err_and}
 use Rattle.std.specs.Prelude.{is_ok}
 use Rattle.history.specs.Observations.{item_count}
 use Rattle.rows.proofs.Laws.{counted-count}
-use Rattle.reply.proofs.Laws.{behind, lends, both, none-of, some-of}
+use Rattle.reply.proofs.Laws.{behind, lends, both, some-of, refused, none-refused}
 use Rattle.observation_reply.proofs.Laws.{in-ring, in-ring-few, sample-broken, sample-short, sample-whole}
 use Rattle.observation_reply.proofs.reply_sample.Goals as goal
 
@@ -16,12 +15,10 @@ count_rows-requires c =
 
 pub returns-in_err-k : goal.returns-in_err-k
 returns-in_err-k c =
-    let p = err_from_is_err_and c.from_residual.result c.from_residual.ensures.1 in
-    let n = none-of c.count_rows.result c.ok_or.ensures.value c.in_err-k.was in
-    rw (p.1, p.2, n.1)
-    (both _
-    (sample-broken (item_count c.args.st.now) c.args.st.now c.args.selection c.args.f c.args.e
-    c.args.reply.now (n.0 ∙ c.count_rows.ensures)))
+    none-refused c.count_rows.result _ c.from_residual.ensures.1 c.ok_or.ensures.value c.in_err-k.was
+    (λ n.
+    sample-broken (item_count c.args.st.now) c.args.st.now c.args.selection c.args.f c.args.e
+    c.args.reply.now (n ∙ c.count_rows.ensures))
 
 pub overflow_mul-k : goal.overflow_mul-k
 overflow_mul-k c =
@@ -37,11 +34,9 @@ pub returns-in_err-fit_sizes : goal.returns-in_err-fit_sizes
 returns-in_err-fit_sizes c =
     let n = some-of c.count_rows.result _ c.ok_or.ensures.value c.in_ok-k.was ∙ c.count_rows.ensures in
     let w = c.in_err-fit_sizes.was in
-    let p = err_from_is_err_and c.from_residual-in_err-fit_sizes.result c.from_residual-in_err-fit_sizes.ensures.1 in
-    rw (p.1, p.2, c.fit_sizes.ensures.refused _ w)
-    (both _
+    refused _ c.from_residual-in_err-fit_sizes.ensures.1 (c.fit_sizes.ensures.refused _ w)
     (sample-short (item_count c.args.st.now) c.args.st.now c.args.selection c.args.f c.args.e
-    c.args.reply.now n c.first-first.ensures.is c.last-last.ensures.is c.fit_sizes.ensures.fitted (ap is_ok w)))
+    c.args.reply.now n c.first-first.ensures.is c.last-last.ensures.is c.fit_sizes.ensures.fitted (ap is_ok w))
 
 pub slice_bounds-write_rows-count : goal.slice_bounds-write_rows-count
 slice_bounds-write_rows-count c =
