@@ -5,4 +5,5 @@ use Rattle.latest.proofs.Laws.{Beyond}
 use Rattle.latest.proofs.extra.Given as goal
 
 abbrev pub invariant-loop-i : goal.invariant-loop-i
-invariant-loop-i l = Beyond (category l.source.model.now) (items l.source.model.now) l.source.store.now l.selection l.extra l.i
+invariant-loop-i l =
+    Beyond (category l.source.model.now) (items l.source.model.now) l.source.store.now l.selection l.extra l.i

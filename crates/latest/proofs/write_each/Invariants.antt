@@ -5,4 +5,5 @@ use Rattle.latest.proofs.write_each.Given as goal
 
 abbrev pub invariant-loop-i : goal.invariant-loop-i
 invariant-loop-i l =
-    Written (category l.source.model.now) (items l.source.model.now) l.source.store.now l.selection l.k l.initial.out l.out l.c l.i
+    Written (category l.source.model.now) (items l.source.model.now) l.source.store.now l.selection l.k l.initial.out l.out
+    l.c l.i
