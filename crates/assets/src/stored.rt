@@ -94,9 +94,7 @@ impl<'a> Assets<'a> {
         ensures place_fits { PlaceFits self.now result }
     {
         let _ = &self.bytes;
-        let Some(i) = self.find(id) else {
-            return None;
-        };
+        let i = self.find(id)?;
         let n = self.length_at(i);
         if !length_ok(n) {
             return None;
