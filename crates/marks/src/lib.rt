@@ -7,21 +7,16 @@ ghost use Rattle.std.specs.Prelude.{◌≡◌, ◌+◌, ◌*◌, ◌^◌, ◌<�
 ghost use Rattle.spec.specs.Entries.{normal, code_field};
 ghost use Rattle.marks.specs.Marks.{mark_of, place_in, key_in, key_of, is_place, found_at};
 
+use value::{FAULT, ITEM, LEVEL, NORMAL, WARNING};
+
 // The marks of all items: eight of each.
 pub type Marks = [[u64; spec::ENTRY_SLOTS]; spec::ITEM_SLOTS];
 
 // A mark's place is counted in these.
 const PLACE: u64 = 4294967296;
 
-// A packed word is its item times OWN, its kind and level, all times CODES, and its native code.
-const CODES: u64 = 16777216;
-
-const OWN: u64 = 65536;
-
-// The kind and level of a Normal, and of a Warning; a Fault's are one more.
-const NORMAL: u64 = 768;
-
-const WARNING: u64 = NORMAL + 1;
+// An item's unit where a condition's kind and level are counted in theirs.
+const OWN: u64 = ITEM / LEVEL;
 
 // The mark of an entry by the place of its row, from 1 on, and its key.
 pub fn mark_of(place: u64, key: u64) -> u64
@@ -50,10 +45,11 @@ pub fn key_of(own: u64, word: u64) -> u64
     requires { own < 2 ^ 24 }
     ensures { (result ≡ key_of own word) × (result < 2 ^ 32) }
 {
-    let front = word / CODES;
+    let front = word / LEVEL;
     let warning = own * OWN + WARNING;
-    if front == warning || front == warning + 1 {
-        return word % CODES + 1;
+    let fault = own * OWN + FAULT;
+    if front == warning || front == fault {
+        return word % LEVEL + 1;
     }
     0
 }
@@ -62,14 +58,14 @@ pub fn key_of(own: u64, word: u64) -> u64
 pub fn is_normal(word: u64) -> bool
     ensures { result ≡ normal word }
 {
-    word / CODES % OWN == NORMAL
+    word / LEVEL % OWN == NORMAL
 }
 
 // The native code of a packed word.
 pub fn code_of(word: u64) -> u64
     ensures { (result ≡ code_field word) × (result < 2 ^ 24) }
 {
-    word % CODES
+    word % LEVEL
 }
 
 // Whether the key may stand where this mark does: the mark has it, or is 0.

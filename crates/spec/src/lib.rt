@@ -9,7 +9,12 @@ pub const ITEM_SLOTS: usize = MAX_ITEMS as usize;
 
 pub const MAX_COMPONENTS: u64 = 64;
 
-// The categories of a condition and of a discrete event.
+// The categories with values of their own. Numbers and no enum: a word that C brings, or a lent buffer has, may have any
+// number there, and a narrower parameter would ask more of callers.
+pub const SAMPLE: u64 = 0;
+
+pub const EVENT: u64 = 1;
+
 pub const CONDITION: u64 = 2;
 
 pub const DISCRETE: u64 = 4;

@@ -8,25 +8,36 @@ ghost use Rattle.spec.specs.Value.{decode_kind, decode};
 use spec::{Level, Value};
 
 // How many native codes there are.
-const CODES: u32 = 16777216;
+pub const CODES: u32 = 16777216;
 
 // The units of a packed word: of its item, of its value's kind, and of the level above a condition's code. A constant
 // can call no From.
-const ITEM: u64 = 1099511627776;
+pub const ITEM: u64 = 1099511627776;
 
-const KIND: u64 = 4294967296;
+pub const KIND: u64 = 4294967296;
 
-const LEVEL: u64 = CODES as u64;
+pub const LEVEL: u64 = CODES as u64;
 
 // The kinds that have a low word. Numbers and no enum, since a word that the C interface brings, or a lent buffer has,
 // may have any number there.
-const SAMPLE: u64 = 1;
+pub const SAMPLE_KIND: u64 = 1;
 
-const EVENT: u64 = 2;
+pub const EVENT_KIND: u64 = 2;
 
-const CONDITION: u64 = 3;
+pub const CONDITION_KIND: u64 = 3;
 
-// What no item takes.
+// The highest level, a Fault's.
+pub const TOP_LEVEL: u64 = 2;
+
+// The kind and the level of a condition in one number, in units of the level.
+pub const NORMAL: u64 = CONDITION_KIND * (KIND / LEVEL);
+
+pub const WARNING: u64 = NORMAL + 1;
+
+pub const FAULT: u64 = NORMAL + TOP_LEVEL;
+
+// What no item takes. `decode` gives it where a word has no value, by its definition, and who asks for the value refuses
+// it as any other that the item doesn't take: an Option would make decode a function that can fail.
 const NO_VALUE: Value = Value::Condition(Level::Normal, u32::MAX);
 
 // The low word of a sample: the sample, plus 2^32 if it is negative.
@@ -52,9 +63,9 @@ pub fn value_word(v: Value) -> u64
 {
     match v {
         Value::Unavailable => 0,
-        Value::Sample(x) => SAMPLE * KIND + low_word(x),
-        Value::Event(c) => EVENT * KIND + u64::from(c),
-        Value::Condition(l, c) => CONDITION * KIND + (level_number(l) * LEVEL + u64::from(c)),
+        Value::Sample(x) => SAMPLE_KIND * KIND + low_word(x),
+        Value::Event(c) => EVENT_KIND * KIND + u64::from(c),
+        Value::Condition(l, c) => CONDITION_KIND * KIND + (level_number(l) * LEVEL + u64::from(c)),
     }
 }
 
@@ -85,9 +96,9 @@ pub fn takes(category: u64, v: Value) -> bool
     ensures { result ≡ takes category v }
 {
     match v {
-        Value::Unavailable => category < 3 || category == spec::DISCRETE,
-        Value::Sample(_) => category == 0,
-        Value::Event(_) => category == 1 || category == spec::DISCRETE,
+        Value::Unavailable => category <= spec::CONDITION || category == spec::DISCRETE,
+        Value::Sample(_) => category == spec::SAMPLE,
+        Value::Event(_) => category == spec::EVENT || category == spec::DISCRETE,
         Value::Condition(_, c) => category == spec::CONDITION && native_ok(c),
     }
 }
@@ -116,9 +127,9 @@ pub fn decode(word: u64) -> Value
     // no From or TryFrom: nothing is lost behind the remainder
     let low = (word % KIND) as u32;
     match kind {
-        SAMPLE => Value::Sample(low.cast_signed()),
-        EVENT => Value::Event(low),
-        CONDITION => condition_of(low),
+        SAMPLE_KIND => Value::Sample(low.cast_signed()),
+        EVENT_KIND => Value::Event(low),
+        CONDITION_KIND => condition_of(low),
         _ => NO_VALUE,
     }
 }
@@ -128,14 +139,15 @@ pub fn takes_word(category: u64, word: u64) -> bool
     ensures { result ≡ takes category (decode word) }
 {
     let kind = word / KIND;
-    if category < 2 {
-        return kind == category + 1 || word == 0;
+    if category <= spec::EVENT {
+        // samples and events have their kinds in the order of their categories
+        return kind == category + SAMPLE_KIND || word == 0;
     }
     if category == spec::CONDITION {
         let front = word / LEVEL;
-        return word == 0 || (768 <= front && front <= 770);
+        return word == 0 || (NORMAL <= front && front <= FAULT);
     }
-    category == spec::DISCRETE && (kind == EVENT || word == 0)
+    category == spec::DISCRETE && (kind == EVENT_KIND || word == 0)
 }
 
 // The packed word of an item and the word of a value: any item below 2^24 fits.

@@ -7,7 +7,7 @@ use Rattle.marks.proofs.Keys.{key-active, key-idle}
 use Rattle.marks.proofs.Laws.{active-level, active-neither}
 use Rattle.marks.proofs.key_of.Goals as goal
 use Rattle.marks.proofs.key_of.Goals.{then-front-warning-via-then-front-warning}
-use Rattle.marks.proofs.key_of.Goals.{then-front-warning-via-else-front-warning+then-front-warning-2}
+use Rattle.marks.proofs.key_of.Goals.{then-front-warning-via-else-front-warning+then-front-fault}
 
 pub returns-then-front-warning : goal.returns-then-front-warning
 returns-then-front-warning c =
@@ -16,7 +16,7 @@ returns-then-front-warning c =
     elim c.then-front-warning.branch [
       | then-front-warning-via-then-front-warning w ↦
           active-level z.own z.word 1 (omega arith) (omega arith) refl
-      | then-front-warning-via-else-front-warning+then-front-warning-2 w ↦
+      | then-front-warning-via-else-front-warning+then-front-fault w ↦
           active-level z.own z.word 2 (omega arith) (omega arith) refl
     ] in
     (omega (arith, key-active z.own z.word a), omega arith)
@@ -26,5 +26,5 @@ returns c =
     let z = c.args in
     let a = active-neither z.own z.word
     (λ e. c.if-front-warning.false (omega arith))
-    (λ e. c.if-front-warning-2.false (omega arith)) in
+    (λ e. c.if-front-fault.false (omega arith)) in
     (sym (key-idle z.own z.word a), omega arith)
