@@ -57,7 +57,7 @@ point-parts minus w f = go (split 46 f) refl
   where
     two : (t : Bool) → fraction f ≡ t → (t ≡ true → ⊥)
         → None
-        ≡ cond (numeral w && t) (Some (Decimal minus true (value_from 0 w) (value_from 0 f * 10 ^ (3 - length f)))) None
+        ≡ cond (numeral w && t) (Some (Decimal minus (value_from 0 w) (Some (value_from 0 f * 10 ^ (3 - length f))))) None
     two true e n = absurd (n refl)
     two false e n = rw (and-false (numeral w))
 

@@ -18,9 +18,8 @@ fn whole_form(minus: bool, w: &[u8]) -> Option<Form>
     let whole = number_of(w, 10, 9999999999)?;
     Some(Form::Decimal {
         minus,
-        point: false,
         whole,
-        part: 0,
+        part: None,
     })
 }
 
@@ -46,9 +45,8 @@ fn point_form(minus: bool, w: &[u8], p: &[u8]) -> Option<Form>
     let part = scaled(number_of(p, 3, 999)?, p.len());
     Some(Form::Decimal {
         minus,
-        point: true,
         whole,
-        part,
+        part: Some(part),
     })
 }
 

@@ -49,18 +49,11 @@ pub fn value_for(category: u64, form: Form) -> Option<Value>
 {
     match form {
         Form::Missing => Some(Value::Unavailable),
-        Form::Decimal {
-            minus,
-            whole,
-            part,
-            ..
-        } if category == 0 => { sample(minus, whole.checked_mul(1000)?.checked_add(part)?) }
-        Form::Decimal {
-            minus,
-            point,
-            whole,
-            ..
-        } => event(minus, point, whole),
+        Form::Decimal { minus, whole, part } if category == 0 => {
+            let n = whole.checked_mul(1000)?.checked_add(part.unwrap_or(0))?;
+            sample(minus, n)
+        }
+        Form::Decimal { minus, whole, part } => event(minus, part.is_some(), whole),
         Form::State(level, code) => state(level, code),
     }
 }

@@ -6,7 +6,7 @@ use mathlib.Core.Bool.{Bool, true, false}
 use mathlib.Core.List.{List, [], ◌∷◌, map}
 use lib.IntN.{pos, negsuc}
 use lib.ListN.{length, replicate}
-use Rattle.std.specs.Prelude.{Result, Err}
+use Rattle.std.specs.Prelude.{Some, None, Result, Err}
 use Rattle.spec.specs.Bytes.{bytes, all, same, join_first, split, digit, digits, value_from, is_number}
 use Rattle.spec.specs.Value.{no_value, takes}
 use Rattle.spec.specs.declared.Level.TheVariants.{Normal, Warning, Fault}
@@ -48,16 +48,16 @@ Read r ls = map read_line ls ≡ replicate (length ls) r
 -- each kind of value, with and without a stamp; item and numbers of ten digits, an item number that no u32 holds
 pub lines-read :
     Read (reads 0 1 Missing) (bytes "|1|UNAVAILABLE" ∷ bytes "|0000000001|UNAVAILABLE" ∷ [])
-    × Read (reads 1795249800250 7 (Decimal false true 21 500)) (bytes "2026-11-21T08:30:00.250Z|7|21.5" ∷ [])
-    × Read (reads 0 1 (Decimal false false 5 0)) (bytes "|1|5" ∷ bytes "|1|0000000005" ∷ [])
-    × Read (reads 0 1 (Decimal false true 5 50)) (bytes "|1|5.05" ∷ bytes "|1|5.050" ∷ [])
-    × Read (reads 0 1 (Decimal true true 0 500)) (bytes "|1|-0.5" ∷ bytes "|1|-0.50" ∷ bytes "|01|-00.500"
+    × Read (reads 1795249800250 7 (Decimal false 21 (Some 500))) (bytes "2026-11-21T08:30:00.250Z|7|21.5" ∷ [])
+    × Read (reads 0 1 (Decimal false 5 None)) (bytes "|1|5" ∷ bytes "|1|0000000005" ∷ [])
+    × Read (reads 0 1 (Decimal false 5 (Some 50))) (bytes "|1|5.05" ∷ bytes "|1|5.050" ∷ [])
+    × Read (reads 0 1 (Decimal true 0 (Some 500))) (bytes "|1|-0.5" ∷ bytes "|1|-0.50" ∷ bytes "|01|-00.500"
     ∷ [])
-    × Read (reads 0 1 (Decimal true false 0 0)) (bytes "|1|-0" ∷ [])
-    × Read (reads 0 1 (Decimal false true 1 500)) (bytes "|1|0000000001.5" ∷ [])
-    × Read (reads 0 1 (Decimal false true 1234567890 500)) (bytes "|1|1234567890.5" ∷ [])
-    × Read (reads 0 1 (Decimal false true 9999999999 999)) (bytes "|1|9999999999.999" ∷ [])
-    × Read (reads 0 4294967296 (Decimal false false 0 0)) (bytes "|4294967296|0" ∷ [])
+    × Read (reads 0 1 (Decimal true 0 None)) (bytes "|1|-0" ∷ [])
+    × Read (reads 0 1 (Decimal false 1 (Some 500))) (bytes "|1|0000000001.5" ∷ [])
+    × Read (reads 0 1 (Decimal false 1234567890 (Some 500))) (bytes "|1|1234567890.5" ∷ [])
+    × Read (reads 0 1 (Decimal false 9999999999 (Some 999))) (bytes "|1|9999999999.999" ∷ [])
+    × Read (reads 0 4294967296 (Decimal false 0 None)) (bytes "|4294967296|0" ∷ [])
     × Read (reads 0 9999999999 (State Normal 7)) (bytes "|9999999999|NORMAL:7" ∷ [])
     × Read (reads 0 2 (State Warning 0)) (bytes "|2|WARNING:0000000000" ∷ [])
     × Read (reads 0 2 (State Fault 9999999999)) (bytes "|2|FAULT:9999999999" ∷ [])

@@ -5,7 +5,7 @@ use mathlib.Core.Path.{◌≡◌, refl, sym, ap, ◌∙◌}
 use mathlib.Core.Bool.{Bool, true, false, cond, ◌&&◌, not, and-eq-true_iff, true≢false}
 use mathlib.Core.List.{List, [], ◌∷◌, ◌++◌, append-nil}
 use native.Mathlib.Omega.{arith}
-use Rattle.std.specs.Prelude.{Option, Some, None, Result, Ok, Err}
+use Rattle.std.specs.Prelude.{Option, Some, None, Result, Ok, Err, is_some, unwrap_or}
 use lib.Dec.{leb, ltb, eqb}
 use lib.IntN.{ℤ, pos, negsuc}
 use lib.ListN.{length}
@@ -47,19 +47,26 @@ Suits category (Condition l c) = Unit {0}
 
 -- ---- the form that each value's text has
 
-abbrev pub pointed : ℕ → Bool
-pointed n = not (eqb (n % 1000) 0)
+abbrev pub part_of : ℕ → Option ℕ
+part_of n = cond (eqb (n % 1000) 0) None (Some (n % 1000))
 
 abbrev pub form_for : Value → Form
 form_for Unavailable = Missing
-form_for (Sample (pos n)) = Decimal false (pointed n) (n / 1000) (n % 1000)
-form_for (Sample (negsuc n)) = Decimal true (pointed (suc n)) (suc n / 1000) (suc n % 1000)
-form_for (Event c) = Decimal false false c 0
+form_for (Sample (pos n)) = Decimal false (n / 1000) (part_of n)
+form_for (Sample (negsuc n)) = Decimal true (suc n / 1000) (part_of (suc n))
+form_for (Event c) = Decimal false c None
 form_for (Condition l c) = State l c
 
 -- and the value is back from it
-sample-back : (minus : Bool) (n : ℕ) → sample_for minus (n / 1000 * 1000 + n % 1000) ≡ sample_for minus n
-sample-back minus n = ap (sample_for minus) (omega arith)
+part-is : (n : ℕ) → unwrap_or (part_of n) 0 ≡ n % 1000
+part-is n = go (eqb (n % 1000) 0) refl
+  where
+    go : (t : Bool) → eqb (n % 1000) 0 ≡ t → unwrap_or (cond t None (Some (n % 1000))) 0 ≡ n % 1000
+    go true e = sym (eqb-true (n % 1000) 0 e)
+    go false e = refl
+
+sample-back : (minus : Bool) (n : ℕ) → sample_for minus (n / 1000 * 1000 + unwrap_or (part_of n) 0) ≡ sample_for minus n
+sample-back minus n = ap (sample_for minus) (let e = part-is n in omega (arith, e))
 
 pub value-back : (category : ℕ) (v : Value) → Suits category v → Coded v → value_for category (form_for v) ≡ v
 unfolding value_for
@@ -84,10 +91,10 @@ event-fits minus point n =
 pub value-fits : (category : ℕ) (f : Form) → Fits (value_for category f)
 unfolding value_for
 value-fits category Missing = tt
-value-fits category (Decimal minus point whole part) =
-    cond-fits (eqb category 0) (sample_for minus (whole * 1000 + part)) (event_for minus point whole)
-    (λ e. sample-fits minus (whole * 1000 + part))
-    (event-fits minus point whole)
+value-fits category (Decimal minus whole part) =
+    cond-fits (eqb category 0) (sample_for minus (whole * 1000 + unwrap_or part 0)) (event_for minus (is_some part) whole)
+    (λ e. sample-fits minus (whole * 1000 + unwrap_or part 0))
+    (event-fits minus (is_some part) whole)
 value-fits category (State level code) =
     cond-fits (ltb code (2 ^ 24)) (Condition level code) no_value
     (λ e. (let l = ltb-true code (2 ^ 24) e in omega arith))
@@ -125,20 +132,19 @@ part-digits n h k = each_part (λ n. all digit (part_text n)) refl n h k
 
 -- behind the sign: the whole part, and the thousandths if there are any
 module _ (minus : Bool) (n : ℕ) (h : n / 1000 < 10 ^ 10) where
-  figures : by_point minus (split 46 (unsigned_text n)) ≡ Some (Decimal minus (pointed n) (n / 1000) (n % 1000))
+  figures : by_point minus (split 46 (unsigned_text n)) ≡ Some (Decimal minus (n / 1000) (part_of n))
   unfolding by_point point_text digit
   figures = go (eqb (n % 1000) 0) refl
     where
       go : (t : Bool) → eqb (n % 1000) 0 ≡ t
           → by_point minus (split 46 (decimal (n / 1000) ++ cond t [] (46 ∷ part_text (n % 1000))))
-          ≡ Some (Decimal minus (not t) (n / 1000) (n % 1000))
+          ≡ Some (Decimal minus (n / 1000) (cond t None (Some (n % 1000))))
       go true e =
           rw (
             append-nil (decimal (n / 1000)),
             split-last 46 (decimal (n / 1000)) (numeral-lacks 46 (n / 1000) refl h),
             is-numeral (n / 1000) h,
             (numeral-of (n / 1000) h).value,
-            eqb-true (n % 1000) 0 e,
           )
       go false e =
           let z = eqb-false (n % 1000) 0 e in
@@ -211,7 +217,7 @@ sample-form (pos n) h =
     unsigned-first (decimal (n / 1000)) (point_text (n % 1000)) s.some-digit s.classed ∙ figures false n l
 sample-form (negsuc n) h = figures true (suc n) (omega arith)
 
-event-form : (c : ℕ) → c < 10 ^ 10 → decimal_form (decimal c) ≡ Some (Decimal false false c 0)
+event-form : (c : ℕ) → c < 10 ^ 10 → decimal_form (decimal c) ≡ Some (Decimal false c None)
 unfolding by_point digit
 event-form c h =
     let s = numeral-of c h in

@@ -5,7 +5,7 @@ use mathlib.Core.Bool.{Bool, true, false, ◌&&◌, true≢false}
 use mathlib.Core.List.{List, [], ◌∷◌, ◌++◌, append-nil, append_assoc}
 use native.Mathlib.Nat.{pow-suc, add-suc, suc-add, add-zero, zero-add, mul-one, le_of_suc-le-suc}
 use native.Mathlib.Omega.{arith}
-use Rattle.std.specs.Prelude.{Option, Some, None, Result, Ok, Err}
+use Rattle.std.specs.Prelude.{Option, Some, None, Result, Ok, Err, is_some, unwrap_or}
 use lib.Arith.{digits_div, digits_mod}
 use lib.Dec.{leb, ltb, eqb}
 use lib.ListN.{length, take, drop, replicate, length-append, take-append-drop}
@@ -250,14 +250,15 @@ module _ (category : ℕ) where
   event-short false false w s h =
       by_cond (ValueShort category s) (ltb w (2 ^ 32)) _ _ (λ e k. h refl) (λ e. refused)
 
-  decimal-short : (minus point : Bool) (w t : ℕ) (s : List ℕ) → NoLonger (unsigned_text (w * 1000 + t)) s
-      → (point ≡ false → NoLonger (decimal w) s)
-      → FormShort category (signed minus s) (Some (Decimal minus point w t))
+  decimal-short : (minus : Bool) (w : ℕ) (t : Option ℕ) (s : List ℕ)
+      → NoLonger (unsigned_text (w * 1000 + unwrap_or t 0)) s
+      → (is_some t ≡ false → NoLonger (decimal w) s)
+      → FormShort category (signed minus s) (Some (Decimal minus w t))
   unfolding value_for
-  decimal-short minus point w t s h k =
+  decimal-short minus w t s h k =
       by_cond (ValueShort category (signed minus s)) (eqb category 0) _ _
-      (λ e. sample-short minus (w * 1000 + t) s h)
-      (λ e. event-short minus point w s k)
+      (λ e. sample-short minus (w * 1000 + unwrap_or t 0) s h)
+      (λ e. event-short minus (is_some t) w s k)
 
   unread-short : (s : List ℕ) → FormShort category s None
   unread-short s = refused
@@ -271,7 +272,7 @@ module _ (category : ℕ) where
       by_cond (FormShort category (signed minus w)) (numeral w) _ _
       (λ e.
       let h = numeral-short w e in
-      decimal-short minus false (value_from 0 w) 0 w
+      decimal-short minus (value_from 0 w) None w
       (rw append-nil at (unsigned-short (value_from 0 w) 0 (omega arith) h (none [])))
       (λ z. h))
       (λ e. unread-short _)
@@ -279,7 +280,7 @@ module _ (category : ℕ) where
       by_cond (FormShort category (signed minus (w ++ 46 ∷ p))) (numeral w && fraction p) _ _
       (λ e.
       let h = part p (and_right (numeral w) (fraction p) e) in
-      decimal-short minus true (value_from 0 w) (thousandths p) (w ++ 46 ∷ p)
+      decimal-short minus (value_from 0 w) (Some (thousandths p)) (w ++ 46 ∷ p)
       (unsigned-short (value_from 0 w) (thousandths p) h.small
       (numeral-short w (and_left (numeral w) (fraction p) e)) (point-short p h))
       (λ z. absurd (true≢false z)))

@@ -1,5 +1,5 @@
 -- Adapter lines, `stamp|item|value`, read and written: document 02, Req 06.
-use Rattle.std.specs.Prelude.{ℕ, zero, suc, ◌+◌, ◌-◌, ◌*◌, ◌/◌, ◌%◌, ◌^◌, Bool, true, false, cond, ◌&&◌, not, List, [], ◌∷◌, ◌++◌, ltb, eqb, ℤ, pos, negsuc, length, Option, Some, None, Result, Ok, Err}
+use Rattle.std.specs.Prelude.{ℕ, zero, suc, ◌+◌, ◌-◌, ◌*◌, ◌/◌, ◌%◌, ◌^◌, Bool, true, false, cond, ◌&&◌, not, List, [], ◌∷◌, ◌++◌, ltb, eqb, ℤ, pos, negsuc, length, Option, Some, None, Result, Ok, Err, is_some, unwrap_or}
 use Rattle.spec.specs.Bytes.{bytes, same, split, value_from, decimal, is_number}
 use Rattle.spec.specs.Value.{no_value}
 use Rattle.lines.specs.Digits.{fixed}
@@ -28,10 +28,10 @@ abbrev pub thousandths : List ℕ → ℕ
 thousandths s = value_from 0 s * 10 ^ (3 - length s)
 
 abbrev pub whole_form : Bool → List ℕ → Option Form
-whole_form minus w = cond (numeral w) (Some (Decimal minus false (value_from 0 w) 0)) None
+whole_form minus w = cond (numeral w) (Some (Decimal minus (value_from 0 w) None)) None
 
 abbrev pub point_form : Bool → List ℕ → List ℕ → Option Form
-point_form minus w p = cond (numeral w && fraction p) (Some (Decimal minus true (value_from 0 w) (thousandths p))) None
+point_form minus w p = cond (numeral w && fraction p) (Some (Decimal minus (value_from 0 w) (Some (thousandths p)))) None
 
 -- the whole part, or that and what stands behind the point
 unfoldable pub by_point : Bool → List (List ℕ) → Option Form
@@ -125,13 +125,13 @@ abbrev pub state_for : Level → ℕ → Value
 state_for level code = cond (ltb code (2 ^ 24)) (Condition level code) no_value
 
 -- category 0 reads a decimal as a sample, any other as an event; which of these it takes is `takes`
-abbrev pub decimal_for : ℕ → Bool → Bool → ℕ → ℕ → Value
-decimal_for category minus point whole part =
-    cond (eqb category 0) (sample_for minus (whole * 1000 + part)) (event_for minus point whole)
+abbrev pub decimal_for : ℕ → Bool → ℕ → Option ℕ → Value
+decimal_for category minus whole part =
+    cond (eqb category 0) (sample_for minus (whole * 1000 + unwrap_or part 0)) (event_for minus (is_some part) whole)
 
 unfoldable pub value_for : ℕ → Form → Value
 value_for category Missing = Unavailable
-value_for category (Decimal minus point whole part) = decimal_for category minus point whole part
+value_for category (Decimal minus whole part) = decimal_for category minus whole part
 value_for category (State level code) = state_for level code
 
 -- of a text's form, where it has one

@@ -18,16 +18,15 @@ pub struct Date {
     pub milli: u64,
 }
 
-// The form of a line's value: UNAVAILABLE, a decimal by its sign, point, whole part and thousandths, or a level with
-// its code. The sign stands apart: -0.5 has one, and its whole part, 0, has none.
+// The form of a line's value: UNAVAILABLE, a decimal by its sign, its whole part and, where it has a point, the
+// thousandths behind it, or a level with its code. The sign stands apart: -0.5 has one, and its whole part, 0, has none.
 #[derive(Clone, Copy)]
 pub enum Form {
     Missing,
     Decimal {
         minus: bool,
-        point: bool,
         whole: u64,
-        part: u64,
+        part: Option<u64>,
     },
     State(Level, u64),
 }
