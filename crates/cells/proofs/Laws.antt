@@ -19,33 +19,26 @@ use Rattle.spec.specs.Assets.{renew}
 -- ---- comparison
 
 -- what a loop that compares s with t knows behind j bytes: its answer so far and the bytes from there on decide
-pub record Comparing (s t : List ℕ) (fine : Bool) (j : ℕ) : Type 0 where
-  pub inside : j ≤ length s
-  pub lengths : length s ≡ length t
-  pub rest : same s t ≡ fine && same (drop j s) (drop j t)
+pub record Comparing (s t : List ℕ) (fine : Bool) (xs ys : List ℕ) : Type 0 where
+  pub lengths : length xs ≡ length ys
+  pub rest : same s t ≡ fine && same xs ys
 
-pub comparing-none : (s t : List ℕ) → length s ≡ length t → Comparing s t true 0
-comparing-none s t e = record { inside = omega arith; lengths = e; rest = refl }
+pub comparing-none : (s t xs ys : List ℕ) → length s ≡ length t → xs ≡ s → ys ≡ t → Comparing s t true xs ys
+comparing-none s t xs ys e f g = record { lengths = rw (f, g) e; rest = rw (f, g) }
 
-module _ {s t : List ℕ} {fine : Bool} {j : ℕ} (r : Comparing s t fine j) where
-  same_step : j < length s
-      → same (drop j s) (drop j t) ≡ eqb (get_or s j 0) (get_or t j 0) && same (drop (j + 1) s) (drop (j + 1) t)
+module _ {s t : List ℕ} {fine : Bool} {xs ys : List ℕ} (r : Comparing s t fine xs ys) where
+  pub comparing-more : (x y : ℕ) (us vs : List ℕ) → xs ≡ x ∷ us → ys ≡ y ∷ vs
+      → Comparing s t (fine && eqb x y) us vs
   unfolding same
-  same_step h = let k : j < length t = omega (arith, r.lengths) in rw (add-one, drop-cons s j 0, drop-cons t j 0)
-
-  pub comparing-more : j < length s → Comparing s t (fine && eqb (get_or s j 0) (get_or t j 0)) (j + 1)
-  comparing-more h =
+  comparing-more x y us vs e f =
       record {
-        inside = omega arith;
-        lengths = r.lengths;
-        rest = r.rest ∙ rw (same_step h) (sym (and_assoc fine (eqb (get_or s j 0) (get_or t j 0)) _));
+        lengths = omega (arith, r.lengths, ap length e, ap length f);
+        rest = r.rest ∙ rw (e, f) (sym (and_assoc fine (eqb x y) (same us vs)));
       }
 
-  pub comparing-all : length s ≤ j → fine ≡ same s t
+  pub comparing-all : (xs ≡ []) × (ys ≡ []) → fine ≡ same s t
   unfolding same
-  comparing-all h =
-      let k : length t ≤ j = omega (arith, r.lengths) in
-      sym (r.rest ∙ rw (drop_of_length-le s h, drop_of_length-le t k) (and-true fine))
+  comparing-all h = sym (r.rest ∙ rw (h.0, h.1) (and-true fine))
 
 -- ---- writing
 

@@ -13,8 +13,8 @@ pub fn same_bytes(a: &[u8], b: &[u8]) -> bool
     ensures { result ≡ same a.now b.now }
 {
     let mut fine = true;
-    for j in 0..a.len() {
-        fine &= a[j] == b[j];
+    for (x, y) in a.iter().zip(b) {
+        fine &= x == y;
     }
     fine
 }

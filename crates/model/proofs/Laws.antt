@@ -1,13 +1,17 @@
 -- Laws of the model check over plain variables: each branch of a function is one of them.
 use Prim.Native.Nat.{ℕ, suc, ◌+◌, ◌-◌, ◌≤◌, ◌<◌}
-use mathlib.Core.Path.{◌≡◌, ◌∙◌}
-use mathlib.Core.Bool.{Bool, true, false, cond, ◌&&◌}
-use mathlib.Core.List.{List}
+use mathlib.Core.Path.{◌≡◌, refl, sym, ◌∙◌}
+use mathlib.Core.Bool.{Bool, true, false, cond, ◌&&◌, not}
+use mathlib.Core.List.{List, [], ◌∷◌}
 use native.Mathlib.Numerals.{add-one}
 use native.Mathlib.Omega.{arith}
-use lib.Dec.{leb, eqb}
-use lib.ListN.{length, get_or, drop, drop_of_length-le}
-use lib.Seq.{drop-cons}
+use lib.Dec.{leb, ltb, eqb}
+use borrow.Author.Tests.{ltb-false}
+use lib.ListN.{length}
+use Rattle.std.specs.List.{position_or_len}
+use Rattle.std.specs.Prelude.{Option, Some, None}
+use Rattle.std.specs.Option.{unwrap_or}
+use Rattle.std.proofs.lemmas.List.Sums.{prefix_len-le-length}
 use Rattle.spec.specs.Words.{every, first_where, count_below}
 use Rattle.spec.specs.Bytes.{name_byte}
 use Rattle.spec.specs.Model.{letters}
@@ -17,26 +21,33 @@ use Rattle.spec.specs.Model.{component_word, item_word, is_change, change_item}
 use Rattle.spec.specs.Model.{component_ok, item_ok, components_ok, items_ok, changes_ok}
 use Rattle.spec.proofs.Words.{count-step}
 
--- ---- a name's length: the rest from byte i on
+-- ---- a name's length
 
-module _ (s : List ℕ) (i : ℕ) (h : i < length s) where
-  letters-step : letters (drop i s) ≡ cond (name_byte (get_or s i 0)) (suc (letters (drop (i + 1) s))) 0
-  unfolding letters
-  letters-step = rw (add-one, drop-cons s i 0)
+letters-is : (s : List ℕ) → position_or_len (λ x. not (name_byte x)) s ≡ letters s
+unfolding letters
+letters-is [] = refl
+letters-is (x ∷ xs) = rw (← letters-is xs) (go (name_byte x))
+  where
+    go : (t : Bool)
+        → cond (not (not t)) (1 + position_or_len (λ x. not (name_byte x)) xs) 0
+        ≡ cond t (suc (position_or_len (λ x. not (name_byte x)) xs)) 0
+    go true = omega arith
+    go false = refl
 
-module _ (s : List ℕ) (i : ℕ) (rest : letters s ≡ i + letters (drop i s)) where
-  pub letters-stop : (t : Bool) → i < length s → t ≡ name_byte (get_or s i 0) → t ≡ false → i ≡ letters s
-  letters-stop t h e z = let k : letters (drop i s) ≡ 0 = letters-step s i h ∙ rw (← e, z) in omega arith
+-- up to the first byte that is none of a name, or all
+pub letters-found : (s : List ℕ) (r : Option ℕ) (n : ℕ)
+    → r ≡ (let i = position_or_len (λ x. not (name_byte x)) s in cond (ltb i (length s)) (Some i) None)
+    → n ≡ unwrap_or r (length s) → (n ≡ letters s) × (n ≤ length s)
+letters-found s r n e f = let z : n ≡ letters s = f ∙ rw (e, letters-is s) (go (ltb (letters s) (length s)) refl) in
+    (z, omega (arith, most))
+  where
+    most : letters s ≤ length s
+    most = rw (← letters-is s) (prefix_len-le-length (λ x. not (not (name_byte x))) s)
 
-  pub letters-on : (t : Bool) → i < length s → t ≡ name_byte (get_or s i 0) → t ≡ true
-      → letters s ≡ i + 1 + letters (drop (i + 1) s)
-  letters-on t h e z =
-      let k : letters (drop i s) ≡ suc (letters (drop (i + 1) s)) = letters-step s i h ∙ rw (← e, z) in
-      omega arith
-
-  pub letters-end : length s ≤ i → i ≡ letters s
-  unfolding letters
-  letters-end h = let k : letters (drop i s) ≡ 0 = rw (drop_of_length-le s h) in omega arith
+    go : (t : Bool) → ltb (letters s) (length s) ≡ t
+        → unwrap_or (cond t (Some (letters s)) None) (length s) ≡ letters s
+    go true h = refl
+    go false h = omega (arith, most, ltb-false (letters s) (length s) h)
 
 -- ---- the loops over components and items
 

@@ -1,9 +1,10 @@
 // The model and the names: their check, which every call makes, and the words of a checked model.
 #![tactic(auto)]
 
-ghost use Rattle.std.specs.Prelude.{◌≡◌, ◌≤◌, true, false, length, MatchResult};
+ghost use Rattle.std.specs.Prelude.{◌≡◌, ◌+◌, ◌*◌, ◌≤◌, true, false, length, MatchResult};
 ghost use Rattle.spec.specs.declared.Refusal.TheVariants.{Model as Refused};
-ghost use Rattle.spec.specs.Model.{letters, parent_of, component_name, category_of, component_of, item_name, model_ok};
+ghost use Rattle.spec.specs.Model.{name_bytes, name_cell, letters, parent_of, component_name, category_of, component_of, item_name};
+ghost use Rattle.spec.specs.Model.{model_ok};
 
 use spec::Refusal;
 
@@ -68,16 +69,22 @@ pub fn item_name(word: u64) -> u64
     word % ITEM_NAMES
 }
 
+// The cell of name k.
+pub fn name_cell(names: &[u8], k: u64) -> &[u8]
+    requires { name_bytes * k + name_bytes ≤ length names.now }
+    ensures { result.now ≡ name_cell names.now k }
+{
+    let at = spec::NAME_BYTES * (k as usize);
+    &names[at..at + spec::NAME_BYTES]
+}
+
 // How many bytes of a name the cell starts with.
 pub fn name_length(cell: &[u8]) -> usize
     ensures { (result ≡ letters cell.now) × (result ≤ length cell.now) }
 {
-    for (i, x) in cell.iter().enumerate() {
-        if !scan::name_byte(*x) {
-            return i;
-        }
-    }
-    cell.len()
+    cell.iter()
+        .position(|x| !scan::name_byte(*x))
+        .unwrap_or(cell.len())
 }
 
 // Whether model and names keep their rules.

@@ -8,12 +8,12 @@ use native.Mathlib.Numerals.{add-one}
 use native.Mathlib.Omega.{arith}
 use lib.Dec.{leb, ltb, eqb, eqb-suc-zero}
 use lib.ListN.{length, get_or, take, drop, length-drop}
-use lib.Seq.{get_or-take, get_or-drop, length-take-le}
+use lib.Seq.{get_or-take, get_or-drop, length-take-le, drop-drop}
 use borrow.Author.Tests.{leb-true, ltb-true, ltb-false, le-leb, not-true}
 use Rattle.spec.specs.Words.{every}
-use Rattle.spec.specs.Bytes.{name_byte}
+use Rattle.spec.specs.Bytes.{name_byte, all}
 use Rattle.spec.specs.Model.{name_bytes, letters, zeros, cell_ok, name_cell, name_count}
-use Rattle.spec.proofs.Words.{and_left, and_right, and_both, same_truth, every-at, every_of}
+use Rattle.spec.proofs.Words.{and_left, and_right, and_both, same_truth, every-at, every_of, every-keep, every-kept}
 use Rattle.spec.proofs.Model.{Names}
 use Rattle.names.specs.Cells.{block, cell_byte, bytes_at, cell_bytes, follows, zeros_last}
 
@@ -27,15 +27,59 @@ blocks_start s at n =
     let q : at + 0 ≡ at = omega arith in
     rw (p, q)
 
-pub bytes-start : (s : List ℕ) → cell_bytes s ≡ every (λ k. cell_byte (get_or s k 0)) (length s - 0) 0
-unfolding cell_bytes
-bytes-start s = let q : length s - 0 ≡ length s = omega arith in rw q
+-- a run of numbers, one further on
+pub every-on : (p q : ℕ → Bool) → ((i : ℕ) → p (suc i) ≡ q i) → (n i : ℕ) → every p n (suc i) ≡ every q n i
+unfolding every
+every-on p q e zero i = refl
+every-on p q e (suc n) i = rw (e i, every-on p q e n (suc i))
 
-pub last-start : (s : List ℕ)
-    → zeros_last s
-    ≡ not (eqb (get_or s 0 0) 0) && every (λ k. follows (get_or s k 0) (get_or s (k + 1) 0)) (length s - 1 - 0) 0
+pub all-bytes : (s : List ℕ) → all cell_byte s ≡ cell_bytes s
+unfolding all cell_bytes every
+all-bytes [] = refl
+all-bytes (x ∷ xs) =
+    let r = every-on (λ i. cell_byte (get_or (x ∷ xs) i 0)) (λ i. cell_byte (get_or xs i 0)) (λ i. refl) (length xs) 0 in
+    rw (r, all-bytes xs)
+
+-- the pairs that begin in what is left, the end of s, and the answer so far decide the whole
+abbrev pair_at : List ℕ → ℕ → Bool
+pair_at s k = follows (get_or s k 0) (get_or s (k + 1) 0)
+
+pub record Pairing (s : List ℕ) (fine : Bool) (left : List ℕ) : Type 0 where
+  pub inside : length left ≤ length s
+  pub end : left ≡ drop (length s - length left) s
+  pub rest : zeros_last s ≡ fine && every (pair_at s) (length s - 1 - (length s - length left)) (length s - length left)
+
+pub pairing-none : (s left : List ℕ) → left ≡ s → Pairing s (not (eqb (get_or s 0 0) 0)) left
 unfolding zeros_last
-last-start s = let q : length s - 1 - 0 ≡ length s - 1 = omega arith in rw q
+pairing-none s left e =
+    let q : length s - length left ≡ 0 = omega (arith, ap length e) in
+    let n : length s - 1 - 0 ≡ length s - 1 = omega arith in
+    record { inside = omega (arith, ap length e); end = rw q e; rest = rw (q, n) refl }
+
+module _ {s : List ℕ} {fine : Bool} {left : List ℕ} (r : Pairing s fine left) where
+  pub pairing-more : (w next : List ℕ) → w ≡ take 2 left → next ≡ drop 1 left → 2 ≤ length left
+      → (t : Bool) → t ≡ follows (get_or w 0 0) (get_or w 1 0) → Pairing s (fine && t) next
+  pairing-more w next ew en h t et =
+      let i = length s - length left in
+      let l : length next + 1 ≡ length left = omega (arith, ap length en, length-drop 1 left) in
+      let j : length s - length next ≡ i + 1 = omega (arith, r.inside) in
+      let at : (k : ℕ) → k < 2 → get_or w k 0 ≡ get_or s (i + k) 0 =
+      λ k g.
+      ap (λ (x : List ℕ). get_or x k 0) ew
+      ∙ get_or-take 2 left k 0 g
+      ∙ ap (λ (x : List ℕ). get_or x k 0) r.end
+      ∙ get_or-drop i s k 0 in
+      let z : i + 0 ≡ i = omega arith in
+      let a : get_or w 0 0 ≡ get_or s i 0 = at 0 (omega arith) ∙ ap (λ (k : ℕ). get_or s k 0) z in
+      let b = at 1 (omega arith) in
+      record {
+        inside = omega (arith, r.inside);
+        end = en ∙ ap (drop 1) r.end ∙ drop-drop 1 i s ∙ ap (λ (k : ℕ). drop k s) (omega arith);
+        rest = rw j (every-keep (pair_at s) _ fine i (length s - 1) r.rest t (omega (arith, r.inside)) (et ∙ rw (a, b)));
+      }
+
+  pub pairing-all : length left < 2 → fine ≡ zeros_last s
+  pairing-all h = every-kept (pair_at s) _ fine (length s - length left) (length s - 1) r.rest (omega (arith, r.inside))
 
 -- ---- rounds of whole blocks
 
@@ -266,14 +310,9 @@ module _ (names : List ℕ) (k : ℕ) (within : k < name_count names) where
       ∙ every-at (λ j. cell_byte (get_or names j 0)) (length names) 0 (name_bytes * k + i) e (omega arith)
       (omega (arith, cells_fit (length names) k within)))
 
-  -- a cell, as it is lent
-  pub cell_at : (t u : Bool) → cell_bytes names ≡ true
-      → t ≡ zeros_last (take (name_bytes * k + name_bytes - name_bytes * k) (drop (name_bytes * k) names))
-      → t ≡ u → cell_ok (name_cell names k) ≡ u
-  cell_at t u b e z =
-      let q : name_bytes * k + name_bytes - name_bytes * k ≡ name_bytes = omega arith in
-      let y : t ≡ zeros_last (name_cell names k) = rw q at e in
-      cell-is (name_cell names k) ∙ rw (bytes-in-cell b, ← y, z)
+  -- behind its bytes the zeros decide a cell
+  pub cell-by-zeros : cell_bytes names ≡ true → zeros_last (name_cell names k) ≡ cell_ok (name_cell names k)
+  cell-by-zeros b = sym (cell-is (name_cell names k) ∙ rw (bytes-in-cell b))
 
 -- names that are refused for a byte
 pub names-bytes : (names : List ℕ) → Names names → cell_bytes names ≡ true

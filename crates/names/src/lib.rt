@@ -6,9 +6,6 @@ ghost use Rattle.std.specs.Prelude.{◌≡◌, ◌+◌, ◌*◌, ◌≤◌, leng
 ghost use Rattle.spec.specs.Model.{names_ok};
 ghost use Rattle.names.specs.Cells.{block, cell_byte, bytes_at, cell_bytes, follows, zeros_last};
 
-// The bytes of the most names.
-const MAX_BYTES: usize = spec::NAME_BYTES * spec::MAX_NAMES;
-
 // The bytes that are looked at together.
 const BLOCK: usize = 32;
 
@@ -25,8 +22,8 @@ fn blocks_ok(s: &[u8], at: usize, n: usize) -> bool
     ensures { result ≡ bytes_at s.now at (block * n) }
 {
     let mut fine = true;
-    for i in 0..BLOCK * n {
-        fine &= cell_byte(s[at + i]);
+    for x in &s[at..at + BLOCK * n] {
+        fine &= cell_byte(*x);
     }
     fine
 }
@@ -35,12 +32,7 @@ fn blocks_ok(s: &[u8], at: usize, n: usize) -> bool
 fn few_ok(s: &[u8]) -> bool
     ensures { result ≡ cell_bytes s.now }
 {
-    for x in s {
-        if !cell_byte(*x) {
-            return false;
-        }
-    }
-    true
+    s.iter().all(|x| cell_byte(*x))
 }
 
 // Whether every byte may stand in a cell. It goes by whole blocks, so that no bytes want a loop of their own: where
@@ -76,14 +68,12 @@ fn follows(a: u8, b: u8) -> bool
 }
 
 // Whether the cell starts with no 0 and has nothing else behind a 0.
-fn zeros_last(cell: &[u8]) -> bool
-    requires { 1 ≤ length cell.now }
+fn zeros_last(cell: &[u8; spec::NAME_BYTES]) -> bool
     ensures { result ≡ zeros_last cell.now }
 {
-    let last = cell.len() - 1;
     let mut fine = cell[0] != 0;
-    for i in 0..last {
-        fine &= follows(cell[i], cell[i + 1]);
+    for pair in cell.windows(2) {
+        fine &= follows(pair[0], pair[1]);
     }
     fine
 }
@@ -92,24 +82,9 @@ fn zeros_last(cell: &[u8]) -> bool
 pub fn names_ok(names: &[u8]) -> bool
     ensures { result ≡ names_ok names.now }
 {
-    let l = names.len();
-    if l < 1 {
-        return false;
-    }
-    if MAX_BYTES < l {
-        return false;
-    }
-    if l % spec::NAME_BYTES != 0 {
-        return false;
-    }
-    if !cell_bytes(names) {
-        return false;
-    }
-    for k in 0..l / spec::NAME_BYTES {
-        let at = spec::NAME_BYTES * k;
-        if !zeros_last(&names[at..at + spec::NAME_BYTES]) {
-            return false;
-        }
-    }
-    true
+    let (cells, rest) = names.as_chunks::<{ spec::NAME_BYTES }>();
+    rest.is_empty()
+        && (1..=spec::MAX_NAMES).contains(&cells.len())
+        && cell_bytes(names)
+        && cells.iter().all(|cell| zeros_last(cell))
 }

@@ -1,19 +1,17 @@
-use native.Mathlib.Omega.{arith}
+use Rattle.std.proofs.Common.{rules}
+use Rattle.std.proofs.lemmas.Iterator.{empty_from_Zip}
 use Rattle.cells.proofs.Laws.{comparing-none, comparing-more, comparing-all}
 use Rattle.cells.proofs.same_bytes.Goals as goal
 
-pub loop-j-init : goal.loop-j-init
-loop-j-init c =
-    comparing-none _ _ (omega arith)
+pub loop-x-init : goal.loop-x-init
+loop-x-init c = comparing-none _ _ _ _ (search rules) (search rules) (search rules)
 
-pub bounds-b-j : goal.bounds-b-j
-bounds-b-j c =
-    let e = c.loop-j.invariant.lengths in omega arith
-
-pub loop-j-preserved : goal.loop-j-preserved
-loop-j-preserved c =
-    comparing-more c.loop-j.invariant (omega arith)
+pub loop-x-preserved : goal.loop-x-preserved
+loop-x-preserved c =
+    let h = rw c.in-Some.is at c.next.ensures.steps in
+    comparing-more c.loop-x.invariant _ _ _ _ h.0 h.1
 
 pub returns : goal.returns
 returns c =
-    comparing-all c.loop-j.invariant (omega arith)
+    let i = c.loop-x.invariant in
+    comparing-all i (empty_from_Zip _ c.next.new.self _ c.in-None.is c.next.ensures.steps i.lengths)

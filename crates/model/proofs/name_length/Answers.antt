@@ -1,19 +1,15 @@
-use Rattle.model.proofs.Laws.{letters-stop, letters-on, letters-end}
-use native.Mathlib.Omega.{arith}
+-- The length is the place that the library looks for, or that of the whole cell.
+use Rattle.std.proofs.Common.{rules, tests}
+use mathlib.Core.Path.{◌≡◌, ◌∙◌}
+use mathlib.Core.Bool.{not}
+use Rattle.std.proofs.lemmas.Iterator.{YieldsList-from_slice}
+use Rattle.std.proofs.lemmas.Iterator.Search.{position_from_yields_List}
+use Rattle.spec.specs.Bytes.{name_byte}
+use Rattle.model.proofs.Laws.{letters-found}
 use Rattle.model.proofs.name_length.Goals as goal
-
-pub loop-i-init : goal.loop-i-init
-loop-i-init c = omega arith
-
-pub returns-then-not-name_byte : goal.returns-then-not-name_byte
-returns-then-not-name_byte c =
-    let l = c.loop-i in
-    (letters-stop _ _ l.invariant _ (omega arith) c.name_byte.ensures c.if-not-name_byte.true, omega arith)
-
-pub loop-i-preserved : goal.loop-i-preserved
-loop-i-preserved c =
-    letters-on _ _ c.loop-i.invariant _ (omega arith) c.name_byte.ensures c.if-not-name_byte.false
 
 pub returns : goal.returns
 returns c =
-    let e = letters-end _ _ c.loop-i.invariant (omega arith) in (omega arith, omega arith)
+    letters-found c.args.cell.now c.position.result _
+    (position_from_yields_List (λ x. not (name_byte x)) _ _ _ c.position.ensures.ran (YieldsList-from_slice c.args.cell.now cc)
+    (λ x b q k. search (rules, tests))) (search rules)

@@ -1,53 +1,35 @@
-use mathlib.Core.Bool.{false≢true}
-use Rattle.names.proofs.CellLaws.{cells_fit, cell_at, names-bytes}
-use Rattle.names.proofs.Laws.{no_names, names-start}
-use Rattle.spec.proofs.Words.{every-no, every-yes, every-end}
-use native.Mathlib.Omega.{arith}
-use lib.ListN.{length}
-use mathlib.Core.Path.{sym, ◌∙◌}
+-- The bytes are tested first, and then the cells.
+use Rattle.std.proofs.Common.{◌≡◌, ◌∙◌, ◌≤◌, ◌≢◌, length, false, arith, rules, tests}
+use Rattle.std.specs.List.{list_all}
+use Rattle.std.proofs.lemmas.Iterator.{YieldsList-from_slice}
+use Rattle.std.proofs.lemmas.Iterator.Search.{all_from_yields_List}
+use Rattle.names.specs.Cells.{zeros_last}
+use Rattle.names.proofs.Laws.{no_names, no-bytes, cells-decide}
+use Rattle.names.proofs.names_ok.Goals.{then-is_empty, else-is_empty, then-contains, else-contains}
 use Rattle.names.proofs.names_ok.Goals as goal
 
-pub returns-then-l-lt1 : goal.returns-then-l-lt1
-returns-then-l-lt1 c =
-    no_names _ (λ h. omega arith)
+pub returns-then-cell_bytes : goal.returns-then-cell_bytes
+returns-then-cell_bytes c =
+    let all : c.all.result ≡ list_all zeros_last c.as_chunks.result.0.now =
+    all_from_yields_List zeros_last _ _ c.all.result c.all.ensures.ran (YieldsList-from_slice _ cc)
+    (λ x b q k. search (rules, tests)) in
+    elim c.if-contains.branch [
+      | then-contains w ↦ elim c.if-is_empty.branch [
+        | then-is_empty v ↦ let few : (1 ≤ length c.as_chunks.result.0.now) × (length c.as_chunks.result.0.now ≤ 256) = search rules in
+            let none : length c.as_chunks.result.1.now ≡ 0 = search rules in
+            all ∙ rw (c.as_chunks.ensures.front)
+            (cells-decide _ (omega arith) (omega arith) (omega arith) (search rules))
+        | else-is_empty v ↦ absurd (cc)
+      ]
+      | else-contains w ↦ absurd (cc)
+    ]
 
-pub returns-then-l-gt-MAX_BYTES : goal.returns-then-l-gt-MAX_BYTES
-returns-then-l-gt-MAX_BYTES c =
-    no_names _ (λ h. omega arith)
-
-pub returns-then-l-ne0 : goal.returns-then-l-ne0
-returns-then-l-ne0 c =
-    no_names _ (λ h. omega arith)
-
-pub returns-then-not-cell_bytes : goal.returns-then-not-cell_bytes
-returns-then-not-cell_bytes c =
-    no_names _ (λ h. false≢true (sym c.if-not-cell_bytes.true ∙ (c.cell_bytes.ensures ∙ names-bytes _ h)))
-
-pub loop-k-init : goal.loop-k-init
-loop-k-init c = names-start c.args.names.now c.if-l-lt1.false c.if-l-gt-MAX_BYTES.false c.if-l-ne0.false
-
-pub overflow_mul-at : goal.overflow_mul-at
-overflow_mul-at c =
-    omega (arith, cells_fit (length c.args.names.now) c.loop-k.k)
-
-pub overflow_add-at : goal.overflow_add-at
-overflow_add-at c =
-    omega (arith, cells_fit (length c.args.names.now) c.loop-k.k)
-
-pub returns-then-not-zeros_last : goal.returns-then-not-zeros_last
-returns-then-not-zeros_last c =
-    let l = c.loop-k in
-    let b = sym c.cell_bytes.ensures ∙ c.if-not-cell_bytes.false in
-    every-no _ _ _ _ l.invariant (omega arith)
-    (cell_at c.args.names.now _ (omega arith) _ _ b c.zeros_last.ensures c.if-not-zeros_last.true)
-
-pub loop-k-preserved : goal.loop-k-preserved
-loop-k-preserved c =
-    let l = c.loop-k in
-    let b = sym c.cell_bytes.ensures ∙ c.if-not-cell_bytes.false in
-    every-yes _ _ _ _ l.invariant (omega arith)
-    (cell_at c.args.names.now _ (omega arith) _ _ b c.zeros_last.ensures c.if-not-zeros_last.false)
-
-pub returns : goal.returns
-returns c =
-    every-end _ _ _ _ c.loop-k.invariant (omega arith)
+pub returns-else-cell_bytes : goal.returns-else-cell_bytes
+returns-else-cell_bytes c = elim c.if-contains.branch [
+  | then-contains w ↦ c.if-cell_bytes.false ∙ no-bytes _ (search rules)
+  | else-contains w ↦ elim c.if-is_empty.branch [
+    | then-is_empty v ↦ let f : c.if-contains.value ≡ false = cc in f ∙ no_names _ (λ h. search rules)
+    | else-is_empty v ↦ let f : c.if-contains.value ≡ false = cc in
+        let n : length c.as_chunks.result.1.now ≢ 0 = search rules in f ∙ no_names _ (λ h. omega arith)
+  ]
+]

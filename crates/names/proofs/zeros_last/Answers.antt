@@ -1,21 +1,19 @@
-use Rattle.names.proofs.CellLaws.{last-start}
-use Rattle.spec.proofs.Words.{every-keep, every-kept}
-use Rattle.names.specs.Cells.{follows}
-use native.Mathlib.Omega.{arith}
-use lib.ListN.{get_or}
-use Prim.Native.Nat.{◌+◌}
+use Rattle.std.proofs.Common.{rules}
+use Rattle.std.specs.Slice.Iter.{windows_rest}
+use Rattle.names.proofs.CellLaws.{pairing-none, pairing-more, pairing-all}
 use Rattle.names.proofs.zeros_last.Goals as goal
 
-pub loop-i-init : goal.loop-i-init
-loop-i-init c = last-start c.args.cell.now
+pub loop-pair-init : goal.loop-pair-init
+loop-pair-init c = (search rules, pairing-none _ _ (search rules))
 
-pub loop-i-preserved : goal.loop-i-preserved
-loop-i-preserved c =
-    let s = c.args.cell.now in
-    let l = c.loop-i in
-    every-keep (λ k. follows (get_or s k 0) (get_or s (k + 1) 0)) _ l.fine _ _ l.invariant _ (omega arith)
-    c.follows-fine.ensures
+pub loop-pair-preserved : goal.loop-pair-preserved
+loop-pair-preserved c =
+    let l = c.loop-pair in
+    let h = rw c.in-Some.is at c.next.ensures.steps in (
+      search rules,
+      pairing-more l.invariant.1 c.in-Some.pair.now (windows_rest c.next.new.self) (search rules) (search rules)
+          (search rules) _ c.follows-fine.ensures,
+    )
 
 pub returns : goal.returns
-returns c =
-    every-kept _ _ _ _ _ c.loop-i.invariant (omega arith)
+returns c = pairing-all c.loop-pair.invariant.1 (search rules)

@@ -1,13 +1,9 @@
--- The answer so far and the pairs from i on decide the whole.
-use Rattle.names.specs.Cells.{follows, zeros_last}
-use Rattle.spec.specs.Words.{every}
-use mathlib.Core.Bool.{◌&&◌}
-use lib.ListN.{get_or}
-use Prim.Native.Nat.{◌+◌, ◌-◌}
+-- What is left of the cell, and the answer so far, decide the whole.
+use Rattle.std.specs.Slice.Iter.{windows_rest, windows_size}
+use Rattle.names.proofs.CellLaws.{Pairing}
 use mathlib.Core.Path.{◌≡◌}
 use Rattle.names.proofs.zeros_last.Given as goal
 
-abbrev pub invariant-loop-i : goal.invariant-loop-i
-invariant-loop-i l =
-    zeros_last l.cell
-    ≡ (l.fine && every (λ k. follows (get_or l.cell k 0) (get_or l.cell (k + 1) 0)) (l.last - l.i) l.i)
+abbrev pub invariant-loop-pair : goal.invariant-loop-pair
+invariant-loop-pair l =
+    (windows_size l.pair-iterator ≡ 2) × Pairing l.cell l.fine (windows_rest l.pair-iterator)
