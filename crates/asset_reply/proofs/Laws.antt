@@ -91,7 +91,7 @@ module _ {bs cells o l : List ℕ} {k i : ℕ} (w : Writing bs cells k o l i) (m
 
 -- ---- the reply of k cells: r says whether their lengths are right
 
-module _ (bs : List ℕ) {reply x : List ℕ} {k u a : ℕ} {t : Bool} (w : Fitted reply (2 * k) k u a 0 t x)
+module _ (bs : List ℕ) {reply x : List ℕ} {k u a : ℕ} {t : Bool} (w : Fitted reply (2 * k) (k ∷ u ∷ a ∷ 0 ∷ []) t x)
     (iu : u ≡ used bs) (ia : a ≡ capacity bs) (cells : List ℕ) {r : Bool} (many : length cells ≡ k)
     (e : r ≡ all_cells (λ i. length_ok (length_at bs i)) cells) (right : r ≡ true) where
   in_words : (let rows = cell_rows bs cells in

@@ -9,6 +9,7 @@ ghost use Rattle.history.specs.Calls.{cell_rows, all_cells, cells_reply, down_fr
 ghost use Rattle.asset_reply.specs.Cells as specs;
 
 use assets::Assets;
+use reply::SIZES;
 use spec::{Answer, Refusal};
 
 // Cells in the order of a reply. That they are the store's is a clause below, and no invariant: the store stands beside
@@ -84,8 +85,8 @@ pub fn reply_cells<C: Cells>(assets: &Assets, cells: &C, reply: &mut [u64]) -> A
     let k = cells.count();
     let used = assets.used();
     let capacity = assets.capacity();
-    reply::fit_sizes(reply, 2 * k, k, used, capacity, 0)?;
-    write_cells(assets, cells, &mut reply[4..]);
+    reply::fit_sizes(reply, 2 * k, [k, used, capacity, 0])?;
+    write_cells(assets, cells, &mut reply[SIZES..]);
     Ok(k)
 }
 

@@ -19,7 +19,7 @@ fn put_attribute<F: Fn(&mut Output)>(out: &mut Output, before: &[u8], put: F)
 {
     out.put_bytes(before);
     put(out);
-    out.put_byte(34);
+    out.put_byte(b'"');
 }
 
 // A number.

@@ -7,12 +7,13 @@ use native.Mathlib.Numerals.{add-one}
 use native.Mathlib.Omega.{arith}
 use borrow.Author.Tests.{le-leb, lt-leb, eq-eqb, ne_eqb, leb-true, ltb-true, ltb-false}
 use lib.Dec.{leb, ltb, eqb}
-use lib.ListN.{length, get_or, take, drop, drop_of_length-le}
-use lib.Seq.{take-suc, take_all, drop-cons}
+use lib.ListN.{length, get_or, take}
+use lib.Seq.{take-suc, take_all}
 use Rattle.spec.specs.Bytes.{digit, split, join_first}
 use Rattle.writer.specs.Puts.{stop, Put}
 use Rattle.writer.specs.declared.Output.{Output}
 use Rattle.writer.proofs.Laws.{put-append, put-none}
+use Rattle.std.specs.Prelude.{Option, Some, None, MatchOption, find, not, ◌==◌}
 use Rattle.std.specs.Char.{to_ascii_uppercase, to_ascii_lowercase}
 use Rattle.std.proofs.lemmas.Bool.Decides.{nat_tests}
 use Rattle.streams.specs.Streams.{upper, lower, capitals, lettered, element_name}
@@ -133,32 +134,34 @@ digit-upper x = go (ltb x 97) refl
     go true e = rw (lt-leb 97 x (ltb-true x 97 e))
     go false e = high (ltb-false x 97 e) (leb x 122) refl
 
--- nothing is written of the first i bytes
-pub record Bare (s : List ℕ) (i : ℕ) : Type 0 where
-  pub inside : i ≤ length s
-  pub same : pascal true s ≡ pascal true (drop i s)
+-- nothing is written of the bytes before the first sign
+found-in : (s : List ℕ) {x : ℕ} → Some x ≡ find (λ x. not (x == 95)) s → bare (pascal true s) ≡ digit x
+unfolding pascal
+found-in [] e = cc
+found-in (y ∷ s) {x} e = go (eqb y 95) (found-in s) e
+  where
+    go : (t : Bool) → (Some x ≡ find (λ x. not (x == 95)) s → bare (pascal true s) ≡ digit x)
+        → Some x ≡ cond (not t) (Some y) (find (λ x. not (x == 95)) s)
+        → bare (cond t [] (upper y ∷ []) ++ pascal t s) ≡ digit x
+    go true on e = on e
+    go false on e = let z : x ≡ y = cc in rw z (digit-upper y)
 
-pub bare-first : (s : List ℕ) → Bare s 0
-bare-first s = record { inside = omega arith; same = refl }
+none-in : (s : List ℕ) → None ≡ find (λ x. not (x == 95)) s → bare (pascal true s) ≡ true
+unfolding pascal
+none-in [] e = refl
+none-in (y ∷ s) e = go (eqb y 95) (none-in s) e
+  where
+    go : (t : Bool) → (None ≡ find (λ x. not (x == 95)) s → bare (pascal true s) ≡ true)
+        → None ≡ cond (not t) (Some y) (find (λ x. not (x == 95)) s)
+        → bare (cond t [] (upper y ∷ []) ++ pascal t s) ≡ true
+    go true on e = on e
+    go false on e = cc
 
-module _ {s : List ℕ} {i : ℕ} (r : Bare s i) where
-  pub bare-on : i < length s → get_or s i 0 ≡ 95 → Bare s (i + 1)
-  unfolding pascal
-  bare-on h e = record {
-    inside = omega arith;
-    same = r.same ∙ rw (add-one i, drop-cons s i 0 h, eq-eqb (get_or s i 0) 95 e);
-  }
-
-  pub bare-found : {b : Bool} → i < length s → (get_or s i 0 ≡ 95 → ⊥) → b ≡ digit (get_or s i 0)
-      → b ≡ bare (capitals (split 95 s))
-  unfolding pascal
-  bare-found h n q =
-      q ∙ rw (capitals-pascal s ∙ r.same, drop-cons s i 0 h, ne_eqb (get_or s i 0) 95 n)
-      (sym (digit-upper (get_or s i 0)))
-
-  pub bare-none : length s ≤ i → true ≡ bare (capitals (split 95 s))
-  unfolding pascal
-  bare-none h = rw (capitals-pascal s ∙ r.same, drop_of_length-le s h)
+-- what is said of the first sign, if there is one
+pub bare_is : (s : List ℕ) {o : Option ℕ} {b : Bool} → o ≡ find (λ x. not (x == 95)) s
+    → MatchOption o (b ≡ true) (λ x. b ≡ digit x) → b ≡ bare (capitals (split 95 s))
+bare_is s {o = None} e m = m ∙ sym (ap bare (capitals-pascal s) ∙ none-in s e)
+bare_is s {o = Some x} e m = m ∙ sym (ap bare (capitals-pascal s) ∙ found-in s e)
 
 lettered-bare : (t : List ℕ) → lettered t ≡ cond (bare t) (84 ∷ t) t
 lettered-bare [] = refl

@@ -1,7 +1,7 @@
 // The element name of a data item's type: Pascal case without '_'.
 #![tactic(auto)]
 
-ghost use Rattle.std.specs.Prelude.{◌≡◌};
+ghost use Rattle.std.specs.Prelude.{◌≡◌, ◌==◌, not, find};
 ghost use Rattle.spec.specs.Bytes.{split};
 ghost use Rattle.streams.specs.Streams.{capitals, element_name};
 ghost use Rattle.writer.specs.Puts.{Put};
@@ -15,7 +15,7 @@ use writer::Output;
 fn put_case(out: &mut Output, start: bool, x: u8)
     ensures { Put out.old (case_of start x) out.new }
 {
-    if x == 95 {
+    if x == b'_' {
         return;
     }
     if start {
@@ -31,20 +31,22 @@ fn put_pascal(out: &mut Output, s: &[u8])
     let mut start = true;
     for x in s {
         put_case(out, start, *x);
-        start = *x == 95;
+        start = *x == b'_';
     }
+}
+
+// The first byte that is no '_'.
+fn first_sign(s: &[u8]) -> Option<u8>
+    ensures { result ≡ find (λ x. not (x == 95)) s.now }
+{
+    s.iter().copied().find(|x| *x != b'_')
 }
 
 // Whether no letter begins a name in Pascal case.
 fn is_bare(s: &[u8]) -> bool
     ensures { result ≡ bare (capitals (split 95 s.now)) }
 {
-    for x in s {
-        if *x != 95 {
-            return is_digit(*x);
-        }
-    }
-    true
+    first_sign(s).is_none_or(|x| is_digit(x))
 }
 
 // A row's element.
@@ -54,6 +56,6 @@ pub fn put_element(out: &mut Output, s: &[u8])
     if !is_bare(s) {
         return put_pascal(out, s);
     }
-    out.put_byte(84);
+    out.put_byte(b'T');
     put_pascal(out, s);
 }

@@ -1,14 +1,14 @@
 -- The text of a value by its cases.
-use Prim.Native.Nat.{ℕ, suc, ◌-◌, ◌/◌, ◌%◌, ◌^◌, ◌≤◌, ◌<◌}
-use mathlib.Core.Path.{◌≡◌}
+use Prim.Native.Nat.{ℕ, ◌/◌, ◌%◌}
+use mathlib.Core.Path.{◌≡◌, refl}
+use mathlib.Core.Bool.{true, false}
 use mathlib.Core.List.{[], ◌∷◌}
 use native.Mathlib.Omega.{arith}
-use borrow.Author.Tests.{eq-eqb, ne_eqb}
+use borrow.Author.Tests.{eq-eqb, ne_eqb, ltb-true}
 use lib.IntN.{ℤ, pos, negsuc}
-use mir.Syntax.{w32}
-use mir.Val.{SFits}
+use Rattle.std.specs.Prelude.{unsigned_abs}
+use Rattle.std.specs.Int.{is_negative}
 use Rattle.lines.specs.Digits.{fixed}
-use Rattle.spec.specs.Value.{low_word}
 use Rattle.lines.specs.Lines.{part_text, point_text, unsigned_text, sample_text}
 
 pub part-one : (p : ℕ) → p % 100 ≡ 0 → part_text p ≡ fixed 1 (p / 100)
@@ -31,13 +31,11 @@ pub with-point : (p : ℕ) → (p ≡ 0 → ⊥) → point_text p ≡ 46 ∷ par
 unfolding point_text
 with-point p n = rw (ne_eqb p 0 n)
 
--- a sample by its low word
-pub not_negative : (x : ℤ) → SFits w32 x → (low : ℕ) → low ≡ low_word x → low < 2 ^ 31
-    → sample_text x ≡ unsigned_text low
-not_negative (pos n) f low e h = rw e
-not_negative (negsuc n) f low e h = absurd (omega (arith, f.sfits))
+-- a sample by its sign
+pub signless : (x : ℤ) → is_negative x ≡ false → sample_text x ≡ unsigned_text (unsigned_abs x)
+signless (pos n) e = refl
+signless (negsuc n) e = cc
 
-pub negative : (x : ℤ) → SFits w32 x → (low : ℕ) → low ≡ low_word x → 2 ^ 31 ≤ low
-    → sample_text x ≡ 45 ∷ unsigned_text (2 ^ 32 - low)
-negative (pos n) f low e h = absurd (omega (arith, f.sfits))
-negative (negsuc n) f low e h = let q : 2 ^ 32 - low ≡ suc n = omega (arith, f.sfits) in rw q
+pub signed : (x : ℤ) → is_negative x ≡ true → sample_text x ≡ 45 ∷ unsigned_text (unsigned_abs x)
+signed (pos n) e = absurd (omega (arith, ltb-true n 0 e))
+signed (negsuc n) e = refl

@@ -5,7 +5,6 @@ ghost use Rattle.lines.specs.Lines.{level_word, part_text, point_text, unsigned_
 ghost use Rattle.writer.specs.Puts.{Put};
 
 use spec::{Level, Value};
-use value::low_word;
 use writer::Output;
 
 // Thousandths without zeros at the end.
@@ -28,7 +27,7 @@ fn put_point(out: &mut Output, p: u64)
     if p == 0 {
         return;
     }
-    out.put_byte(46);
+    out.put_byte(b'.');
     put_part(out, p);
 }
 
@@ -44,12 +43,10 @@ fn put_unsigned(out: &mut Output, n: u64)
 fn put_sample(out: &mut Output, x: i32)
     ensures { Put out.old (sample_text x) out.new }
 {
-    let low = low_word(x);
-    if low < 2147483648 {
-        return put_unsigned(out, low);
+    if x.is_negative() {
+        out.put_byte(b'-');
     }
-    out.put_byte(45);
-    put_unsigned(out, 4294967296 - low);
+    put_unsigned(out, u64::from(x.unsigned_abs()));
 }
 
 // The word of a level.
@@ -68,7 +65,7 @@ fn put_state(out: &mut Output, l: Level, c: u32)
     ensures { Put out.old (value_text (Value.Condition l c)) out.new }
 {
     put_level(out, l);
-    out.put_byte(58);
+    out.put_byte(b':');
     out.put_decimal(u64::from(c));
 }
 

@@ -3,7 +3,7 @@
 use Prim.Native.Nat.{ℕ, suc, ◌+◌, ◌-◌, ◌*◌, ◌^◌, ◌≤◌, ◌<◌}
 use mathlib.Core.Path.{◌≡◌, sym, ap, ◌∙◌}
 use mathlib.Core.Bool.{Bool, true, false, ◌&&◌}
-use mathlib.Core.List.{List, ◌++◌}
+use mathlib.Core.List.{List, [], ◌∷◌, ◌++◌}
 use native.Mathlib.Numerals.{add-one}
 use native.Mathlib.Omega.{arith}
 use lib.Count.{ones}
@@ -35,7 +35,7 @@ in-ring-few m st selection f e is h g count =
 
 -- ---- k rows that fit or don't
 
-module _ {reply x : List ℕ} {k f l next : ℕ} {t : Bool} (w : Fitted reply (3 * k) k f l next t x)
+module _ {reply x : List ℕ} {k f l next : ℕ} {t : Bool} (w : Fitted reply (3 * k) (k ∷ f ∷ l ∷ next ∷ []) t x)
     (rows : List (List ℕ)) (many : k ≡ length rows) where
   row_words : 3 * k ≡ length (numbers rows) + length (pairs rows)
   row_words = omega (arith, length-numbers rows, length_pairs rows)
@@ -61,7 +61,7 @@ module _ (m : ℕ) (st : List ℕ) (selection f e : ℕ) (reply : List ℕ) wher
   sample-broken h = rw (counted-broken m st selection f e h)
 
   module _ {k a l : ℕ} {t : Bool} {x : List ℕ} (count : Some k ≡ counted m st selection f e) (is : a ≡ first st)
-      (il : l ≡ last st) (w : Fitted reply (3 * k) k a l e t x) where
+      (il : l ≡ last st) (w : Fitted reply (3 * k) (k ∷ a ∷ l ∷ e ∷ []) t x) where
     pub sample-short : t ≡ false
         → sample_between m st selection f e reply ≡ record { answer = Err Space; reply = x }
     unfolding sample_between
@@ -92,7 +92,7 @@ module _ (cat : ℕ → ℕ) (m : ℕ) (st : List ℕ) (selection : ℕ) (reply 
     current-many = rw is (extra-many cat m st selection count few)
 
     module _ {f l : ℕ} {t : Bool} {y : List ℕ} (ef : f ≡ first st) (el : l ≡ last st)
-        (w : Fitted reply (3 * (o + x)) (o + x) f l (l + 1) t y) where
+        (w : Fitted reply (3 * (o + x)) ((o + x) ∷ f ∷ l ∷ (l + 1) ∷ []) t y) where
       current-reply : current_reply cat m st reply (Some selection)
           ≡ observation_reply f l (l + 1) (current_rows cat (ring_size st) m st selection) reply
       unfolding current_reply
@@ -134,7 +134,7 @@ module _ (cat : ℕ → ℕ) (m : ℕ) (st : List ℕ) (selection number f : ℕ
 
     module _ {held : List (List ℕ)} {k l : ℕ} {t : Bool} {y : List ℕ}
         (rows : r ≡ true → held ≡ up_to cat m st selection f (number + 1)) (many : k ≡ length held) (el : l ≡ last st)
-        (w : Fitted reply (3 * k) k f l (l + 1) t y) where
+        (w : Fitted reply (3 * k) (k ∷ f ∷ l ∷ (l + 1) ∷ []) t y) where
       as_many : k ≡ length (up_to cat m st selection f (number + 1))
       as_many = many ∙ ap length (rows right)
 

@@ -25,6 +25,11 @@ sets-set (a ∷ vs) l i q x h =
     let n : q ≢ i = λ z. omega arith in
     ap (λ (y : List ℕ). sets y (suc i) vs) (set_comm l q i x a n) ∙ sets-set vs (set l i a) (suc i) q x (omega arith)
 
+-- four words copied to the front
+pub sets-front : (l sizes : List ℕ) {part : List ℕ} → length sizes ≡ 4 → 4 ≤ length l → part ≡ sizes
+    → part ++ drop 4 l ≡ sets l 0 sizes
+sets-front l sizes n h e = rw e (sym (sets-eq sizes l 0 (omega arith) ∙ rw n))
+
 -- ---- the arrays behind the sizes
 
 -- two runs of words, the second behind the first, and what stood behind them
@@ -44,7 +49,7 @@ columns-over o C L h =
     ))
 
 -- w words behind the sizes a, b, c and d, which fit the reply or don't; x is the reply, of which a part may be lent
-module _ {reply x : List ℕ} {w a b c d : ℕ} {t : Bool} (s : Fitted reply w a b c d t x) where
+module _ {reply x : List ℕ} {w a b c d : ℕ} {t : Bool} (s : Fitted reply w (a ∷ b ∷ c ∷ d ∷ []) t x) where
   module _ (fits : t ≡ true) where
     room : 4 + w ≤ length reply
     room = leb-true _ _ (sym s.told ∙ fits)

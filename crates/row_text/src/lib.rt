@@ -30,10 +30,10 @@ fn put_text_row(out: &mut Output, t: &[u8], row: &Row)
         (text_line (element_name t.now) (row_of row.now.number row.now.time row.now.packed) ++ 10 ∷ [])
         out.new }
 {
-    out.put_byte(60);
+    out.put_byte(b'<');
     put_element(out, t);
     put_attributes(out, row);
-    out.put_byte(62);
+    out.put_byte(b'>');
     put_value(out, decode(row.packed % 1099511627776));
     out.put_bytes(b"</");
     put_element(out, t);
@@ -69,7 +69,7 @@ fn put_condition_row(out: &mut Output, t: &[u8], row: &Row)
         out.new }
 {
     let v = decode(row.packed % 1099511627776);
-    out.put_byte(60);
+    out.put_byte(b'<');
     put_state(out, v);
     put_attributes(out, row);
     put_text(out, b" type=\"", t);

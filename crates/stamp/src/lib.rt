@@ -26,9 +26,9 @@ fn put_day(out: &mut Output, d: &Date)
     ensures { Put out.old (day_text d.now.year d.now.month d.now.day ++ 84 ∷ []) out.new }
 {
     out.put_fixed::<4>(d.year);
-    out.put_byte(45);
-    put_part(out, d.month, 45);
-    put_part(out, d.day, 84);
+    out.put_byte(b'-');
+    put_part(out, d.month, b'-');
+    put_part(out, d.day, b'T');
 }
 
 // The time of day, with its 'Z'.
@@ -36,11 +36,11 @@ fn put_clock(out: &mut Output, d: &Date)
     ensures { Put out.old
         (clock_text d.now.hour d.now.minute d.now.second d.now.milli ++ 90 ∷ []) out.new }
 {
-    put_part(out, d.hour, 58);
-    put_part(out, d.minute, 58);
-    put_part(out, d.second, 46);
+    put_part(out, d.hour, b':');
+    put_part(out, d.minute, b':');
+    put_part(out, d.second, b'.');
     out.put_fixed::<3>(d.milli);
-    out.put_byte(90);
+    out.put_byte(b'Z');
 }
 
 // The 24 bytes of a date.

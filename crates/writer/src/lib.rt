@@ -20,7 +20,8 @@ fn onward(at: usize, n: usize) -> usize
 }
 
 // A lent buffer and the place in it behind the text so far. What is put is written as far as the buffer reaches, and
-// the place goes on behind its end: over an empty buffer it gives the length alone.
+// the place goes on behind its end: over an empty buffer it gives the length alone. Numbers, dates and values are put by
+// functions of their own, and are no Display: `write!` answers an error at each piece, and none can fail here.
 #[derive(Drop)]
 pub struct Output<'a> {
     bytes: &'a mut [u8],
@@ -106,9 +107,10 @@ impl<'a> Output<'a> {
     {
         let mut digits = [0; K];
         let mut rest = n;
+        // tried: behind a loop over `iter_mut().rev()` nothing is known of what it lent, so the places are counted
         for i in (0..K).rev() {
             // a remainder by 10 fits a byte, here and below
-            digits[i] = 48 + ((rest % 10) as u8);
+            digits[i] = b'0' + ((rest % 10) as u8);
             rest /= 10;
         }
         self.put_bytes(&digits);
@@ -120,12 +122,12 @@ impl<'a> Output<'a> {
     {
         let mut digits = [0; 20];
         let mut i = 19;
-        digits[i] = 48 + ((n % 10) as u8);
+        digits[i] = b'0' + ((n % 10) as u8);
         let mut left = n / 10;
         // No range is plainer: what is left of n ends the loop, not a count.
         while 0 < left {
             i -= 1;
-            digits[i] = 48 + ((left % 10) as u8);
+            digits[i] = b'0' + ((left % 10) as u8);
             left /= 10;
         }
         self.put_bytes(&digits[i..]);
