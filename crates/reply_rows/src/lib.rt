@@ -9,16 +9,11 @@ ghost use Rattle.streams.specs.Streams.{group_of, word_ok, packed_ok, all_rows, 
 ghost use Rattle.streams.specs.Groups.{group_number};
 
 use model::Words;
+use reply::{ROW_WORDS, SIZES};
 use spec::{Refusal, Row};
 use stamp::MAX_TIME;
 use std::marker::Model;
 use streams::Group;
-
-// The words before the rows: k, first, last, next.
-const ROWS_AT: usize = 4;
-
-// A row's words: one number, and a pair of time and packed word.
-const ROW_WORDS: usize = 3;
 
 // The words of a reply, as many as its rows take; a clause sees the list of them.
 #[derive(Drop)]
@@ -62,9 +57,9 @@ impl<'a> Reply<'a> {
         ensures packed { result.packed ≡ get_or (get_or (rows_of self.now) i []) 2 0 }
     {
         let words = self.words;
-        let pair = ROWS_AT + self.rows() + 2 * i;
+        let pair = SIZES + self.rows() + 2 * i;
         Row {
-            number: words[ROWS_AT + i],
+            number: words[SIZES + i],
             time: words[pair],
             packed: words[pair + 1],
         }
@@ -90,10 +85,10 @@ impl<'a> Reply<'a> {
 pub fn words_ok(reply: &[u64]) -> bool
     ensures { result ≡ words_ok reply.now }
 {
-    if reply.len() < ROWS_AT {
+    if reply.len() < SIZES {
         return false;
     }
-    reply[0] <= ((reply.len() - ROWS_AT) / ROW_WORDS) as u64
+    reply[0] <= ((reply.len() - SIZES) / ROW_WORDS) as u64
 }
 
 // The group of a category's rows.

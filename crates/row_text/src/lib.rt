@@ -2,10 +2,11 @@
 #![tactic(auto)]
 
 ghost use Rattle.std.specs.Prelude.{[], ◌∷◌, ◌++◌};
-ghost use Rattle.streams.specs.Streams.{row_of, element_name, row_attributes, text_line, state_name, native_code};
+ghost use Rattle.streams.specs.Streams.{element_name, row_attributes, text_line, state_name, native_code};
 ghost use Rattle.streams.specs.Streams.{condition_line, row_line};
 ghost use Rattle.streams.specs.Groups.{group_number};
 ghost use Rattle.writer.specs.Puts.{Put};
+ghost use Rattle.row_text.specs.Shown.{shown};
 
 use attributes::{put_number, put_text, put_time};
 use element::put_element;
@@ -17,7 +18,7 @@ use writer::Output;
 
 // dataItemId, sequence, timestamp.
 fn put_attributes(out: &mut Output, row: &Row)
-    ensures { Put out.old (row_attributes (row_of row.now.number row.now.time row.now.packed)) out.new }
+    ensures { Put out.old (row_attributes (shown row.now)) out.new }
 {
     put_number(out, b" dataItemId=\"i", item_of(row.packed));
     put_number(out, b" sequence=\"", row.number);
@@ -27,7 +28,7 @@ fn put_attributes(out: &mut Output, row: &Row)
 // A row of Samples or Events.
 fn put_text_row(out: &mut Output, t: &[u8], row: &Row)
     ensures { Put out.old
-        (text_line (element_name t.now) (row_of row.now.number row.now.time row.now.packed) ++ 10 ∷ [])
+        (text_line (element_name t.now) (shown row.now) ++ 10 ∷ [])
         out.new }
 {
     out.put_byte(b'<');
@@ -65,7 +66,7 @@ fn put_native(out: &mut Output, v: Value)
 // A row of Condition.
 fn put_condition_row(out: &mut Output, t: &[u8], row: &Row)
     ensures { Put out.old
-        (condition_line t.now (row_of row.now.number row.now.time row.now.packed) ++ 10 ∷ [])
+        (condition_line t.now (shown row.now) ++ 10 ∷ [])
         out.new }
 {
     let v = decode(row.packed % 1099511627776);
@@ -80,7 +81,7 @@ fn put_condition_row(out: &mut Output, t: &[u8], row: &Row)
 // The line of a row of group g, of an item of type t.
 pub fn put_row(out: &mut Output, g: Group, t: &[u8], row: &Row)
     ensures { Put out.old
-        (row_line (group_number g) t.now (row_of row.now.number row.now.time row.now.packed) ++ 10 ∷ [])
+        (row_line (group_number g) t.now (shown row.now) ++ 10 ∷ [])
         out.new }
 {
     match g {

@@ -1,0 +1,2 @@
+-- What the contracts of a row's line cite.
+pub mod Shown
