@@ -1,7 +1,7 @@
 // Times as dates and times of day, 1970 to 2099.
 #![tactic(auto)]
 
-ghost use Rattle.std.specs.Prelude.{true, ◌≡◌};
+ghost use Rattle.std.specs.Prelude.{cond, true, ◌≡◌, Some, None};
 ghost use Rattle.lines.specs.Stamps.{month_length, real_date, day_number, time_of, date_of};
 
 use lines::Date;
@@ -20,7 +20,7 @@ fn month_length(long: bool, m: u64) -> u64
 
 // Whether there is such a date, 1970 to 2099.
 #[tactic(auto, unfolding(lines::specs::Stamps::real_date))]
-pub fn real_date(d: Date) -> bool
+fn real_date(d: Date) -> bool
     ensures { result ≡ real_date d }
 {
     let most = month_length(d.year % 4 == 0, d.month);
@@ -46,12 +46,22 @@ fn day_number(d: Date) -> u64
 
 // The time of a date.
 #[tactic(auto, unfolding(lines::specs::Stamps::time_of), using(crate::proofs::Laws::real_dates))]
-pub fn time_of(d: Date) -> u64
+fn time_of(d: Date) -> u64
     requires { real_date d ≡ true }
     ensures { result ≡ time_of d }
 {
     let days = day_number(d);
     (((days * 24 + d.hour) * 60 + d.minute) * 60 + d.second) * 1000 + d.milli
+}
+
+// The time of a date, where there is such a date.
+pub fn checked_time(d: Date) -> Option<u64>
+    ensures { result ≡ cond (real_date d) (Some (time_of d)) None }
+{
+    if !real_date(d) {
+        return None;
+    }
+    Some(time_of(d))
 }
 
 // The date of a time.

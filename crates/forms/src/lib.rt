@@ -1,21 +1,28 @@
 // The form of a line's value, from its text.
 #![tactic(auto)]
 
-ghost use Rattle.std.specs.Prelude.{◌≡◌, ◌-◌, ◌*◌, ◌^◌, ◌≤◌};
-ghost use Rattle.spec.specs.Bytes.{split};
+ghost use Rattle.std.specs.Prelude.{cond, ◌≡◌, ◌-◌, ◌*◌, ◌^◌, ◌≤◌, Some, None};
+ghost use Rattle.spec.specs.Bytes.{split, value_from};
 ghost use Rattle.lines.specs.Lines.{whole_form, point_form, by_point, decimal_form, state_form, coded_form, plain_form};
-ghost use Rattle.lines.specs.Lines.{form_of};
+ghost use Rattle.lines.specs.Lines.{numeral, form_of};
 
 use lines::Form;
 use scan::{equal, number_of, split_once};
 use spec::Level;
 
-// A number without a point.
+// A number of a line: 1 to 10 digits.
 #[tactic(auto, unfolding(scan::specs::Number::number_of))]
+pub fn numeral(s: &[u8]) -> Option<u64>
+    ensures { result ≡ cond (numeral s.now) (Some (value_from 0 s.now)) None }
+{
+    number_of(s, 10, 9999999999)
+}
+
+// A number without a point.
 fn whole_form(minus: bool, w: &[u8]) -> Option<Form>
     ensures { result ≡ whole_form minus w.now }
 {
-    let whole = number_of(w, 10, 9999999999)?;
+    let whole = numeral(w)?;
     Some(Form::Decimal {
         minus,
         whole,
@@ -41,7 +48,7 @@ fn scaled(n: u64, digits: usize) -> u64
 fn point_form(minus: bool, w: &[u8], p: &[u8]) -> Option<Form>
     ensures { result ≡ point_form minus w.now p.now }
 {
-    let whole = number_of(w, 10, 9999999999)?;
+    let whole = numeral(w)?;
     let part = scaled(number_of(p, 3, 999)?, p.len());
     Some(Form::Decimal {
         minus,
@@ -91,11 +98,10 @@ fn state_form(w: &[u8], code: u64) -> Option<Form>
 }
 
 // A value with ':'.
-#[tactic(auto, unfolding(scan::specs::Number::number_of))]
 fn coded_form(w: &[u8], c: &[u8]) -> Option<Form>
     ensures { result ≡ coded_form w.now c.now }
 {
-    state_form(w, number_of(c, 10, 9999999999)?)
+    state_form(w, numeral(c)?)
 }
 
 // A value without ':'.

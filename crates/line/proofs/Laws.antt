@@ -1,6 +1,6 @@
 -- Lines by what the scans answer.
-use Prim.Native.Nat.{ℕ, suc, ◌≤◌}
-use mathlib.Core.Path.{◌≡◌, refl, sym, ap, ◌∙◌}
+use Prim.Native.Nat.{ℕ, ◌≤◌}
+use mathlib.Core.Path.{◌≡◌, refl, sym}
 use mathlib.Core.Bool.{Bool, true, false, cond, ◌||◌, true≢false}
 use mathlib.Core.List.{List, [], ◌∷◌}
 use native.Mathlib.Omega.{arith}
@@ -9,12 +9,11 @@ use lib.ListN.{length}
 use borrow.Author.Tests.{eq-eqb, ne_eqb}
 use Rattle.std.specs.List.{list_any}
 use Rattle.std.specs.Prelude.{Ok, Err}
-use Rattle.spec.specs.Bytes.{digit, split, join_first}
+use Rattle.spec.specs.Bytes.{split, join_first}
 use Rattle.lines.specs.Stamps.{real_date, time_of, formed, stamp_form, date_in, stamp_text}
 use Rattle.lines.specs.Lines.{line_in, by_bar, form_of, stamp_part}
 use Rattle.lines.specs.declared.LineError.TheVariants.{Malformed, BadStamp}
 use Rattle.line.specs.Times.{time_read}
-use Rattle.spec.proofs.Words.{and_right}
 use Rattle.spec.proofs.Bytes.{parts-pos}
 
 -- ---- stamps
@@ -23,23 +22,12 @@ pub no_bytes : (s : List ℕ) → length s ≡ 0 → time_read s ≡ Ok 0
 no_bytes [] h = refl
 no_bytes (x ∷ s) h = absurd (omega arith)
 
-formed-same : (f s : List ℕ) → formed f s ≡ true → length s ≡ length f
-unfolding formed
-formed-same [] [] h = refl
-formed-same [] (x ∷ s) h = absurd (true≢false (sym h))
-formed-same (y ∷ f) [] h = absurd (true≢false (sym h))
-formed-same (y ∷ f) (x ∷ s) h =
-    ap suc (formed-same f s (and_right (cond (eqb y 100) (digit x) (eqb x y)) (formed f s) h))
-
-pub formed-24 : (s : List ℕ) → formed stamp_form s ≡ true → length s ≡ 24
-formed-24 s h = formed-same stamp_form s h
-
 pub some-bytes : (s : List ℕ) → (length s ≡ 0 → ⊥) → time_read s
     ≡ cond (formed stamp_form s) (cond (real_date (date_in s)) (Ok (time_of (date_in s))) (Err BadStamp)) (Err Malformed)
 some-bytes [] h = absurd (h refl)
 some-bytes (x ∷ s) h = refl
 
-pub ruleset stamps = (no_bytes, formed-24, some-bytes)
+pub ruleset stamps = (no_bytes, some-bytes)
 
 -- ---- the parts of a line
 

@@ -7,14 +7,14 @@ ghost use Rattle.line.specs.Times.{time_read};
 ghost use Rattle.writer.specs.Puts.{Put};
 ghost use Rattle.writer.specs.Whole.{text_after, bytes_of};
 
-use calendar::{real_date, time_of};
+use calendar::checked_time;
 use figures::put_value;
-use forms::form_of;
+use forms::{form_of, numeral};
 use lines::{Form, Line, LineError};
-use scan::{number_of, split_once};
+use scan::split_once;
 use spec::{Answer, Value};
 use stamp::put_stamp;
-use stamp_fields::{date_in, stamp_formed};
+use stamp_fields::read_date;
 use writer::{Output, write_whole};
 
 // The time of a line's stamp: no bytes are time 0.
@@ -25,23 +25,17 @@ fn time_in(stamp: &[u8]) -> Result<u64, LineError>
     if stamp.is_empty() {
         return Ok(0);
     }
-    if !stamp_formed(stamp) {
-        return Err(LineError::Malformed);
-    }
-    let date = date_in(stamp);
-    if !real_date(date) {
-        return Err(LineError::BadStamp);
-    }
-    Ok(time_of(date))
+    let date = read_date(stamp).ok_or(LineError::Malformed)?;
+    checked_time(date).ok_or(LineError::BadStamp)
 }
 
 // What the three parts of a line say.
-#[tactic(auto, unfolding(lines::specs::Lines::line_in, scan::specs::Number::number_of))]
+#[tactic(auto, unfolding(lines::specs::Lines::line_in))]
 fn line_in(stamp: &[u8], item: &[u8], form: Option<Form>) -> Result<Line, LineError>
     ensures { result ≡ line_in stamp.now item.now form }
 {
     let form = form.ok_or(LineError::Malformed)?;
-    let item = number_of(item, 10, 9999999999).ok_or(LineError::Malformed)?;
+    let item = numeral(item).ok_or(LineError::Malformed)?;
     let time = time_in(stamp)?;
     Ok(Line { time, item, form })
 }
@@ -74,9 +68,9 @@ pub fn put_line(out: &mut Output, item: u64, time: u64, v: Value)
     ensures { Put out.old (line_of item time v) out.new }
 {
     put_time(out, time);
-    out.put_byte(124);
+    out.put_byte(b'|');
     out.put_decimal(item);
-    out.put_byte(124);
+    out.put_byte(b'|');
     put_value(out, v);
 }
 

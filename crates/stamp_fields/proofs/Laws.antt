@@ -1,17 +1,19 @@
 -- Bytes against a form, and the numbers that stand in them.
-use Prim.Native.Nat.{ℕ, zero, suc, ◌+◌, ◌-◌, ◌*◌, ◌^◌, ◌≤◌, ◌<◌}
-use mathlib.Core.Path.{◌≡◌, refl, sym, ap, ◌∙◌}
-use mathlib.Core.Bool.{Bool, true, false, cond, ◌&&◌, and-false}
+use Prim.Native.Nat.{ℕ, suc, ◌+◌, ◌-◌, ◌*◌, ◌^◌, ◌≤◌, ◌<◌}
+use mathlib.Core.Path.{◌≡◌, refl, sym, ap}
+use mathlib.Core.Bool.{Bool, true, false, cond, ◌&&◌, and-false, true≢false}
 use mathlib.Core.List.{List, [], ◌∷◌}
-use native.Mathlib.Numerals.{add-one}
-use native.Mathlib.Nat.{pow-suc}
+use native.Mathlib.Nat.{pow-suc, pow-le-pow_right, add-suc, suc-add, add-zero, zero-add}
 use native.Mathlib.Omega.{arith}
-use lib.Dec.{eqb}
-use lib.ListN.{length, get_or, drop, drop_of_length-le}
-use lib.Seq.{drop-cons}
+use lib.Dec.{eqb, lit<}
+use lib.ListN.{length, get_or, take, drop, length-take}
+use lib.Seq.{get_or-take, get_or-drop}
+use mir.Val.{Fits}
+use mir.Syntax.{w8}
 use Rattle.std.specs.List.{list_all, zip}
 use Rattle.spec.specs.Bytes.{digit, value_from}
-use Rattle.lines.specs.Stamps.{formed}
+use Rattle.lines.specs.Stamps.{formed, stamp_form}
+use Rattle.spec.proofs.Words.{and_right}
 
 -- ---- a form
 
@@ -33,24 +35,41 @@ formed_length [] (x ∷ s) n = refl
 formed_length (x ∷ f) [] n = refl
 formed_length (x ∷ f) (y ∷ s) n = simp (formed_length f s (λ e. n (ap suc e)), and-false)
 
+formed-same : (f s : List ℕ) → formed f s ≡ true → length s ≡ length f
+unfolding formed
+formed-same [] [] h = refl
+formed-same [] (x ∷ s) h = absurd (true≢false (sym h))
+formed-same (y ∷ f) [] h = absurd (true≢false (sym h))
+formed-same (y ∷ f) (x ∷ s) h = ap suc (formed-same f s (and_right (fit y x) (formed f s) h))
+
+-- a stamp has 24
+pub formed_24 : (s : List ℕ) → formed stamp_form s ≡ true → length s ≡ 24
+formed_24 s h = formed-same stamp_form s h
+
 -- ---- numbers
 
--- the i bytes passed spell n, and what follows them is behind it
-pub record Spelled (s : List ℕ) (n i : ℕ) : Type 0 where
-  pub inside : i ≤ length s
-  pub rest : value_from 0 s ≡ value_from n (drop i s)
-  pub small : n + 23 ≤ 23 * 10 ^ i
+-- bytes behind a number of k digits
+bytes-below : (k n : ℕ) (s : List ℕ) → n + 23 ≤ 23 * 10 ^ k → ((i : ℕ) → i < length s → Fits w8 (get_or s i 0))
+    → value_from n s + 23 ≤ 23 * 10 ^ (k + length s)
+unfolding value_from
+bytes-below k n [] h b = rw add-zero h
+bytes-below k n (x ∷ s) h b =
+    let t = b 0 (omega arith) in
+    rw (add-suc k (length s), ← suc-add k (length s))
+    (bytes-below (suc k) (n * 10 + (x - 48)) s (rw pow-suc (omega (arith, h, t))) (λ i l. b (suc i) (omega (arith, l))))
 
-module _ {s : List ℕ} {n i : ℕ} (r : Spelled s n i) where
-  pub spelled-more : i < length s → get_or s i 0 < 256 → Spelled s (n * 10 + (get_or s i 0 - 48)) (i + 1)
-  unfolding value_from
-  spelled-more h b =
-      record {
-        inside = omega arith;
-        rest = r.rest ∙ rw (add-one, drop-cons s i 0 h);
-        small = rw (add-one, pow-suc) (omega (arith, r.small));
-      }
-
-  pub spelled-all : length s ≤ i → n ≡ value_from 0 s
-  unfolding value_from
-  spelled-all h = sym (rw (drop_of_length-le s h) at r.rest)
+-- four bytes from a on, or fewer, spell what a word holds
+pub field_fits : (s : List ℕ) (a n : ℕ) → n ≤ 4 → ((i : ℕ) → Fits w8 (get_or s i 0))
+    → value_from 0 (take n (drop a s)) < 2 ^ 64
+field_fits s a n h b =
+    let l = length-take n (drop a s) in
+    let p = pow-le-pow_right {n = 10} (lit< tt) {i = length (take n (drop a s))} {j = 4} (omega (arith, l)) in
+    let q = bytes-below 0 0 (take n (drop a s)) (omega arith) each in
+    let r : value_from 0 (take n (drop a s)) + 23 ≤ 23 * 10 ^ length (take n (drop a s)) = rw zero-add at q in
+    omega (arith, p, r)
+  where
+    each : (i : ℕ) → i < length (take n (drop a s)) → Fits w8 (get_or (take n (drop a s)) i 0)
+    each i k =
+        let l = length-take n (drop a s) in
+        let m : i < n = omega (arith, l, k) in
+        rw (get_or-take n (drop a s) i 0, get_or-drop a s i 0) (b (a + i))
