@@ -1,13 +1,14 @@
 -- The asset store's definitions, as the code reads and writes them.
 use Prim.Native.Nat.{ℕ, zero, suc, ◌+◌, ◌-◌, ◌*◌, ◌/◌, ◌%◌, ◌≤◌, ◌<◌}
-use mathlib.Core.Path.{◌≡◌, sym, ap, ◌∙◌}
-use mathlib.Core.Bool.{Bool, true, false, ◌&&◌, false≢true}
+use mathlib.Core.Path.{◌≡◌, refl, sym, ap, ◌∙◌}
+use mathlib.Core.Bool.{Bool, true, false, ◌&&◌, not, cond, false≢true}
 use mathlib.Core.List.{List, [], ◌∷◌, append-nil}
 use native.Mathlib.Omega.{arith}
-use borrow.Author.Tests.{le-leb, leb-true, ltb-true, lt-ltb}
+use borrow.Author.Tests.{le-leb, leb-true, ltb-true, lt-ltb, le-ltb, eq-eqb, ne_eqb}
+use Rattle.spec.proofs.Found.{found-is, found-not}
 use lib.Dec.{leb, ltb, eqb}
-use lib.ListN.{length, set, take, drop, replicate, length-replicate, drop_of_length-le}
-use lib.Seq.{sets, sets-eq}
+use lib.ListN.{length, set, take, drop, replicate, length-replicate, length-drop, drop_of_length-le}
+use lib.Seq.{sets, sets-eq, drop-drop, take_all, length-take-le}
 use Rattle.spec.specs.Bytes.{same}
 use Rattle.spec.specs.Assets.{max_assets, id_bytes, cell_bytes, asset_bytes, max_body, capacity, used, ids_at}
 use Rattle.spec.specs.Assets.{bodies_at}
@@ -15,14 +16,19 @@ use Rattle.spec.specs.Assets.{store_bytes}
 use Rattle.spec.specs.Assets.{AssetHead, asset_head_ok, start_assets, id_ok, length_ok, cell, id_cell, body_cell, find}
 use Rattle.spec.specs.Assets.{length_at, body_place}
 use Rattle.spec.specs.Assets.{renew, used_after, out_for, cell_for, store_cells}
-use Rattle.cells.proofs.Laws.{padded-length}
-use Rattle.spec.proofs.Assets.{id-max, given-up-room, given-up-max, used-after-more, used-after-max}
+use Rattle.spec.proofs.Assets.{id-max, given-up-max}
 use Rattle.assets.specs.Cells.{with_asset}
-use Rattle.std.specs.Prelude.{Some, None}
+use Rattle.std.specs.Prelude.{Option, Some, None, Result, Ok, Err, MatchResult}
+use Rattle.std.specs.Result.{result_ok}
+use Rattle.std.specs.List.{position_or_len}
+use Rattle.std.specs.Simd.{first_chunks}
+use Rattle.spec.specs.Found.{found_below}
+use Rattle.spec.specs.declared.Refusal.{Refusal}
+use Rattle.spec.specs.declared.Refusal.TheVariants.{Store as Refused}
 use Rattle.std.specs.Int.{to_be_bytes}
 use Rattle.std.proofs.Common.{w16}
 use Rattle.spec.specs.Words.{first_where}
-use Rattle.spec.proofs.Words.{and_left, and_right, not_so, first-here, first_on, first-end}
+use Rattle.spec.proofs.Words.{and_left, and_right, not_so}
 
 -- the last test decides
 pub head-last : (bs : List ℕ) (a : ℕ) → a ≡ capacity bs → 1 ≤ a → a ≤ max_assets → used bs ≤ a → (n : ℕ)
@@ -54,10 +60,6 @@ length-bytes n h = let high : n / 256 % 256 ≡ n / 256 = omega arith in rw high
 
 -- ---- find
 
--- id cell i holds the id
-abbrev pub holds_at : List ℕ → List ℕ → ℕ → Bool
-holds_at bs id i = same (cell id_bytes ids_at i bs) (id_cell id)
-
 zeros-left : (w n : ℕ) → drop {A = ℕ} n (replicate w 0) ≡ replicate (w - n) 0
 zeros-left w zero = let q : w - 0 ≡ w = omega arith in rw q
 zeros-left zero (suc n) = let q : 0 - suc n ≡ 0 = omega arith in rw q
@@ -71,50 +73,65 @@ key_of id key h e =
     ∙ sets-eq id (replicate id_bytes 0) 0 (omega (arith, length-replicate {A = ℕ} id_bytes 0))
     ∙ rw (q, zeros-left id_bytes (length id))
 
--- the cells from i on decide, and each is compared with the key
-pub record Searching (bs id key : List ℕ) (u i : ℕ) : Type 0 where
-  pub below : i ≤ u
-  pub end : u ≡ used bs
-  pub rest : find bs id ≡ first_where (holds_at bs id) (u - i) i
-  pub key-is : key ≡ id_cell id
-  pub key-length : length key ≡ id_bytes
+-- a test of the first u chunks
+first-on : (p q : ℕ → Bool) → ((i : ℕ) → p (suc i) ≡ q i) → (n i : ℕ) → first_where p n (suc i) ≡ suc (first_where q n i)
+unfolding first_where
+first-on p q e zero i = refl
+first-on p q e (suc n) i = rw (e i, first-on p q e n (suc i)) (go (q i))
+  where
+    go : (t : Bool) → cond t (suc i) (suc (first_where q n (suc i))) ≡ suc (cond t i (first_where q n (suc i)))
+    go true = refl
+    go false = refl
 
-pub searching-none : (bs id key : List ℕ) (u : ℕ) → u ≡ used bs → id_ok id ≡ true
-    → key ≡ sets (replicate id_bytes 0) 0 id
-    → Searching bs id key u 0
+first-same : (p q : ℕ → Bool) → ((i : ℕ) → p i ≡ q i) → (n i : ℕ) → first_where p n i ≡ first_where q n i
+unfolding first_where
+first-same p q e zero i = refl
+first-same p q e (suc n) i = rw (e i, first-same p q e n (suc i))
+
+first-chunk : (q : List ℕ → Bool) (w k u : ℕ) (xs : List ℕ) → u ≤ k
+    → position_or_len q (take u (first_chunks w k xs)) ≡ first_where (λ i. q (take w (drop (w * i) xs))) u 0
+unfolding first_where
+first-chunk q w k zero xs h = refl
+first-chunk q w zero (suc u) xs h = absurd (omega arith)
+first-chunk q w (suc k) (suc u) xs h =
+    let z : w * 0 ≡ 0 = omega arith in
+    let next : (i : ℕ) → q (take w (drop (w * suc i) xs)) ≡ q (take w (drop (w * i) (drop w xs))) =
+    λ i. rw (drop-drop (w * i) w xs) (ap (λ (j : ℕ). q (take w (drop j xs))) (omega arith)) in
+    rw (z, first-chunk q w k u (drop w xs) (omega arith))
+    (go (q (take w xs)) _ _
+    (first-on (λ i. q (take w (drop (w * i) xs))) (λ i. q (take w (drop (w * i) (drop w xs)))) next u 0))
+  where
+    go : (t : Bool) (a b : ℕ) → a ≡ suc b → cond (not t) (1 + b) 0 ≡ cond t 0 a
+    go true a b e = refl
+    go false a b e = omega arith
+
+-- the id cells are the first chunks behind the head, and each is compared with the id's own cell
+pub find-is : (bs id key rest : List ℕ) (k : ℕ) → id_ok id ≡ true → key ≡ sets (replicate id_bytes 0) 0 id
+    → rest ≡ drop ids_at bs → used bs ≤ k
+    → position_or_len (λ c. same c key) (take (used bs) (first_chunks id_bytes k rest)) ≡ find bs id
 unfolding find
-searching-none bs id key u e h k =
-    let q : u - 0 ≡ used bs = omega arith in
-    let z = key_of id key (id-max id h) k in
-    let n : length key ≡ id_bytes = ap length z ∙ padded-length id_bytes id (id-max id h) in
-    record { below = omega arith; end = e; rest = rw (h, q); key-is = z; key-length = n }
+find-is bs id key rest k h e d l =
+    let is : (i : ℕ) → same (take id_bytes (drop (id_bytes * i) rest)) key ≡ same (cell id_bytes ids_at i bs) (id_cell id) =
+    λ i.
+    rw (key_of id key (id-max id h) e, d, drop-drop (id_bytes * i) ids_at bs)
+    (ap (λ (j : ℕ). same (take id_bytes (drop j bs)) (id_cell id)) (omega arith)) in
+    first-chunk (λ c. same c key) id_bytes k (used bs) rest l
+    ∙ first-same _ (λ i. same (cell id_bytes ids_at i bs) (id_cell id)) is (used bs) 0
+    ∙ rw h
 
--- the code's part of the store, and what it is
-abbrev pub id_part : List ℕ → ℕ → List ℕ
-id_part bs i = take (ids_at + i * id_bytes + id_bytes - (ids_at + i * id_bytes)) (drop (ids_at + i * id_bytes) bs)
-
-cell-is : (bs : List ℕ) (i : ℕ) → id_part bs i ≡ cell id_bytes ids_at i bs
-cell-is bs i = let q : ids_at + i * id_bytes + id_bytes - (ids_at + i * id_bytes) ≡ id_bytes = omega arith in rw q
-
-module _ {bs id key : List ℕ} {u i : ℕ} (r : Searching bs id key u i) where
-  holds-is : (t : Bool) → t ≡ same (id_part bs i) key → t ≡ holds_at bs id i
-  holds-is t g = g ∙ rw (cell-is bs i, r.key-is)
-
-  pub searching-here : i < u → (t : Bool) → t ≡ same (id_part bs i) key → t ≡ true → i ≡ find bs id
-  searching-here h t g e = first-here (holds_at bs id) (find bs id) i u r.rest h (sym (holds-is t g) ∙ e)
-
-  pub searching-on : i < u → (t : Bool) → t ≡ same (id_part bs i) key → t ≡ false → Searching bs id key u (i + 1)
-  searching-on h t g e =
-      record {
-        below = omega arith;
-        end = r.end;
-        rest = first_on (holds_at bs id) (find bs id) i u r.rest h (sym (holds-is t g) ∙ e);
-        key-is = r.key-is;
-        key-length = r.key-length;
-      }
-
-  pub searching-end : u ≤ i → i ≡ find bs id
-  searching-end h = first-end (holds_at bs id) (find bs id) i u r.rest h
+-- what the library's search over the cells gives
+pub found-cell : (bs id key rest : List ℕ) (ids cells : List (List ℕ)) (r : Option ℕ) → id_ok id ≡ true
+    → key ≡ sets (replicate id_bytes 0) 0 id → rest ≡ take (length bs - ids_at) (drop ids_at bs)
+    → ids ≡ first_chunks id_bytes (length rest / id_bytes) rest → length ids ≡ length rest / id_bytes
+    → cells ≡ take (used bs) ids → AssetHead bs
+    → r ≡ (let n = position_or_len (λ c. same c key) cells in cond (ltb n (length cells)) (Some n) None)
+    → r ≡ found_below (used bs) (find bs id)
+found-cell bs id key rest ids cells r h e d f g l head p =
+    let whole : rest ≡ drop ids_at bs = d ∙ take_all (length bs - ids_at) (drop ids_at bs) (omega (arith, length-drop ids_at bs)) in
+    let n : length rest + ids_at ≡ length bs = omega (arith, ap length whole, length-drop ids_at bs, head.len) in
+    let fit : used bs ≤ length rest / id_bytes = omega (arith, head.len, head.u_max) in
+    let few : length cells ≡ used bs = ap length l ∙ length-take-le (used bs) ids (omega arith) in
+    p ∙ rw (few, l, f, find-is bs id key rest (length rest / id_bytes) h e whole fit)
 
 -- an id that is no id finds nothing
 pub no-id : (bs id : List ℕ) (u : ℕ) → u ≡ used bs → id_ok id ≡ false → u ≡ find bs id
@@ -144,6 +161,12 @@ no_place_lem bs id h =
     h (and_left _ _ e) (ltb-true _ _ (and_left _ _ e1)) (and_right (ltb i (used bs)) _ e1)) in
     rw (sym z)
 
+-- a head that is refused
+pub head-refused : {A : Type 0} {h : Bool} (P : A → Type 0) (x : Result A Refusal)
+    → MatchResult x P (λ r. (r ≡ Refused) × (h ≡ false)) → result_ok x ≡ None → h ≡ false
+head-refused P (Ok a) m e = absurd cc
+head-refused P (Err r) m e = m.1
+
 pub place_is : (bs id : List ℕ) (i b n : ℕ) → asset_head_ok bs ≡ true → i ≡ find bs id → i < used bs
     → b ≡ bodies_at (capacity bs) → n ≡ length_at bs i → length_ok n ≡ true
     → Some (record { start = b + i * cell_bytes + 2; len = n }) ≡ body_place bs id
@@ -165,25 +188,31 @@ pub with-asset-is : (out n b : ℕ) (id body o l₁ l₂ : List ℕ) → b ≡ b
 unfolding with_asset
 with-asset-is out n b id body o l₁ l₂ eb e₁ e₂ = rw (e₂, e₁, eb)
 
+-- no room is left: the oldest
+pub oldest-given : (bs id : List ℕ) → 1 ≤ capacity bs → None ≡ found_below (used bs) (find bs id)
+    → used bs ≡ capacity bs → Some 0 ≡ found_below (used bs) (out_for id bs)
+oldest-given bs id h e f =
+    let n = found-not (used bs) {i = find bs id} e in
+    rw (le-ltb (find bs id) (used bs) (omega arith), le-ltb (used bs) (capacity bs) (omega arith), lt-ltb 0 (used bs) (omega arith))
+
 -- the numbers that store works out
 pub record Renewal (bs id : List ℕ) (out n : ℕ) : Type 0 where
   pub out-is : out ≡ out_for id bs
   pub n-is : n ≡ used_after (used bs) (out_for id bs)
-  pub more : out < n
-  pub most : n ≤ capacity bs
 
-pub renewal : (bs id : List ℕ) (u out n : ℕ) → AssetHead bs → u ≡ used bs → out ≡ out_for id bs → n ≡ used_after u out
-    → Renewal bs id out n
-renewal bs id u out n h eu eo en =
-    let r = given-up-room (capacity bs) (used bs) (find bs id) h.a_pos h.u_max in
-    let m = given-up-max (capacity bs) (used bs) (find bs id) h.a_pos h.u_max in
-    let k : n ≡ used_after (used bs) (out_for id bs) = rw (en, eo, eu) in
-    record {
-      out-is = eo;
-      n-is = k;
-      more = rw (k, eo) (used-after-more (capacity bs) (used bs) (out_for id bs) r m h.u_max);
-      most = rw k (used-after-max (capacity bs) (used bs) (out_for id bs) r m h.u_max);
-    }
+module _ {bs id : List ℕ} where
+  pub some-given : {i u : ℕ} → u ≡ used bs → Some i ≡ found_below (used bs) (out_for id bs) → Renewal bs id i u
+  some-given {i} {u} e f =
+      let g = found-is (used bs) f in
+      record { out-is = g.0; n-is = rw (ne_eqb (out_for id bs) (used bs) (λ h. omega arith)) e }
+
+  pub none-given : {u : ℕ} → AssetHead bs → u ≡ used bs → None ≡ found_below (used bs) (out_for id bs)
+      → Renewal bs id u (u + 1)
+  none-given {u} h e f =
+      let m = given-up-max (capacity bs) (used bs) (find bs id) h.a_pos h.u_max in
+      let g = found-not (used bs) {i = out_for id bs} f in
+      let q : out_for id bs ≡ used bs = omega arith in
+      record { out-is = e ∙ sym q; n-is = rw (eq-eqb _ _ q) (omega arith) }
 
 pub store_is : (bs id body l : List ℕ) (out n : ℕ) → Renewal bs id out n → l ≡ with_asset out n id body bs
     → l ≡ store_cells id body bs

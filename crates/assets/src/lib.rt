@@ -35,53 +35,39 @@ pub fn bytes_for(a: u64) -> u64
 }
 
 // Whether the head and the length of an asset store are right.
+#[tactic(auto, unfolding(spec::specs::Assets::asset_head_ok))]
 pub fn head_ok(bs: &[u8]) -> bool
     ensures { result ≡ spec.asset_head_ok bs.now }
 {
-    if bs.len() < IDS_AT {
+    let [a, u, ..] = bs else {
         return false;
-    }
-    let a = u64::from(bs[CAPACITY_AT]);
-    if a < 1 {
-        return false;
-    }
-    if MAX_ASSETS < a {
-        return false;
-    }
-    if a < u64::from(bs[USED_AT]) {
-        return false;
-    }
-    bs.len() as u64 == bytes_for(a)
+    };
+    let a = u64::from(*a);
+    (1..=MAX_ASSETS).contains(&a) && u64::from(*u) <= a && bs.len() as u64 == bytes_for(a)
 }
 
 // Whether a stored length is one that a body may have.
+#[tactic(auto, unfolding(spec::specs::Assets::length_ok))]
 pub fn length_ok(n: u64) -> bool
     ensures { result ≡ spec.length_ok n }
 {
-    1 <= n && n <= MAX_BODY
+    (1..=MAX_BODY).contains(&n)
 }
 
 // Whether the bytes are an asset's id.
+#[tactic(auto, unfolding(spec::specs::Assets::id_ok))]
 pub fn id_ok(id: &[u8]) -> bool
     ensures { result ≡ spec.id_ok id.now }
 {
-    if id.len() < 1 {
-        return false;
-    }
-    if ID_BYTES < id.len() {
-        return false;
-    }
-    id.iter().all(|x| id_byte(*x))
+    (1..=ID_BYTES).contains(&id.len()) && id.iter().all(|x| id_byte(*x))
 }
 
 // Whether id and body are an asset's.
+#[tactic(auto, unfolding(spec::specs::Assets::asset_ok, spec::specs::Assets::body_ok))]
 pub fn asset_ok(id: &[u8], body: &[u8]) -> bool
     ensures { result ≡ spec.asset_ok id.now body.now }
 {
-    if !id_ok(id) {
-        return false;
-    }
-    length_ok(body.len() as u64)
+    id_ok(id) && length_ok(body.len() as u64)
 }
 
 // The assets of a store with a right head, or refusal 2. Why no trait has this: model::checked.
@@ -101,10 +87,7 @@ pub fn body_place(bs: &[u8], id: &[u8]) -> Option<Span>
     ensures value { result ≡ spec.body_place bs.now id.now }
     ensures place_fits { PlaceFits bs.now result }
 {
-    let Ok(assets) = checked(bs) else {
-        return None;
-    };
-    assets.body_place(id)
+    checked(bs).ok()?.body_place(id)
 }
 
 // An empty store of a cells.
@@ -116,14 +99,6 @@ pub fn start(bs: &mut [u8], a: u64)
     let n = bs.len();
     cells::clear(bs, 0, n);
     bs[CAPACITY_AT] = a as u8;
-}
-
-// How many cells are used once cell `out` is given up and one is written.
-fn used_after(u: u64, out: u64) -> u64
-    requires { u ≤ max_assets }
-    ensures { result ≡ spec.used_after u out }
-{
-    if out == u { u + 1 } else { u }
 }
 
 // Of n used cells, cell `out` is given up, and the asset goes into the last one.
@@ -165,8 +140,11 @@ pub fn store(bs: &mut [u8], id: &[u8], body: &[u8]) -> u64
     ensures value { result ≡ spec.cell_for id.now bs.old }
 {
     let before = Assets::of(bs);
-    let out = before.out_for(id);
-    let n = used_after(before.used(), out);
+    let u = before.used();
+    let (out, n) = match before.out_for(id) {
+        Some(i) => (i, u),
+        None => (u, u + 1),
+    };
     put_asset(bs, out, n, id, body);
     n - 1
 }

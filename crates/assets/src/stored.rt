@@ -35,6 +35,7 @@ impl<'a> Assets<'a> {
     // How many assets the store holds at most.
     pub fn capacity(&self) -> u64
         ensures value { result ≡ capacity self.now }
+        ensures lower_bound { 1 ≤ result }
         ensures upper_bound { result ≤ max_assets }
     {
         u64::from(self.bytes[CAPACITY_AT])
@@ -59,15 +60,13 @@ impl<'a> Assets<'a> {
         }
         let mut key = [0u8; ID_BYTES];
         cells::write(&mut key, 0, id);
+        let (ids, _) = bytes[IDS_AT..].as_chunks::<ID_BYTES>();
         // not by `used`: read in place, the byte costs the callers less
-        for i in 0..u64::from(bytes[USED_AT]) {
-            let start = IDS_AT + i as usize * ID_BYTES;
-            let end = start + ID_BYTES;
-            if cells::same_bytes(&bytes[start..end], &key) {
-                return Some(i);
-            }
-        }
-        None
+        let used = usize::from(bytes[USED_AT]);
+        let i = ids[..used]
+            .iter()
+            .position(|cell| cells::same_bytes(cell, &key))?;
+        Some(i as u64)
     }
 
     // Where the body cells begin.
@@ -106,16 +105,13 @@ impl<'a> Assets<'a> {
         })
     }
 
-    // The cell that is given up for the id: the one that holds it, none (as many as are used) while there is room, or
-    // the oldest.
-    pub(super) fn out_for(&self, id: &[u8]) -> u64
-        ensures { result ≡ spec.out_for id.now self.now }
+    // The cell that is given up for the id: the one that holds it, or the oldest where no room is left.
+    pub(super) fn out_for(&self, id: &[u8]) -> Option<u64>
+        ensures { result ≡ found_below (used self.now) (spec.out_for id.now self.now) }
     {
-        let u = self.used();
         match self.find(id) {
-            Some(i) => i,
-            None if u < self.capacity() => u,
-            None => 0,
+            None if self.used() == self.capacity() => Some(0),
+            found => found,
         }
     }
 }

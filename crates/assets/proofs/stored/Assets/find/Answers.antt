@@ -1,11 +1,12 @@
-use mathlib.Core.Path.{refl}
-use native.Mathlib.Omega.{arith}
-use borrow.Author.Rules.{rules}
+-- The library's position, of the cells compared with the id's own.
+use Rattle.std.proofs.Common.{refl, rules, tests, take, ◌∙◌, sym, arith}
+use Rattle.std.proofs.lemmas.Iterator.{YieldsList-from_slice}
+use Rattle.std.proofs.lemmas.Iterator.Search.{position_from_yields_List}
 use Rattle.spec.proofs.Words.{told}
-use Rattle.spec.proofs.Found.{found-some, found-none}
+use Rattle.spec.proofs.Found.{found-none}
+use Rattle.spec.specs.Bytes.{same}
 use Rattle.spec.proofs.Assets.{id-max}
-use Rattle.assets.proofs.Laws.{searching-none, searching-here, searching-on}
-use Rattle.assets.proofs.Laws.{searching-end, no-id}
+use Rattle.assets.proofs.Laws.{found-cell, no-id}
 use Rattle.assets.proofs.stored.Assets.find.Goals as goal
 
 pub returns-then-not-id_ok-clause-value : goal.returns-then-not-id_ok-clause-value
@@ -18,24 +19,26 @@ write-requires c =
     let h = id-max _ (told c.id_ok.ensures c.if-not-id_ok.false) in
     search rules
 
-pub loop-i-init : goal.loop-i-init
-loop-i-init c =
-    searching-none _ _ _ _ c.from-i-end.ensures
-    (told c.id_ok.ensures c.if-not-id_ok.false)
-    c.write.ensures
-
-pub returns-then-same_bytes-clause-value : goal.returns-then-same_bytes-clause-value
-returns-then-same_bytes-clause-value c =
-    let l = c.loop-i in
-    rw (← c.self.view_is)
-    (found-some _ (searching-here l.invariant (omega arith) _ c.same_bytes.ensures c.if-same_bytes.true) (omega arith))
-
-pub loop-i-preserved : goal.loop-i-preserved
-loop-i-preserved c =
-    let l = c.loop-i in
-    searching-on l.invariant (omega arith) _ c.same_bytes.ensures c.if-same_bytes.false
-
 pub returns-clause-value : goal.returns-clause-value
 returns-clause-value c =
-    let e = searching-end c.loop-i.invariant (omega arith) in
-    rw (← c.self.view_is) (found-none _ (omega arith))
+    let bs = c.self.inside.bytes.now in
+    let ids = c.as_chunks.result.0.now in
+    let p =
+    position_from_yields_List {all = take c.from-used.result ids} (λ x. same x c.write.new.bs) _ _ c.position.result
+    c.position.ensures.ran (YieldsList-from_slice _ c.iter.ensures.rest) (λ x b q k. search (rules, tests)) in
+    let f =
+    found-cell bs c.args.id.now c.write.new.bs _ ids _ c.position.result (told c.id_ok.ensures c.if-not-id_ok.false)
+    c.write.ensures refl c.as_chunks.ensures.front c.as_chunks.ensures.front_len (rw c.from-used.ensures) c.self.invariant p in
+    sym c.in_ok-i.was ∙ rw (← c.self.view_is) f
+
+pub returns-in_err-i-clause-value : goal.returns-in_err-i-clause-value
+returns-in_err-i-clause-value c =
+    let bs = c.self.inside.bytes.now in
+    let ids = c.as_chunks.result.0.now in
+    let p =
+    position_from_yields_List {all = take c.from-used.result ids} (λ x. same x c.write.new.bs) _ _ c.position.result
+    c.position.ensures.ran (YieldsList-from_slice _ c.iter.ensures.rest) (λ x b q k. search (rules, tests)) in
+    let f =
+    found-cell bs c.args.id.now c.write.new.bs _ ids _ c.position.result (told c.id_ok.ensures c.if-not-id_ok.false)
+    c.write.ensures refl c.as_chunks.ensures.front c.as_chunks.ensures.front_len (rw c.from-used.ensures) c.self.invariant p in
+    c.from_residual.ensures ∙ sym c.in_err-i.was ∙ rw (← c.self.view_is) f
