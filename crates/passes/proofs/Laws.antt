@@ -15,6 +15,8 @@ use Rattle.observations.specs.Ring.{ring_word}
 use Rattle.rows.specs.Rows.{Unwrapped}
 use Rattle.rows.proofs.Ranges.{run-next}
 use Rattle.rows.proofs.Laws.{word_at}
+use Rattle.std.specs.Prelude.{min}
+use Rattle.picks.specs.Picks.{block}
 use Rattle.picks.specs.Pass.{stepped_ok, word_of, number_stepped, pass_marks, pass_ok, seen_from, Passed}
 use Rattle.picks.proofs.Numbers.{seen_step, seen_end, run-add}
 use Rattle.passes.specs.Passes.{Skipped}
@@ -209,6 +211,11 @@ module _ {steps m : ℕ} {st : List ℕ} {f a e : ℕ} {o l : List (List ℕ)} {
         marks = z.marks ∙ k.marks l;
         seen = z.seen ∙ k.seen;
       }
+
+  -- a turn: those are skipped, and a block begins behind them, which ends in the run
+  pub one_turn : {r d : ℕ} {w' : List ℕ} → (s ≤ r) × (r ≤ e) → Skipped steps m st f e s r w w' → d ≡ min block (e - r)
+      → Passing steps m st f a e o l v w' r (q + (r - s)) × (r + d ≤ e)
+  one_turn h k n = (passing-skip h k, omega (arith, h.1, n))
 
   -- a block of numbers up to g
   module _ {g : ℕ} (h1 : s ≤ g) (h2 : g ≤ e) {l' : List (List ℕ)} {w' : List ℕ} {t : Bool} (b : Passed steps m st f s g l l' w w' t)
