@@ -1,5 +1,5 @@
 // The observation store behind a right head, to be read: what the head says, and the places of ring and tables.
-ghost use Rattle.std.specs.Prelude.{◌≡◌, true, false, [], ◌∷◌, ◌+◌, ◌*◌, ◌≤◌, ◌<◌, List, ℕ, MatchResult};
+ghost use Rattle.std.specs.Prelude.{◌≡◌, true, false, [], ◌∷◌, ◌+◌, ◌*◌, ◌≤◌, ◌<◌, List, ℕ, length, get_or, MatchResult};
 ghost use Rattle.spec.specs.declared.Refusal.TheVariants.{Store as Refused};
 ghost use Rattle.spec.specs.Model.{max_items};
 ghost use Rattle.history.specs.Observations.{max_ring, max_number, ring_size, item_count, base, last};
@@ -7,8 +7,9 @@ ghost use Rattle.history.specs.Observations.{latest_at, checkpoint_at, place, he
 ghost use Rattle.spec.specs.Words.{row};
 ghost use Rattle.history.specs.Calls.{first};
 ghost use Rattle.observations.specs.Headed.{Headed};
+ghost use Rattle.observations.specs.Ring.{ring_word};
 
-use super::{ITEM_COUNT_AT, Row, head_ok};
+use super::{ITEM_COUNT_AT, RING_AT, Row, head_ok};
 use spec::Refusal;
 use std::marker::Model;
 
@@ -89,6 +90,16 @@ impl<'a> Store<'a> {
         ensures low { result < ring_size self.now }
     {
         super::place(self.ring_size(), self.base(), s)
+    }
+
+    // The packed words of k entries of the ring, from place p on.
+    pub fn ring_words(&self, p: u64, k: u64) -> &'a [u64]
+        requires { p + k ≤ ring_size self.now }
+        ensures len { length result.now ≡ k }
+        ensures each { (i : ℕ) → i < k → get_or result.now i 0 ≡ ring_word self.now (ring_size self.now) (p + i) }
+    {
+        let at = RING_AT + self.ring_size() + p;
+        &self.words[at as usize..(at + k) as usize]
     }
 
     // Where the latest table begins.

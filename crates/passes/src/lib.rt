@@ -21,16 +21,17 @@ fn plain_run(st: &Store<'_>, steps: u64, f: u64, run: Run, seen: &mut [u64; ITEM
     ensures bounds { (run.from ≤ result) × (result ≤ run.to) }
     ensures skipped { Skipped steps (item_count st.now) st.now f run.to run.from result seen.old seen.new }
 {
-    let words = st.slice();
+    // behind it the head is known
+    let _ = st.slice();
     let m = st.items();
-    let n = st.ring_size();
-    for number in run.from..run.to {
-        let word = observations::ring_word(words, n, run.place + (number - run.from));
-        let i = value::item_of(word);
+    let words = st.ring_words(run.place, run.to - run.from);
+    let begin = run.from - f + FIRST_PLACE;
+    for (far, word) in words.iter().enumerate() {
+        let i = value::item_of(*word);
         if m <= i || selection::has(steps, i) {
-            return number;
+            return run.from + far as u64;
         }
-        seen[i as usize] = number - f + FIRST_PLACE;
+        seen[i as usize] = begin + far as u64;
     }
     run.to
 }

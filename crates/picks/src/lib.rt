@@ -40,17 +40,18 @@ fn gather(
     ensures gathered { is_some result ≡ true →
         Gathered steps st.now f run.from run.to seen.old seen.new picks.new }
 {
-    let words = st.slice();
+    // behind it the head is known
+    let _ = st.slice();
     let m = st.items();
-    let n = st.ring_size();
+    let words = st.ring_words(run.place, run.to - run.from);
+    let begin = run.from - f + FIRST_PLACE;
     let mut count: u64 = 0;
-    for number in run.from..run.to {
-        let far = number - run.from;
-        let i = value::item_of(observations::ring_word(words, n, run.place + far));
+    for (far, word) in words.iter().enumerate() {
+        let i = value::item_of(*word);
         if m <= i {
             return None;
         }
-        seen[i as usize] = number - f + FIRST_PLACE;
+        seen[i as usize] = begin + far as u64;
         // below BLOCK
         picks[count as usize] = far as u8;
         count += selection::bit_of(steps, i);

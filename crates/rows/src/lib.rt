@@ -59,14 +59,13 @@ pub fn runs(n: u64, b: u64, f: u64, e: u64) -> (Run, Run)
 // One run of count_rows.
 fn count_run(st: &Store<'_>, selection: u64, run: Run) -> Option<u64>
     requires run { Unwrapped (ring_size st.now) (base st.now) run.to run.from run.place }
+    requires ordered { run.from ≤ run.to }
     ensures { result ≡ counted (item_count st.now) st.now selection run.from run.to }
 {
-    let words = st.slice();
     let m = st.items();
-    let n = st.ring_size();
     let mut count: u64 = 0;
-    for s in run.from..run.to {
-        let i = value::item_of(observations::ring_word(words, n, run.place + (s - run.from)));
+    for word in st.ring_words(run.place, run.to - run.from) {
+        let i = value::item_of(*word);
         if m <= i {
             return None;
         }
@@ -97,7 +96,8 @@ pub fn write_row(out: &mut [u64], c: u64, a: u64, row: Row)
 }
 
 // One run of write_rows, where `done` of the k rows are written; how many are written then. No plainer as one with
-// count_run, which may fail; nor with done, k and out in a struct, which would hold a lent buffer.
+// count_run, which may fail; nor with done, k and out in a struct, which would hold a lent buffer; nor over the run's
+// words, since a row takes number, time and word of one place.
 fn write_run(st: &Store<'_>, selection: u64, run: Run, done: u64, k: u64, out: &mut [u64]) -> u64
     requires run { Unwrapped (ring_size st.now) (base st.now) run.to run.from run.place }
     requires e_value { items_ok (item_count st.now) st.now run.from run.to ≡ true }

@@ -1,4 +1,3 @@
-use Prim.Native.Nat.{◌+◌, ◌≤◌}
 use mathlib.Core.Path.{ap}
 use native.Mathlib.Omega.{arith}
 use Rattle.std.specs.Prelude.{is_some}

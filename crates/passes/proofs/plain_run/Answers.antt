@@ -1,22 +1,23 @@
-use Prim.Native.Nat.{◌+◌, ◌-◌}
+use Prim.Native.Nat.{◌+◌, ◌<◌}
 use mathlib.Core.Path.{◌≡◌, refl, sym, ◌∙◌}
 use native.Mathlib.Omega.{arith}
 use Rattle.passes.proofs.Laws.{skipping-start, skipping-more}
 use Rattle.passes.proofs.plain_run.Goals as goal
 
-pub loop-number-init : goal.loop-number-init
-loop-number-init c =
+pub loop-far-init : goal.loop-far-init
+loop-far-init c =
     let r = c.args.run in
-    let q : r.place + (r.from - r.from) ≡ r.place = omega arith in
-    rw q (skipping-start _ _ _ _ _ _ _ _ c.requires.run c.requires.ordered)
+    let q : r.from + 0 ≡ r.from = omega arith in
+    let p : r.place + 0 ≡ r.place = omega arith in
+    rw (q, p) (skipping-start _ _ _ _ _ _ _ _ c.requires.run c.requires.ordered)
 
-pub loop-number-preserved : goal.loop-number-preserved
-loop-number-preserved c =
-    let r = c.args.run in
-    let q : r.place + (c.loop-number.number + 1 - r.from) ≡ r.place + (c.loop-number.number - r.from) + 1 =
-    omega arith in
-    let w = rw c.slice-words.ensures.value at c.ring_word-word.ensures in
-    rw q
-    (skipping-more c.loop-number.invariant c.loop-number-test.true c.ring_size-n.ensures.is w
-    c.item_of-i.ensures (rw c.items-m.ensures.0 at c.if-m-i.false) (sym c.has.ensures ∙
-    c.if-has.false) refl)
+pub loop-far-preserved : goal.loop-far-preserved
+loop-far-preserved c =
+    let w = c.ring_words-words.ensures in
+    let i = c.loop-far.far in
+    let h : c.args.run.from + i < c.args.run.to = omega (arith, w.len) in
+    let q : c.args.run.from + (i + 1) ≡ c.args.run.from + i + 1 = omega arith in
+    let p : c.args.run.place + (i + 1) ≡ c.args.run.place + i + 1 = omega arith in
+    rw (q, p)
+    (skipping-more c.loop-far.invariant h refl (w.each _ (omega (arith, w.len))) c.item_of-i.ensures
+    (rw c.items-m.ensures.0 at c.if-m-i.false) (sym c.has.ensures ∙ c.if-has.false) (omega (arith, c.requires.from)))

@@ -1,9 +1,9 @@
-use Prim.Native.Nat.{◌+◌, ◌-◌}
+use Prim.Native.Nat.{◌+◌}
 use Rattle.history.specs.Observations.{item_count}
 use Rattle.picks.proofs.Gathers.{Gathering}
 use Rattle.picks.proofs.gather.Given as goal
 
-abbrev pub invariant-loop-number : goal.invariant-loop-number
-invariant-loop-number l =
-    Gathering l.steps (item_count l.st) l.st l.f l.run.from l.run.to l.initial.seen l.seen l.picks l.count l.number
-    (l.run.place + (l.number - l.run.from))
+abbrev pub invariant-loop-far : goal.invariant-loop-far
+invariant-loop-far l =
+    Gathering l.steps (item_count l.st) l.st l.f l.fn.run.from l.fn.run.to l.initial.seen l.seen l.picks l.count
+    (l.fn.run.from + l.far) (l.fn.run.place + l.far)

@@ -1,24 +1,38 @@
-use Prim.Native.Nat.{◌+◌, ◌-◌}
-use mathlib.Core.Path.{◌≡◌}
+use Prim.Native.Nat.{◌+◌, ◌<◌}
+use mathlib.Core.Path.{◌≡◌, refl}
 use native.Mathlib.Omega.{arith}
-use Rattle.rows.proofs.Laws.{counting-broken, counting_more, counting-end}
+use Rattle.rows.proofs.Laws.{counting-start, counting-broken, counting_more, counting-end}
 use Rattle.rows.proofs.count_run.Goals as goal
+
+pub loop-word-init : goal.loop-word-init
+loop-word-init c =
+    let r = c.args.run in
+    let q : r.from + 0 ≡ r.from = omega arith in
+    let p : r.place + 0 ≡ r.place = omega arith in
+    rw (q, p) (counting-start _ _ _ _ _ _ c.requires.run)
 
 pub returns-then-m-i : goal.returns-then-m-i
 returns-then-m-i c =
-    let w = rw c.slice-words.ensures.value at c.ring_word.ensures in
-    counting-broken c.loop-s.invariant c.loop-s-test.true c.ring_size-n.ensures.is w
-    c.item_of-i.ensures (rw c.items-m.ensures.0 at c.if-m-i.true)
+    let w = c.ring_words-word-items.ensures in
+    let h : c.args.run.from + c.loop-word.word-index < c.args.run.to = omega (arith, w.len) in
+    counting-broken c.loop-word.invariant h refl (w.each _ (omega (arith, w.len))) c.item_of-i.ensures
+    (rw c.items-m.ensures.0 at c.if-m-i.true)
 
-pub loop-s-preserved : goal.loop-s-preserved
-loop-s-preserved c =
-    let r = c.args.run in
-    let w = rw c.slice-words.ensures.value at c.ring_word.ensures in
-    let q : r.place + (c.loop-s.s + 1 - r.from) ≡ r.place + (c.loop-s.s - r.from) + 1 = omega arith in
-    rw q
-    (counting_more c.loop-s.invariant c.loop-s-test.true c.ring_size-n.ensures.is w
-    c.item_of-i.ensures (rw c.items-m.ensures.0 at c.if-m-i.false) c.bit_of-count.ensures)
+pub overflow_add-count : goal.overflow_add-count
+overflow_add-count c =
+    omega (arith, c.loop-word.invariant.few, c.bit_of-count.ensures.1)
+
+pub loop-word-preserved : goal.loop-word-preserved
+loop-word-preserved c =
+    let w = c.ring_words-word-items.ensures in
+    let i = c.loop-word.word-index in
+    let h : c.args.run.from + i < c.args.run.to = omega (arith, w.len) in
+    let q : c.args.run.from + (i + 1) ≡ c.args.run.from + i + 1 = omega arith in
+    let p : c.args.run.place + (i + 1) ≡ c.args.run.place + i + 1 = omega arith in
+    rw (q, p)
+    (counting_more c.loop-word.invariant h refl (w.each _ (omega (arith, w.len))) c.item_of-i.ensures
+    (rw c.items-m.ensures.0 at c.if-m-i.false) c.bit_of-count.ensures)
 
 pub returns : goal.returns
 returns c =
-    counting-end c.loop-s.invariant c.loop-s-test.false
+    counting-end c.loop-word.invariant (omega (arith, c.ring_words-word-items.ensures.len))
