@@ -1,6 +1,6 @@
 -- What the code comes to: each way through a change, and that its places are places of the marks.
 use Prim.Native.Nat.{ℕ, suc, ◌<◌}
-use mathlib.Core.Path.{◌≡◌, sym, ◌∙◌}
+use mathlib.Core.Path.{◌≡◌, refl, sym, ◌∙◌}
 use mathlib.Core.Bool.{true, false, ◌&&◌, not, and-false}
 use mathlib.Core.List.{List}
 use native.Mathlib.Omega.{arith}
@@ -10,7 +10,9 @@ use lib.ListN.{length, get_or}
 use borrow.Author.Tests.{eq-eqb, ne_eqb, eqb-true, eqb-false}
 use Rattle.spec.specs.Entries.{active, normal, code_field}
 use Rattle.spec.proofs.Words.{by_cond}
-use Rattle.marks.specs.Marks.{key_in, key_of, place_of}
+use Rattle.marks.specs.Marks.{key_in, key_of, place_of, found_at}
+use Rattle.std.specs.Prelude.{Option, Some, None, MatchOption}
+use Rattle.marks.proofs.Laws.{found-some, found-none}
 use Rattle.marks.proofs.Keys.{place-max}
 use Rattle.changes.specs.Changes.{raised_for, cleared_for, change_for, ChangeFits}
 use Rattle.changes.specs.declared.Change.{Change}
@@ -75,6 +77,14 @@ module _ (key : ℕ) (ms : List ℕ) {j : ℕ} (at : j ≡ place_of key ms) wher
   pub cleared-out : (j ≡ 8 → ⊥) → (get_or ms j 0 ≡ 0 → ⊥) → (get_or ms 1 0 ≡ 0 → ⊥) → Out j ≡ cleared_for key ms
   unfolding cleared_for
   cleared-out f g h = rw (← at, ne_eqb j 8 f, ne_eqb (get_or ms j 0) 0 g, ne_eqb (get_or ms 1 0) 0 h)
+
+-- by what is looked for, Full where it isn't found
+pub raised-by : (key : ℕ) (ms : List ℕ) (o : Option ℕ) → length ms ≡ 8 → o ≡ found_at key ms → {r : Change}
+    → {P : ℕ → Type 0} → MatchOption o (r ≡ Full) P → ((x : ℕ) → P x → r ≡ Put x) → r ≡ raised_for key ms
+raised-by key ms None l e h f = h ∙ raised-full key ms refl (sym (found-none key ms e) ∙ l)
+raised-by key ms (Some j) l e h f =
+    let p = found-some key ms e in
+    f j h ∙ raised-put key ms (p.0) (λ q. omega (arith, p.1))
 
 module _ (own : ℕ) (ms : List ℕ) (word : ℕ) where
   pub change-first : key_in (get_or ms 0 0) ≡ 0 → Alone ≡ change_for own ms word

@@ -7,7 +7,8 @@ ghost use Rattle.changes.specs.Changes.{raised_for, cleared_for, change_for, Cha
 use spec::ENTRY_SLOTS;
 
 // What an observation does to the eight entries of its item: it is put at a place, it stands alone, the entry at a
-// place goes out, they stay, or it would be a ninth.
+// place goes out, they stay, or it would be a ninth. Full is no Option's None: by its definition it is a change too, one
+// that leaves the eight as they are, so that who knows that there is room does the change with no test.
 #[derive(Clone, Copy)]
 pub enum Change {
     Put(usize),
@@ -21,10 +22,7 @@ pub enum Change {
 fn raised(marks: &[u64; ENTRY_SLOTS], key: u64) -> Change
     ensures { result ≡ raised_for key marks.now }
 {
-    let Some(j) = marks::find(marks, key) else {
-        return Change::Full;
-    };
-    Change::Put(j)
+    marks::find(marks, key).map_or(Change::Full, Change::Put)
 }
 
 // A Normal of one code where others are active: its entry, if there is one, goes out; in the place of the last one,
@@ -32,16 +30,16 @@ fn raised(marks: &[u64; ENTRY_SLOTS], key: u64) -> Change
 fn cleared(marks: &[u64; ENTRY_SLOTS], key: u64) -> Change
     ensures { result ≡ cleared_for key marks.now }
 {
-    let Some(j) = marks::find(marks, key) else {
-        return Change::Stay;
-    };
-    if marks[j] == 0 {
-        return Change::Stay;
+    match marks::find(marks, key) {
+        Some(j) if marks[j] != 0 => {
+            if marks[1] == 0 {
+                Change::Alone
+            } else {
+                Change::Out(j)
+            }
+        }
+        _ => Change::Stay,
     }
-    if marks[1] == 0 {
-        return Change::Alone;
-    }
-    Change::Out(j)
 }
 
 // What an observation, by its packed word, does to the entries of eight marks.

@@ -14,7 +14,7 @@ fn take_out(words: &mut [u64; ENTRY_SLOTS], j: usize)
     ensures { words.new ≡ without 0 j words.old }
 {
     words.copy_within(j + 1.., j);
-    words[7] = 0;
+    words[ENTRY_SLOTS - 1] = 0;
 }
 
 // Eight words become x, and zeros behind it.
@@ -40,8 +40,7 @@ pub fn apply(words: &mut [u64; ENTRY_SLOTS], change: Change, x: u64)
         Change::Out(j) => {
             take_out(words, j);
         }
-        Change::Stay => {}
-        Change::Full => {}
+        Change::Stay | Change::Full => {}
     }
 }
 

@@ -231,10 +231,6 @@ row_of st t w (suc n) k (suc j) h =
     let e : suc k + j ≡ k + suc j = omega arith in
     row_of st t w n (suc k) j (omega arith) ∙ rw e
 
-pub row_first : (st : List ℕ) (t w n k : ℕ) → get_or (table_rows st t w (suc n) k) 0 [] ≡ row st t w k 3
-unfolding table_rows
-row_first st t w n k = refl
-
 pub rows-many : (st : List ℕ) (t w n k : ℕ) → length (table_rows st t w n k) ≡ n
 unfolding table_rows
 rows-many st t w zero k = refl

@@ -2,7 +2,7 @@
 use Prim.Native.Nat.{ℕ, suc, ◌≤◌, ◌<◌}
 use mathlib.Core.Path.{◌≡◌, refl, sym, ap, ◌∙◌}
 use mathlib.Core.Bool.{Bool, true, false, cond, ◌&&◌, ◌||◌, not, true≢false, and-false, and-true, not-not}
-use mathlib.Core.Bool.{or-false, or_assoc}
+use mathlib.Core.Bool.{or-false, or_assoc, and_assoc}
 use mathlib.Core.List.{List, [], ◌∷◌, ◌++◌, append-nil}
 use native.Mathlib.Omega.{arith}
 use lib.Dec.{leb, eqb, eqb-suc-zero}
@@ -219,25 +219,19 @@ found-at n key ms h =
     (λ t. rw t)
     (λ t. rw (t, ne_eqb (place_of key ms) n (omega (arith, ltb-false (place_of key ms) (length ms) t))))
 
--- a branch of may_follow each
-module _ (n key : ℕ) (ms : List ℕ) where
-  pub may-first : n ≡ 0 → true ≡ may_follow n key ms
+-- behind another, the two keys decide, and then the place
+module _ (n key : ℕ) (ms : List ℕ) (some : n ≡ 0 → ⊥) where
+  may-behind : {keyed : Bool} → keyed ≡ not (eqb key 0) && not (eqb (key_in (get_or ms 0 0)) 0)
+      → keyed && eqb (place_of key ms) n ≡ may_follow n key ms
   unfolding may_follow
-  may-first e = rw e
+  may-behind e = rw (e, ne_eqb n 0 some) (and_assoc (not (eqb key 0)) (not (eqb (key_in (get_or ms 0 0)) 0)) (eqb (place_of key ms) n))
 
-  module _ (some : n ≡ 0 → ⊥) where
-    pub may-keyless : key ≡ 0 → false ≡ may_follow n key ms
-    unfolding may_follow
-    may-keyless e = rw (ne_eqb n 0 some, e)
+  module _ {keyed : Bool} (e : keyed ≡ not (eqb key 0) && not (eqb (key_in (get_or ms 0 0)) 0)) where
+    pub may-not : keyed ≡ false → keyed ≡ may_follow n key ms
+    may-not f = f ∙ rw f at (may-behind e)
 
-    module _ (keyed : key ≡ 0 → ⊥) where
-      pub may-idle : key_in (get_or ms 0 0) ≡ 0 → false ≡ may_follow n key ms
-      unfolding may_follow
-      may-idle e = rw (ne_eqb n 0 some, ne_eqb key 0 keyed, e)
-
-      pub may-place : (key_in (get_or ms 0 0) ≡ 0 → ⊥) → eqb (place_of key ms) n ≡ may_follow n key ms
-      unfolding may_follow
-      may-place e = rw (ne_eqb n 0 some, ne_eqb key 0 keyed, ne_eqb (key_in (get_or ms 0 0)) 0 e)
+    pub may-keyed : keyed ≡ true → eqb (place_of key ms) n ≡ may_follow n key ms
+    may-keyed f = rw f at (may-behind e)
 
 -- ---- what fill answers
 

@@ -4,3 +4,4 @@ pub mod Marks
 pub mod Laws
 pub mod Filling
 pub mod Unused
+pub mod Kept

@@ -13,24 +13,20 @@ pub use table::Entries;
 
 // Whether an entry with this key may follow n others, which eight marks tell of: the first may be anything, others are
 // active with a code of their own.
+#[tactic(auto, unfolding(crate::specs::Forms::may_follow))]
 fn may_follow(marks: &[u64; ENTRY_SLOTS], n: u64, key: u64) -> bool
     requires { n < 8 }
     ensures { result ≡ may_follow n key marks.now }
 {
-    if n == 0 {
-        return true;
-    }
-    if key == 0 {
-        return false;
-    }
-    if marks::key_in(marks[0]) == 0 {
-        return false;
-    }
-    marks::find(marks, key).is_some_and(|place| place as u64 == n)
+    n == 0
+        || key != 0
+            && marks::key_in(marks[0]) != 0
+            && marks::find(marks, key).is_some_and(|place| place as u64 == n)
 }
 
 // The marks of item own's eight entries to eight words, which are 0: the entries from 1 on with their keys. How many
-// are used, where they have their written form.
+// are used, where they have their written form; 0 is no refusal, since a checkpoint may have none, and who needs one
+// filters it out.
 pub fn fill(entries: &Entries<'_>, own: u64, marks: &mut [u64; ENTRY_SLOTS]) -> Option<u64>
     requires own_bound { own < 2 ^ 24 }
     requires unmarked { marks.old ≡ replicate 8 0 }
@@ -42,18 +38,12 @@ pub fn fill(entries: &Entries<'_>, own: u64, marks: &mut [u64; ENTRY_SLOTS]) -> 
     for j in 0..entries.len() {
         let row = entries.row(j);
         if row.number == 0 {
-            if row.time != 0 {
-                return None;
-            }
-            if row.packed != 0 {
+            if row.time != 0 || row.packed != 0 {
                 return None;
             }
         } else {
-            if n != j {
-                return None;
-            }
             let key = marks::key_of(own, row.packed);
-            if !may_follow(marks, n, key) {
+            if n != j || !may_follow(marks, n, key) {
                 return None;
             }
             marks[j as usize] = marks::mark_of(j + 1, key);

@@ -1,4 +1,5 @@
 // A table of the store takes an observation, and the entry that a number overwrites goes to its item's checkpoint.
+// The store's numbers go beside it, since no type holds them and a `&mut` of its words: recording.
 #![tactic(auto)]
 
 ghost use Rattle.std.specs.Prelude.{◌≡◌, [], ◌∷◌, ◌<◌};

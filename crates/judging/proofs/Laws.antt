@@ -18,10 +18,21 @@ use Rattle.marks.proofs.Repeats.{normal-none, normal-free, normal-there, all-act
 use Rattle.judging.specs.Findings.{repeated_if, raised_judged, cleared_judged, judged}
 use Rattle.judging.specs.declared.Judged.{Judged}
 use Rattle.judging.specs.declared.Judged.TheVariants.{Repeated, New}
-use Rattle.std.specs.Prelude.{Ok, Err}
+use Rattle.std.specs.Prelude.{Ok, Err, Option, Some, None, ok_or}
+use Rattle.spec.specs.declared.Refusal.{Refusal}
+use mathlib.Core.Logic.{◌⊎◌, inl, inr}
 use Rattle.spec.specs.declared.Refusal.TheVariants.{Store, Crowded}
 use Rattle.entries.proofs.Filling.{FilledBy, by-marked, by-eight, by-formed}
 use Rattle.entries.proofs.Marks.{used-at}
+use Rattle.entries.proofs.Laws.{filled-broken, filled-used}
+use Rattle.entries.specs.Forms.{filled}
+
+-- ---- what stands behind a `?`
+
+-- the refusal where there is none
+pub refusal-is : {A : Type 0} (o : Option A) {r s : Refusal} → Err r ≡ ok_or o s → o ≡ None → r ≡ s
+refusal-is None e n = cc
+refusal-is (Some x) e n = absurd (cc)
 
 -- ---- a branch each
 
@@ -57,13 +68,19 @@ module _ (own : ℕ) (rs : List (List ℕ)) where
   unfolding form_ok
   form-one = rw (le-leb 0 (length (used_rows rs)) (omega arith))
 
-  pub judged-broken : (word : ℕ) → form_ok own 0 rs ≡ false → Err Store ≡ judged own rs word
+  judged-broken : (word : ℕ) → form_ok own 0 rs ≡ false → Err Store ≡ judged own rs word
   unfolding judged
   judged-broken word f = rw (form-one, f, and-false)
 
-  pub judged-none : (word : ℕ) → length (used_rows rs) ≡ 0 → Err Store ≡ judged own rs word
+  judged-none : (word : ℕ) → length (used_rows rs) ≡ 0 → Err Store ≡ judged own rs word
   unfolding judged
   judged-none word z = rw (form-one, z)
+
+  -- not filled, or no row used
+  pub judged-unused : (word : ℕ) {o : Option ℕ} → o ≡ filled own rs → (o ≡ None) ⊎ (o ≡ Some 0)
+      → Err Store ≡ judged own rs word
+  judged-unused word e (inl n) = judged-broken word (filled-broken own rs (sym n ∙ e))
+  judged-unused word e (inr n) = judged-none word (sym (filled-used own rs (sym n ∙ e)).1)
 
 -- the rows are filled, and one at least is used
 module _ {own : ℕ} {rs : List (List ℕ)} {marks : List ℕ} {n : ℕ} (by : FilledBy own rs marks n) (used : n ≡ 0 → ⊥)

@@ -14,7 +14,7 @@ pub enum Judged {
     New,
 }
 
-// Repeated where the test says so.
+// Repeated where the test says so. No From of a bool: that wouldn't say which way.
 fn repeated_if(test: bool) -> Judged
     ensures { result ≡ repeated_if test }
 {
@@ -30,9 +30,7 @@ fn judge_raised(
 ) -> Result<Judged, Refusal>
     ensures { result ≡ raised_judged entries.now marks.now key word }
 {
-    let Some(j) = marks::find(marks, key) else {
-        return Err(Refusal::Crowded);
-    };
+    let j = marks::find(marks, key).ok_or(Refusal::Crowded)?;
     if marks[j] == 0 {
         return Ok(Judged::New);
     }
@@ -44,10 +42,10 @@ fn judge_raised(
 fn judge_cleared(marks: &[u64; ENTRY_SLOTS], key: u64) -> Judged
     ensures { result ≡ cleared_judged marks.now key }
 {
-    let Some(j) = marks::find(marks, key) else {
-        return Judged::Repeated;
-    };
-    repeated_if(marks[j] == 0)
+    match marks::find(marks, key) {
+        Some(j) => repeated_if(marks[j] == 0),
+        None => Judged::Repeated,
+    }
 }
 
 // What observe finds in item own's eight latest entries, of a packed word.
@@ -56,12 +54,9 @@ pub fn judge(entries: &Entries<'_>, own: u64, word: u64) -> Result<Judged, Refus
     ensures { result ≡ judged own entries.now word }
 {
     let mut marks = [0u64; ENTRY_SLOTS];
-    let Some(n) = entries::fill(entries, own, &mut marks) else {
-        return Err(Refusal::Store);
-    };
-    if n == 0 {
-        return Err(Refusal::Store);
-    }
+    entries::fill(entries, own, &mut marks)
+        .filter(|n| *n != 0)
+        .ok_or(Refusal::Store)?;
     let key = marks::key_of(own, word);
     if key != 0 {
         return judge_raised(entries, &marks, key, word);

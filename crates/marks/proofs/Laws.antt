@@ -1,16 +1,15 @@
--- What the code comes to: words that are active or Normal, the place of a key, and one of eight words written where it
--- stands.
-use Prim.Native.Nat.{ℕ, zero, suc, ◌+◌, ◌-◌, ◌*◌, ◌/◌, ◌%◌, ◌^◌, ◌≤◌, ◌<◌}
-use mathlib.Core.Path.{◌≡◌, refl, sym, ap, ◌∙◌}
+-- What the code comes to: words that are active or Normal, the place of a key, and eight words lent out of others.
+use Prim.Native.Nat.{ℕ, suc, ◌+◌, ◌-◌, ◌*◌, ◌/◌, ◌%◌, ◌^◌, ◌≤◌, ◌<◌}
+use mathlib.Core.Path.{◌≡◌, refl, sym, ◌∙◌}
 use mathlib.Core.Bool.{Bool, true, false, cond, ◌||◌}
-use mathlib.Core.List.{List, [], ◌++◌, append-nil, append_assoc}
-use native.Mathlib.Nat.{add-zero, mod-lt}
+use mathlib.Core.List.{List, append_assoc}
+use native.Mathlib.Nat.{mod-lt}
 use lib.Arith.{mod-mul}
 use native.Mathlib.Omega.{arith}
 use lib.Dec.{eqb, lit<}
-use lib.ListN.{length, get_or, set, take, drop, length-set, length-drop}
-use lib.Seq.{sets, drop-cons, drop-set-lt, get_or-drop, get_or-take, drop-drop, length-take-le, set_split, set-get_or}
-use lib.Seq.{take-take, take-add, drop_at, sets-eq}
+use lib.ListN.{length, take, drop, length-drop}
+use lib.Seq.{sets, drop-drop, length-take-le}
+use lib.Seq.{sets-eq}
 use borrow.Rule.Slice.PartMut.{put_mid}
 use borrow.Author.Tests.{eq-eqb, ne_eqb, eqb-true, eqb-false, ltb-true, ltb-false}
 use Rattle.std.specs.List.{position}
@@ -85,12 +84,6 @@ module _ (own word : ℕ) {key : ℕ} (is : key ≡ key_of own word) where
 pub eight-length : {A : Type 0} (l : List A) (k : ℕ) → k + 8 ≤ length l → length (eight_at l k) ≡ 8
 eight-length l k h = length-take-le 8 (drop k l) (omega (arith, length-drop k l))
 
-pub eight-at : {A : Type 0} (l : List A) (k j : ℕ) (d : A) → j < 8 → get_or (eight_at l k) j d ≡ get_or l (k + j) d
-eight-at l k j d h = get_or-take 8 (drop k l) j d h ∙ get_or-drop k l j d
-
-pub first-at : (l : List ℕ) (k : ℕ) → get_or (eight_at l k) 0 0 ≡ get_or l k 0
-first-at l k = eight-at l k 0 0 (omega arith) ∙ rw (add-zero k)
-
 -- what is looked for, as the library has it
 pub found-is : (key : ℕ) (ms : List ℕ) → position (is_place key) ms ≡ found_at key ms
 unfolding place_of found_at
@@ -120,39 +113,6 @@ module _ (key : ℕ) (ms : List ℕ) where
   found-none e =
       let x = none-chosen (nat_lt (place_of key ms) (length ms)) (place_of key ms) e in
       omega (arith, ltb-false (place_of key ms) (length ms) x, place-max key ms)
-
--- ---- words changed where they stand
-
--- words that stand already need no write
-pub sets-kept : (j : ℕ) (l : List ℕ) (k : ℕ) (w : List ℕ) → k + j ≤ length l
-    → sets l k (take j (drop k l) ++ w) ≡ sets l (k + j) w
-sets-kept zero l k w h = rw (add-zero k)
-sets-kept (suc j) l k w h =
-    let q : k < length l = omega arith in
-    let e : k + suc j ≡ suc k + j = omega arith in
-    rw (drop-cons l k 0 q, e)
-    (ap (λ (t : List ℕ). sets t (suc k) (take j (drop (suc k) l) ++ w)) (set-get_or l k 0)
-    ∙ sets-kept j l (suc k) w (omega arith))
-
-pub sets_same : (j : ℕ) (l : List ℕ) (k : ℕ) → k + j ≤ length l → sets l k (take j (drop k l)) ≡ l
-sets_same j l k h = rw (append-nil (take j (drop k l))) at (sets-kept j l k [] h)
-
--- one of eight words written where it stands
-pub put_is : (l : List ℕ) (k j x : ℕ) → k + 8 ≤ length l → j < 8 → set l (k + j) x ≡ sets l k (set (eight_at l k) j x)
-put_is l k j x h b =
-    let n = 7 - j in
-    let a = suc (k + j) in
-    let d = drop k l in
-    let s : j < length (eight_at l k) = omega (arith, eight-length l k h) in
-    let e₈ : 8 ≡ suc j + n = omega arith in
-    let f : length (take (suc j) d) ≡ suc j = length-take-le (suc j) d (omega (arith, length-drop k l)) in
-    let g : drop (suc j) (eight_at l k) ≡ take n (drop (suc j) d) =
-    rw e₈ (ap (drop (suc j)) (take-add (suc j) n d) ∙ drop_at (take (suc j) d) (take n (drop (suc j) d)) (suc j) f) in
-    let p : k + suc j ≡ a = omega arith in
-    let t : drop (suc j) d ≡ drop a (set l (k + j) x) =
-    drop-drop (suc j) k l ∙ rw p (sym (drop-set-lt a l (k + j) x (omega arith))) in
-    sym (rw (set_split (eight_at l k) j x s, take-take j 8 d (omega arith)) (sets-kept j l k _ (omega arith)
-    ∙ rw (g, t) (sets_same n (set l (k + j) x) a (omega (arith, length-set l (k + j) x)))))
 
 -- ---- eight words lent out of others
 

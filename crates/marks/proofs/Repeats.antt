@@ -105,10 +105,6 @@ code-active own c (e ∷ es) h =
     (λ a. rw a)
     (λ a. rw a (code-active own c es (rw a at h)))
 
-pub normal-idle : (own word : ℕ) → normal word ≡ true → active own word ≡ false
-normal-idle own word n =
-    by-test (active own word) (λ a. absurd (false≢true (sym (active-not-normal own word a) ∙ n))) (λ a. a)
-
 -- ---- Same and 19
 
 -- what isn't active is never a ninth

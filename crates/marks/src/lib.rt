@@ -3,7 +3,7 @@
 // is one word, and the pass over the ring tests it as one.
 #![tactic(auto)]
 
-ghost use Rattle.std.specs.Prelude.{◌≡◌, ◌+◌, ◌*◌, ◌^◌, ◌<◌};
+ghost use Rattle.std.specs.Prelude.{◌≡◌, ◌+◌, ◌*◌, ◌^◌, ◌<◌, IfSome, length};
 ghost use Rattle.spec.specs.Entries.{normal, code_field};
 ghost use Rattle.marks.specs.Marks.{mark_of, place_in, key_in, key_of, is_place, found_at};
 
@@ -77,7 +77,8 @@ fn is_place(key: u64, mark: u64) -> bool
 
 // The place of the key among marks, from 0 on: that of the first mark with it or, before that, of the first that is 0.
 pub fn find(marks: &[u64], key: u64) -> Option<usize>
-    ensures { result ≡ found_at key marks.now }
+    ensures place { result ≡ found_at key marks.now }
+    ensures below { IfSome result (λ j. j < length marks.now) }
 {
     marks.iter().position(|mark| is_place(key, *mark))
 }

@@ -57,7 +57,9 @@ pub fn checkpoint_at(n: u64, m: u64) -> u64
     latest_at(n) + TABLE_WORDS * m
 }
 
-// What the head says, over words: those who write a store hold them alone. `Store`'s methods are these.
+// What the head says, over words: those who write a store hold them alone, and their clause is Head. No type holds it
+// there: a struct around a `&mut` needs a clause in each function that the reference is still the same. `Store`'s
+// methods are these.
 
 // How many observations the ring holds at most.
 pub fn ring_size(st: &[u64], m: u64) -> u64
@@ -86,39 +88,21 @@ pub fn last(st: &[u64], m: u64) -> u64
 }
 
 // Whether the head and the length are right for m items.
+#[tactic(auto, unfolding(history::specs::Observations::head_ok))]
 pub fn head_ok(st: &[u64], m: u64) -> bool
     requires { m ≤ max_items }
     ensures { result ≡ head_ok m st.now }
 {
-    if st.len() < HEAD_WORDS {
+    let &[n, items, b, last, ..] = st else {
         return false;
-    }
-    let n = st[RING_SIZE_AT];
-    if n < 1 {
-        return false;
-    }
-    if spec::MAX_RING < n {
-        return false;
-    }
-    if st[ITEM_COUNT_AT] != m {
-        return false;
-    }
-    let b = st[BASE_AT];
-    if b < 1 {
-        return false;
-    }
+    };
     // above 2^63 no number is left for B, and B + m could wrap
-    if spec::MAX_NUMBER + 1 < b {
-        return false;
-    }
-    let last = st[LAST_AT];
-    if spec::MAX_NUMBER < last {
-        return false;
-    }
-    if last + 1 < b + m {
-        return false;
-    }
-    (st.len() as u64) == words_for(n, m)
+    (1..=spec::MAX_RING).contains(&n)
+        && items == m
+        && (1..=spec::MAX_NUMBER + 1).contains(&b)
+        && last <= spec::MAX_NUMBER
+        && b + m <= last + 1
+        && st.len() as u64 == words_for(n, m)
 }
 
 // The lowest number that the ring holds.
@@ -145,6 +129,7 @@ pub fn place(n: u64, b: u64, s: u64) -> u64
 }
 
 // The time at place p of a ring of n entries.
+#[tactic(auto, unfolding(spec::specs::Words::row))]
 pub fn ring_time(st: &[u64], n: u64, p: u64) -> u64
     requires { (p < n) × (latest_at n ≤ length st.now) }
     ensures { result ≡ ring_time st.now n p }
@@ -153,6 +138,7 @@ pub fn ring_time(st: &[u64], n: u64, p: u64) -> u64
 }
 
 // The packed word at place p of a ring of n entries.
+#[tactic(auto, unfolding(spec::specs::Words::row))]
 pub fn ring_word(st: &[u64], n: u64, p: u64) -> u64
     requires { (p < n) × (latest_at n ≤ length st.now) }
     ensures { result ≡ ring_word st.now n p }
@@ -161,6 +147,7 @@ pub fn ring_word(st: &[u64], n: u64, p: u64) -> u64
 }
 
 // Row k of the table of w rows that begins at word t.
+#[tactic(auto, unfolding(spec::specs::Words::row))]
 pub fn row_at(st: &[u64], w: u64, t: u64, k: u64) -> Row
     requires { (k < w) × (t + 3 * w ≤ length st.now) }
     ensures { row st.now t w k 3 ≡ result.number ∷ result.time ∷ result.packed ∷ [] }
@@ -187,42 +174,27 @@ pub fn latest_word(st: &[u64], m: u64, item: u64) -> u64
     latest.packed
 }
 
-// Row i of two columns of w words each, the first at word b.
-fn put_two(st: &mut [u64], b: usize, w: usize, i: usize, x: u64, y: u64)
-    requires i_lt_w { i < w }
-    requires w_in_bounds { b + w + w ≤ length st.old }
-    ensures { st.new ≡ put st.old b w i (x ∷ y ∷ []) }
-{
-    st[b + i] = x;
-    st[b + w + i] = y;
-}
-
-// Row i of three columns of w words each, the first at word b.
-fn put_three(st: &mut [u64], b: usize, w: usize, i: usize, x: u64, y: u64, z: u64)
-    requires i_lt_w { i < w }
-    requires w_in_bounds { b + w + w + w ≤ length st.old }
-    ensures { st.new ≡ put st.old b w i (x ∷ y ∷ z ∷ []) }
-{
-    st[b + i] = x;
-    put_two(st, b + w, w, i, y, z);
-}
-
 // Place p of a ring of n entries takes a time and a packed word.
+#[tactic(auto, unfolding(spec::specs::Words::put))]
 pub fn put_ring(st: &mut [u64], n: u64, p: u64, time: u64, word: u64)
     requires { (p < n) × (latest_at n ≤ length st.old) }
     ensures { st.new ≡ put st.old ring_at n p (time ∷ word ∷ []) }
 {
-    put_two(st, HEAD_WORDS, n as usize, p as usize, time, word);
+    let time_at = RING_AT + p;
+    let word_at = RING_AT + n + p;
+    st[time_at as usize] = time;
+    st[word_at as usize] = word;
 }
 
 // Row k of the table of w rows that begins at word t takes an observation.
+#[tactic(auto, unfolding(spec::specs::Words::put))]
 pub fn put_row(st: &mut [u64], w: u64, t: u64, k: u64, row: Row)
     requires { (k < w) × (t + 3 * w ≤ length st.old) }
     ensures { st.new ≡ put st.old t w k (row.number ∷ row.time ∷ row.packed ∷ []) }
 {
-    put_three(
-        st, t as usize, w as usize, k as usize, row.number, row.time, row.packed,
-    );
+    st[(t + k) as usize] = row.number;
+    st[(t + w + k) as usize] = row.time;
+    st[(t + w + w + k) as usize] = row.packed;
 }
 
 // The newest number becomes s.

@@ -1,4 +1,5 @@
-// The short way of an addition, by one row: for items without conditions, and for a start.
+// The short way of an addition, by one row: for items without conditions, and for a start. The store's numbers go
+// beside it, since no type holds them and a `&mut` of its words: recording.
 #![tactic(auto)]
 
 ghost use Rattle.std.specs.Prelude.{◌≡◌, true, false, suc, ◌≤◌, ◌<◌, length, MatchOption, Ok};

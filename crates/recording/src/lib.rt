@@ -1,6 +1,6 @@
 // Numbers given to observations: whether one is left, and adding with eviction.
-// The store stays a slice with a clause for its head: with a struct around a `&mut`, each function would need a clause
-// that the reference is still the same.
+// What is read of the head before a write goes beside the store, as n, b, s and p: observations says why no type holds
+// it, and a struct of the numbers alone would need a clause for each that it is the store's.
 #![tactic(auto)]
 
 ghost use Rattle.std.specs.Prelude.{◌≡◌, true, ◌<◌, Ok};

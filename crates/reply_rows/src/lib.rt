@@ -96,7 +96,7 @@ pub fn group_of(category: u64) -> Group
     ensures { group_number result ≡ group_of category }
 {
     match category {
-        0 => Group::Samples,
+        spec::SAMPLE => Group::Samples,
         spec::CONDITION => Group::Condition,
         _ => Group::Events,
     }
@@ -106,15 +106,15 @@ pub fn group_of(category: u64) -> Group
 fn word_ok(category: u64, word: u64) -> bool
     ensures { result ≡ word_ok category word }
 {
-    let kind = word / 4294967296;
-    let low = word % 4294967296;
+    let kind = word / value::KIND;
+    let low = word % value::KIND;
     if kind == 0 {
         return low == 0;
     }
     match group_of(category) {
-        Group::Samples => kind == 1,
-        Group::Events => kind == 2,
-        Group::Condition => kind == 3 && low / 16777216 <= 2,
+        Group::Samples => kind == value::SAMPLE_KIND,
+        Group::Events => kind == value::EVENT_KIND,
+        Group::Condition => kind == value::CONDITION_KIND && low / value::LEVEL <= value::TOP_LEVEL,
     }
 }
 
@@ -126,7 +126,7 @@ fn packed_ok(model: &Words<'_>, word: u64) -> bool
     if model.items() <= item {
         return false;
     }
-    word_ok(model.category(item), word % 1099511627776)
+    word_ok(model.category(item), word % value::ITEM)
 }
 
 // Whether a document can be made of the reply: refusal 2's test.

@@ -35,7 +35,7 @@ fn put_text_row(out: &mut Output, t: &[u8], row: &Row)
     put_element(out, t);
     put_attributes(out, row);
     out.put_byte(b'>');
-    put_value(out, decode(row.packed % 1099511627776));
+    put_value(out, decode(row.packed % value::ITEM));
     out.put_bytes(b"</");
     put_element(out, t);
     out.put_bytes(b">\n");
@@ -69,7 +69,7 @@ fn put_condition_row(out: &mut Output, t: &[u8], row: &Row)
         (condition_line t.now (shown row.now) ++ 10 ∷ [])
         out.new }
 {
-    let v = decode(row.packed % 1099511627776);
+    let v = decode(row.packed % value::ITEM);
     out.put_byte(b'<');
     put_state(out, v);
     put_attributes(out, row);

@@ -2,7 +2,12 @@ use native.Mathlib.Omega.{arith}
 use Rattle.entries.proofs.Filling.{filling-start, filling-end, reading-spoilt, reading-unused, reading-late}
 use Rattle.entries.proofs.Filling.{reading, reading-refused, reading-used}
 use Rattle.entries.proofs.Laws.{broken}
+use mathlib.Core.Path.{◌≡◌}
+use Rattle.std.specs.Prelude.{None}
+use Rattle.entries.specs.Forms.{filled}
 use Rattle.entries.proofs.fill.Goals as goal
+use Rattle.entries.proofs.fill.Goals.{then-row-ne0-via-then-row-ne0, then-row-ne0-via-else-row-ne0+then-row-ne0-2}
+use Rattle.entries.proofs.fill.Goals.{then-n-j-via-then-n-j, then-n-j-via-else-n-j+then-not-may_follow}
 use Rattle.entries.proofs.fill.Goals.{then-row-eq0+else-row-ne0+else-row-ne0-2}
 use Rattle.entries.proofs.fill.Goals.{else-row-eq0+else-n-j+else-not-may_follow}
 
@@ -12,26 +17,22 @@ loop-j-init c = filling-start _ _ c.requires.unmarked
 pub returns-then-row-ne0 : goal.returns-then-row-ne0
 returns-then-row-ne0 c =
     let d = reading c.loop-j.invariant c.len-j-end.ensures.1 (omega arith) c.row-row.ensures in
-    let e = reading-spoilt d c.if-row-eq0.true (λ x y. c.if-row-ne0.true x) in
-    record { value = e; marks_after = broken _ _ e; eight = c.len-j-end.ensures.1 }
-
-pub returns-then-row-ne0-2 : goal.returns-then-row-ne0-2
-returns-then-row-ne0-2 c =
-    let d = reading c.loop-j.invariant c.len-j-end.ensures.1 (omega arith) c.row-row.ensures in
-    let e = reading-spoilt d c.if-row-eq0.true (λ x y. c.if-row-ne0-2.true y) in
+    let e = reading-spoilt d c.if-row-eq0.true (λ x y. elim c.then-row-ne0.branch [
+      | then-row-ne0-via-then-row-ne0 w ↦ w.if-row-ne0.true x
+      | then-row-ne0-via-else-row-ne0+then-row-ne0-2 w ↦ w.if-row-ne0-2.true y
+    ]) in
     record { value = e; marks_after = broken _ _ e; eight = c.len-j-end.ensures.1 }
 
 pub returns-then-n-j : goal.returns-then-n-j
 returns-then-n-j c =
     let d = reading c.loop-j.invariant c.len-j-end.ensures.1 (omega arith) c.row-row.ensures in
-    let e = reading-late d c.if-row-eq0.false c.if-n-j.true in
-    record { value = e; marks_after = broken _ _ e; eight = c.len-j-end.ensures.1 }
-
-pub returns-then-not-may_follow : goal.returns-then-not-may_follow
-returns-then-not-may_follow c =
-    let d = reading c.loop-j.invariant c.len-j-end.ensures.1 (omega arith) c.row-row.ensures in
-    let e = reading-refused d c.if-row-eq0.false c.key_of-key.ensures.0 c.if-n-j.false c.may_follow.ensures
-    c.if-not-may_follow.true in
+    let e : None ≡ filled c.args.own c.args.entries.now =
+    elim c.then-n-j.branch [
+      | then-n-j-via-then-n-j w ↦ reading-late d c.if-row-eq0.false w.if-n-j.true
+      | then-n-j-via-else-n-j+then-not-may_follow w ↦
+          reading-refused d c.if-row-eq0.false c.key_of-key.ensures.0 w.if-n-j.false w.may_follow.ensures
+          w.if-not-may_follow.true
+    ] in
     record { value = e; marks_after = broken _ _ e; eight = c.len-j-end.ensures.1 }
 
 pub loop-j-preserved : goal.loop-j-preserved

@@ -8,8 +8,8 @@ use Rattle.marks.specs.Marks.{is_place}
 use Rattle.marks.proofs.Laws.{found-is}
 use Rattle.marks.proofs.find.Goals as goal
 
-pub returns : goal.returns
-returns c =
+pub returns-clause-place : goal.returns-clause-place
+returns-clause-place c =
     let z = c.args in
     let e : c.position.result ≡ position (is_place z.key) z.marks.now =
     position_from_yields_List _ _ _ _ c.position.ensures.ran (YieldsList-from_slice z.marks.now cc)

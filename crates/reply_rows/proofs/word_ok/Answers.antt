@@ -15,10 +15,10 @@ pub returns-in-Events : goal.returns-in-Events
 returns-in-Events c =
     word-kind _ _ 1 c.in-Events.ensures (omega arith) c.if-kind-eq0.false
 
-pub returns-then-kind-eq3 : goal.returns-then-kind-eq3
-returns-then-kind-eq3 c =
-    word-level _ _ c.in-Condition.ensures c.if-kind-eq3.true
+pub returns-then-kind-eq-CONDITION_KIND : goal.returns-then-kind-eq-CONDITION_KIND
+returns-then-kind-eq-CONDITION_KIND c =
+    word-level _ _ c.in-Condition.ensures c.if-kind-eq-CONDITION_KIND.true
 
-pub returns-else-kind-eq3 : goal.returns-else-kind-eq3
-returns-else-kind-eq3 c =
-    word-other _ _ c.in-Condition.ensures c.if-kind-eq0.false c.if-kind-eq3.false
+pub returns-else-kind-eq-CONDITION_KIND : goal.returns-else-kind-eq-CONDITION_KIND
+returns-else-kind-eq-CONDITION_KIND c =
+    word-other _ _ c.in-Condition.ensures c.if-kind-eq0.false c.if-kind-eq-CONDITION_KIND.false
