@@ -35,7 +35,8 @@ impl Run {
 }
 
 // The two runs of the numbers from f up to e, at most a ring of them, for a ring of n entries and the first number b:
-// up to the ring's end, then from place 0 on.
+// up to the ring's end, then from place 0 on. Here and below f and e stay two numbers: what is asked of them ties them to
+// the store, and of the two alone a type could say no more than that f isn't above e.
 pub fn runs(n: u64, b: u64, f: u64, e: u64) -> (Run, Run)
     requires n_pos { 1 ≤ n }
     requires range { (b ≤ f) × ((f ≤ e) × (e - f ≤ n)) }

@@ -88,8 +88,7 @@ fn write_item(
         ≡ rows_at out.old done (k + 2 * done) (eight_rows (item_count st.now) st.now f i eight.now) }
 {
     let mut c = done;
-    let used = used(eight);
-    for &mark in used {
+    for &mark in used(eight) {
         let place = marks::place_in(mark);
         let row = row_of(st, f, i, place);
         rows::write_row(out, c, k + 2 * c, row);

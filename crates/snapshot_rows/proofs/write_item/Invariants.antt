@@ -8,4 +8,4 @@ use Rattle.snapshot_rows.proofs.write_item.Given as goal
 abbrev pub invariant-loop-mark : goal.invariant-loop-mark
 invariant-loop-mark l =
     Left (eight_rows (item_count l.st) l.st l.f l.i l.eight) l.k l.done l.initial.out l.out l.c
-    (rows_from (item_count l.st) l.st l.f l.i l.used l.mark-index)
+    (rows_from (item_count l.st) l.st l.f l.i l.mark-items l.mark-index)
