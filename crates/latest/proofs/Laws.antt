@@ -1,10 +1,10 @@
 -- Laws of the latest entries: an item's used rows one after another, and the rows beyond the first of each item.
 use Prim.Native.Nat.{ℕ, zero, suc, ◌+◌, ◌-◌, ◌*◌, ◌^◌, ◌≤◌, ◌<◌}
 use mathlib.Core.Path.{◌≡◌, refl, sym, ap, ◌∙◌}
-use mathlib.Core.Logic.{◌≢◌}
+use mathlib.Core.Logic.{◌≢◌, ◌⊎◌, inl, inr}
 use mathlib.Core.Bool.{Bool, true, false, cond, ◌&&◌, ◌||◌, not, and-false}
 use mathlib.Core.List.{List, [], ◌∷◌}
-use Rattle.std.specs.Prelude.{min, Some, None}
+use Rattle.std.specs.Prelude.{min, Option, Some, None}
 use native.Mathlib.Numerals.{add-one}
 use native.Mathlib.Omega.{arith}
 use lib.Count.{ones}
@@ -234,11 +234,11 @@ module _ {cat : ℕ → ℕ} {m : ℕ} {st : List ℕ} {selection c i a n t : �
   by_form : (b : Bool) → form_ok i 1 (eight st t a i) ≡ b → formed cat m st selection i ≡ b
   by_form b f = rw (v.selected, eq-eqb (cat i) 2 v.condition, ← eight_is st i v.many v.ring v.table) f
 
-  pub beyond-unformed : None ≡ filled i (eight st t a i) → None ≡ extra_in cat m st selection
+  beyond-unformed : None ≡ filled i (eight st t a i) → None ≡ extra_in cat m st selection
   beyond-unformed f = broken v.now v.below (by_form false (form-no i (eight st t a i) f))
 
   module _ {x : ℕ} (f : Some x ≡ filled i (eight st t a i)) where
-    pub beyond-empty : x ≡ 0 → None ≡ extra_in cat m st selection
+    beyond-empty : x ≡ 0 → None ≡ extra_in cat m st selection
     beyond-empty z = broken v.now v.below (by_form false (form-empty i (eight st t a i) f z))
 
     pub beyond-more : (x ≡ 0 → ⊥) → Beyond cat m st selection (c + (x - 1)) (i + 1)
@@ -246,6 +246,12 @@ module _ {cat : ℕ → ℕ} {m : ℕ} {st : List ℕ} {selection c i a n t : �
         let r = condition-rows st i v.many v.ring v.table cat v.condition in
         next v.now v.below (by_form true (form-yes i (eight st t a i) f z))
         (rw (v.selected, r, form-used i (eight st t a i) f)) refl
+
+  -- none used, or not filled
+  pub beyond-unused : {o : Option ℕ} → o ≡ filled i (eight st t a i) → (o ≡ None) ⊎ (o ≡ Some 0)
+      → None ≡ extra_in cat m st selection
+  beyond-unused e (inl n) = beyond-unformed (sym n ∙ e)
+  beyond-unused e (inr n) = beyond-empty (sym n ∙ e) refl
 
 -- ---- what a count says
 

@@ -26,12 +26,7 @@ pub fn extra(source: Modelled<'_>, selection: u64) -> Option<u64>
     for i in 0..m {
         if selection::has(selection, i) && source.model.category(i) == spec::CONDITION {
             let entries = Entries::of(words, spec::ENTRIES * m, t, spec::ENTRIES * i);
-            let Some(n) = entries::count(&entries, i) else {
-                return None;
-            };
-            if n == 0 {
-                return None;
-            }
+            let n = entries::count(&entries, i).filter(|n| *n != 0)?;
             extra += n - 1;
         }
     }

@@ -1,5 +1,6 @@
 use Prim.Native.Nat.{ℕ, ◌<◌}
-use mathlib.Core.Path.{◌≡◌, refl, ◌∙◌}
+use Rattle.std.proofs.Common.{rules, tests}
+use mathlib.Core.Path.{◌≡◌, refl, sym, ◌∙◌}
 use mathlib.Core.Bool.{true}
 use mathlib.Core.List.{List}
 use native.Mathlib.Omega.{arith}
@@ -8,9 +9,10 @@ use Rattle.spec.specs.Model.{items}
 use Rattle.spec.specs.Words.{bit}
 use Rattle.spec.proofs.Words.{told}
 use Rattle.latest.proofs.Laws.{latest-table, Beyond, beyond-start, beyond-few, beyond-out, beyond-plain}
-use Rattle.latest.proofs.Laws.{beyond-end, Turn, beyond-unformed, beyond-empty, beyond-more}
+use Rattle.latest.proofs.Laws.{beyond-end, Turn, beyond-unused, beyond-more}
+use Rattle.entries.proofs.Kept.{kept-none, kept-some}
 use Rattle.latest.proofs.extra.Goals as goal
-use Rattle.latest.proofs.extra.Goals.{then-has+then-category-eq-CONDITION+in-Some+else-n-eq0, else-has}
+use Rattle.latest.proofs.extra.Goals.{then-has+then-category-eq-CONDITION+in_ok-n, else-has}
 use Rattle.latest.proofs.extra.Goals.{else-has-via-then-has+else-category-eq-CONDITION, else-has-via-else-has}
 
 turn : {cat : ℕ → ℕ} {m : ℕ} {st : List ℕ} {selection x i a n t : ℕ} → Beyond cat m st selection x i → i < m
@@ -37,23 +39,16 @@ count-requires c =
     let h : c.loop-i.i < items c.args.source.model.now = omega arith in
     record { own_bound = omega (arith, h, c.items-m.ensures) }
 
-pub returns-in_default : goal.returns-in_default
-returns-in_default c =
+pub returns-in_err-n : goal.returns-in_err-n
+returns-in_err-n c =
     let h : c.loop-i.i < items c.args.source.model.now = omega arith in
     let v =
     turn c.loop-i.invariant h (told c.has.ensures c.if-has.true)
     (told c.category.ensures c.if-category-eq-CONDITION.true) c.items-m.ensures.0 refl
     c.latest_at-t.ensures in
-    beyond-unformed v (rw (c.of-entries.ensures, c.slice-words.ensures.value) at c.in_default.ensures)
-
-pub returns-then-n-eq0 : goal.returns-then-n-eq0
-returns-then-n-eq0 c =
-    let h : c.loop-i.i < items c.args.source.model.now = omega arith in
-    let v =
-    turn c.loop-i.invariant h (told c.has.ensures c.if-has.true)
-    (told c.category.ensures c.if-category-eq-CONDITION.true) c.items-m.ensures.0 refl
-    c.latest_at-t.ensures in
-    beyond-empty v (rw (c.of-entries.ensures, c.slice-words.ensures.value) at c.in-Some.ensures) c.if-n-eq0.true
+    let k = kept-none c.count.result c.filter.result _ c.filter.ensures (λ x b q. search (rules, tests)) c.in_err-n.was in
+    rw c.from_residual.ensures
+    (beyond-unused v (rw (c.of-entries.ensures, c.slice-words.ensures.value) at c.count.ensures) k)
 
 pub overflow_add-extra : goal.overflow_add-extra
 overflow_add-extra c =
@@ -62,20 +57,22 @@ overflow_add-extra c =
     turn c.loop-i.invariant h (told c.has.ensures c.if-has.true)
     (told c.category.ensures c.if-category-eq-CONDITION.true) c.items-m.ensures.0 refl
     c.latest_at-t.ensures in
-    let more = beyond-more v (rw (c.of-entries.ensures, c.slice-words.ensures.value) at c.in-Some.ensures) c.if-n-eq0.false in
+    let k = kept-some c.count.result c.filter.result _ c.filter.ensures (λ x b q. search (rules, tests)) c.in_ok-n.was in
+    let more = beyond-more v (sym k.0 ∙ rw (c.of-entries.ensures, c.slice-words.ensures.value) at c.count.ensures) k.1 in
     omega (arith, beyond-few more (omega (arith, c.items-m.ensures)))
 
 pub loop-i-preserved : goal.loop-i-preserved
 loop-i-preserved c =
     let h : c.loop-i.i < items c.args.source.model.now = omega arith in
     elim c.if-has.branch [
-      | then-has+then-category-eq-CONDITION+in-Some+else-n-eq0 w ↦
+      | then-has+then-category-eq-CONDITION+in_ok-n w ↦
           let v =
           turn c.loop-i.invariant h (told c.has.ensures w.if-has.true)
           (told w.category.ensures w.if-category-eq-CONDITION.true) c.items-m.ensures.0 refl
           c.latest_at-t.ensures in
+          let k = kept-some w.count.result w.filter.result _ w.filter.ensures (λ x b q. search (rules, tests)) w.in_ok-n.was in
           rw w.extra-is
-          (beyond-more v (told w.in-Some.is (rw (w.of-entries.ensures, c.slice-words.ensures.value) at w.count.ensures)) w.if-n-eq0.false)
+          (beyond-more v (sym k.0 ∙ rw (w.of-entries.ensures, c.slice-words.ensures.value) at w.count.ensures) k.1)
       | else-has w ↦
           rw w.extra-is
           (elim w.else-has.branch [
