@@ -1,9 +1,9 @@
 // The form of a path, with the names in it.
 #![tactic(auto)]
 
-ghost use Rattle.std.specs.Prelude.{◌≡◌, option_map};
+ghost use Rattle.std.specs.Prelude.{◌≡◌, length, option_map};
 ghost use Rattle.spec.specs.Path.{form_of};
-ghost use Rattle.paths.specs.Forms.{item_type, meaning};
+ghost use Rattle.paths.specs.Forms.{item_type, meaning, NamesFit};
 
 // A path that selects: //T, by T, and //T//DataItem[@type="Y"], by T and Y.
 #[derive(Clone, Copy)]
@@ -20,9 +20,10 @@ fn item_type(rest: &[u8]) -> Option<&[u8]>
     quoted.strip_suffix(b"\"]")
 }
 
-// The form of a path; none where it has neither.
+// The form of a path; none where it has neither. The names are parts of it.
 pub fn path_form(path: &[u8]) -> Option<PathForm<'_>>
-    ensures { meaning result ≡ form_of path.now }
+    ensures value { meaning result ≡ form_of path.now }
+    ensures names_fit { NamesFit result (length path.now) }
 {
     let names = path.strip_prefix(b"//")?;
     let Some(end) = scan::find(names, b'/', b'/') else {
