@@ -36,14 +36,14 @@ pub fn at_range(first: u64, last: u64, number: u64) -> Result<(), Refusal>
     in_range(first, last, number)
 }
 
-// A sample's starting number: `from`, or first where it is 0 or absent.
+// A sample's starting number: `from`, or first where it is 0, which is absent too (asking::Asked).
 pub fn start_of(first: u64, from: u64) -> u64
     ensures { result ≡ calls.start_of first from }
 {
     if from == 0 { first } else { from }
 }
 
-// How many numbers a sample considers at most: the count, or the default where it is absent.
+// How many numbers a sample considers at most: the count, or the default where it is 0, that is absent (asking::Asked).
 pub fn count_or(count: u64) -> u64
     ensures { (result ≡ calls.count_or count) × (1 ≤ result) }
 {

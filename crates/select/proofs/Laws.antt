@@ -1,28 +1,30 @@
 -- Laws of what a path selects, as the code goes: names, the components under a type, the items, the forms.
 use Prim.Native.Nat.{ℕ, suc, ◌+◌, ◌-◌, ◌*◌, ◌^◌, ◌<◌, ◌≤◌}
 use mathlib.Core.Path.{◌≡◌, refl, sym, ap, ◌∙◌}
-use mathlib.Core.Bool.{Bool, true, false, cond, not, ◌&&◌, ◌||◌, and-true, and-false}
+use mathlib.Core.Bool.{Bool, true, false, cond, not, ◌&&◌, and-true, and-false}
 use mathlib.Core.List.{List, [], ◌∷◌}
 use native.Mathlib.Nat.{mul-le-mul_right, two-pow-succ}
 use native.Mathlib.Omega.{arith}
 use borrow.Author.Tests.{eqb-true, eqb-false, eq-eqb, ne_eqb, not-true, not-false}
 use lib.Dec.{eqb}
-use lib.ListN.{length, take, drop, length-take}
+use lib.ListN.{length, take}
 use lib.Pow.{pow_mono}
-use lib.Seq.{take-take, length-take-le}
+use lib.Seq.{length-take-le}
 use Rattle.spec.specs.Words.{any_below, bit, set_of}
 use Rattle.spec.specs.Bytes.{name_byte, same}
-use Rattle.spec.specs.Model.{name_bytes, letters, name_cell, max_items, components, items}
-use Rattle.spec.specs.Model.{item_word, component_of, item_name}
+use Rattle.spec.specs.Model.{letters, name_cell, max_items, components, items}
+use Rattle.spec.specs.Model.{item_word, component_of}
 use Rattle.spec.specs.Path.{Form, subtree, typed, other_form, form_of, is_named, has_type, under, in_subtree, in_typed}
 use Rattle.spec.specs.Path.{select_subtree, select_typed, select_form, select}
 use Rattle.std.specs.Prelude.{Option, Some, None, is_some}
 use Rattle.std.proofs.Common.{Bor}
-use Rattle.spec.proofs.Words.{by_cond}
-use Rattle.spec.proofs.Bytes.{same-ne}
+use Rattle.std.specs.Cmp.Lexicographic.{pointwise}
+use Rattle.spec.proofs.Words.{by_cond, same_truth}
+use Rattle.spec.proofs.Bytes.{same-ne, same-eq, same_true}
+use Rattle.scan.proofs.Laws.{same-is}
 use Rattle.spec.proofs.Bits.{set-lt, set-ext}
 use Rattle.spec.proofs.Path.{under-zero}
-use Rattle.select.specs.Choice.{type_given, of_type, taken, chosen, by_names, SelectionFits}
+use Rattle.select.specs.Choice.{type_given, taken, chosen, by_names, SelectionFits}
 
 -- ---- names
 
@@ -46,56 +48,29 @@ same-front c t n h = go (eqb n (length t)) refl
         same-ne (take n c) t (λ q. eqb-false n (length t) e (sym (length-take-le n c h) ∙ ap length q))
         ∙ sym (and-false (same (take (length t) c) t))
 
--- l bytes from a place on, as the code lends them
-abbrev pub lent : List ℕ → ℕ → ℕ → List ℕ
-lent s at l = take (at + l - at) (drop at s)
+-- the code compares t with the front of the cell
+turned : (s t : List ℕ) → pointwise eqb s t ≡ same t s
+turned s t =
+    same-is s t
+    ∙ same_truth _ _ (λ e. same-eq t s (sym (same_true s t e))) (λ e. same-eq s t (sym (same_true t s e)))
 
 module _ (names : List ℕ) (k : ℕ) (t : List ℕ) where
-  pub named-not-longer : name_bytes < length t → false ≡ is_named names k t
-  unfolding is_named
-  named-not-longer h =
-      let c : List ℕ = name_cell names k in
-      let l = length-take name_bytes (drop (name_bytes * k) names) in
-      sym (same-ne (take (letters c) c) t (λ e. omega (arith, ap length e, length-take (letters c) c, l)))
-
-  -- the front of the name's cell, as the code takes it, against t
-  module _ (h : length t ≤ name_bytes) (b : Bool) (eb : b ≡ same (lent names (name_bytes * k) (length t)) t) where
+  -- the front of the name's cell against t
+  module _ (b : Bool) (eb : b ≡ pointwise eqb t (take (length t) (name_cell names k))) where
     named-is : is_named names k t ≡ b && eqb (letters (name_cell names k)) (length t)
     unfolding is_named
     named-is =
         let c : List ℕ = name_cell names k in
-        let a : name_bytes * k + length t - name_bytes * k ≡ length t = omega arith in
-        let f : same (take (length t) c) t ≡ b =
-        rw (take-take (length t) name_bytes (drop (name_bytes * k) names) h) (sym (rw a at eb)) in
-        same-front c t (letters c) (letters-max c) ∙ ap (λ (x : Bool). x && eqb (letters c) (length t)) f
+        same-front c t (letters c) (letters-max c)
+        ∙ ap (λ (x : Bool). x && eqb (letters c) (length t)) (sym (eb ∙ turned t (take (length t) c)))
 
     pub named_other : b ≡ false → false ≡ is_named names k t
     named_other z = sym (named-is ∙ rw z)
 
-    pub named-so-far : b ≡ true → (n : ℕ) → n ≡ letters (lent names (name_bytes * k) name_bytes)
-        → eqb n (length t) ≡ is_named names k t
-    named-so-far z n en =
-        let a : name_bytes * k + name_bytes - name_bytes * k ≡ name_bytes = omega arith in
-        let f : n ≡ letters (name_cell names k) = en ∙ rw a in
-        sym (named-is ∙ rw (z, ← f))
+    pub named-so-far : b ≡ true → (n : ℕ) → n ≡ letters (name_cell names k) → eqb n (length t) ≡ is_named names k t
+    named-so-far z n en = sym (named-is ∙ rw (z, ← en))
 
--- ---- tests in a row
-pub or_yes : (t a b : Bool) → t ≡ a → t ≡ true → true ≡ a || b
-or_yes t a b e z = let q : a ≡ true = sym e ∙ z in rw q
-
-pub or_no : (t a b r : Bool) → t ≡ a → t ≡ false → r ≡ b → r ≡ a || b
-or_no t a b r e z g = let q : a ≡ false = sym e ∙ z in rw (q, g)
-
-module _ (names : List ℕ) (w set : ℕ) (t : Bool) (e : t ≡ bit set (component_of w)) where
-  pub not-under : (o : Option (List ℕ)) → t ≡ false → false ≡ taken names set o w
-  unfolding taken
-  not-under o z = rw (← e, z)
-
-  pub under-type : (o : Option (List ℕ)) → t ≡ true → (r : Bool) → r ≡ of_type names (item_name w) o
-      → r ≡ taken names set o w
-  unfolding taken
-  under-type o z r g = rw (← e, z, g)
-
+-- ---- an item's test
 pub chosen_is : (model names : List ℕ) (set : ℕ) (o : Option (List ℕ)) (j w : ℕ) (b : Bool) → w ≡ item_word model j
     → b ≡ taken names set o w → b ≡ chosen model names set o j
 unfolding chosen

@@ -16,16 +16,8 @@ fn is_named(names: &[u8], k: u64, t: &[u8]) -> bool
     requires { name_bytes * k + name_bytes ≤ length names.now }
     ensures { result ≡ is_named names.now k t.now }
 {
-    if spec::NAME_BYTES < t.len() {
-        return false;
-    }
-    let at = spec::NAME_BYTES * (k as usize);
-    let stop = at + t.len();
-    if !scan::equal(&names[at..stop], t) {
-        return false;
-    }
-    let end = at + spec::NAME_BYTES;
-    model::name_length(&names[at..end]) == t.len()
+    let cell = model::name_cell(names, k);
+    cell.starts_with(t) && model::name_length(cell) == t.len()
 }
 
 // Whether a component, by its word, has type name t or a parent in the set.
@@ -35,10 +27,7 @@ fn joins(names: &[u8], word: u64, t: &[u8], set: u64) -> bool
     ensures { result
         ≡ (is_named names.now (component_name word) t.now || bit set (parent_of word)) }
 {
-    if is_named(names, model::component_name(word), t) {
-        return true;
-    }
-    selection::has(set, model::parent_of(word))
+    is_named(names, model::component_name(word), t) || selection::has(set, model::parent_of(word))
 }
 
 // The components that have type name t, or an ancestor that has. One pass does: a parent stands before its children.
@@ -54,18 +43,17 @@ fn under_type(model: &Named<'_>, t: &[u8]) -> u64
 }
 
 // Whether an item, by its word, is of a component in the set and, where one is given, of item type y.
+#[tactic(auto, unfolding(crate::specs::Choice::taken))]
 fn takes(names: &[u8], word: u64, set: u64, y: Option<&[u8]>) -> bool
     requires name_bytes_in_bounds { name_bytes * item_name word + name_bytes ≤ length names.now }
     requires word_bound { component_of word < max_components }
     ensures { result ≡ taken names.now set (type_given y.entry) word }
 {
-    if !selection::has(set, model::component_of(word)) {
-        return false;
-    }
-    match y {
-        Some(y) => is_named(names, model::item_name(word), y),
-        None => true,
-    }
+    selection::has(set, model::component_of(word))
+        && match y {
+            Some(y) => is_named(names, model::item_name(word), y),
+            None => true,
+        }
 }
 
 // The items of the components in the set; where a type is given, only those of item type y.
