@@ -58,20 +58,14 @@ fn refusal_word(refusal: Refusal) -> u64
 pub fn answer_number(answer: Answer) -> u64
     ensures { result ≡ answer_number answer }
 {
-    match answer {
-        Ok(_) => 0,
-        Err(refusal) => refusal_number(refusal),
-    }
+    answer.err().map_or(0, refusal_number)
 }
 
 // The count of such an answer: 0 with a refusal.
 pub fn answer_count(answer: Answer) -> u64
     ensures { result ≡ answer_count answer }
 {
-    match answer {
-        Ok(k) => k,
-        Err(_) => 0,
-    }
+    answer.unwrap_or(0)
 }
 
 // The word of observe's answer.
@@ -89,8 +83,5 @@ pub fn observe_word(answer: ObserveAnswer) -> u64
 pub fn store_word(answer: Answer) -> u64
     ensures { result ≡ store_word answer }
 {
-    match answer {
-        Ok(cell) => cell,
-        Err(refusal) => refusal_word(refusal),
-    }
+    answer.unwrap_or_else(refusal_word)
 }

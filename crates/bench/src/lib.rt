@@ -76,10 +76,7 @@ pub fn word_count(answer: Answer, reply: &[u64; REPLY_WORDS]) -> usize
     requires { reply_length answer reply.now ≤ 64 }
     ensures { result ≡ reply_length answer reply.now }
 {
-    match answer {
-        Err(_) => 0,
-        Ok(k) => words_of(reply[3], k) as usize,
-    }
+    answer.map_or(0, |k| words_of(reply[3], k) as usize)
 }
 
 // The answer of one request behind the bench case's calls, and its reply.

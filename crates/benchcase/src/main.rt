@@ -9,20 +9,19 @@ use std::io::Read;
 
 // The next byte of the line; a line feed ends the line as the end of the input does.
 fn next_byte<R: Read>(input: &mut R) -> io::Result<Option<u8>> {
-    let mut one = [0u8; 1];
-    let got = input.read(&mut one)?;
-    Ok((got != 0 && one[0] != b'\n').then_some(one[0]))
+    let next = input.by_ref().bytes().next().transpose()?;
+    Ok(next.filter(|b| *b != b'\n'))
 }
 
 // The line up to its end, or as much of it as there is room for.
 fn read_line<R: Read>(input: &mut R, line: &mut [u8]) -> io::Result<usize>
     ensures { IfOk result (λ r. r ≤ length line.new) }
 {
-    for n in 0..line.len() {
+    for (n, place) in line.iter_mut().enumerate() {
         let Some(b) = next_byte(input)? else {
             return Ok(n);
         };
-        line[n] = b;
+        *place = b;
     }
     Ok(line.len())
 }
