@@ -6,8 +6,7 @@ use mathlib.Core.List.{List, [], ◌∷◌}
 use native.Mathlib.Nat.{pow-suc, pow-le-pow_right, add-suc, suc-add, add-zero, zero-add}
 use native.Mathlib.Omega.{arith}
 use lib.Dec.{eqb, lit<}
-use lib.ListN.{length, get_or, take, drop, length-take}
-use lib.Seq.{get_or-take, get_or-drop}
+use lib.ListN.{length, get_or}
 use mir.Val.{Fits}
 use mir.Syntax.{w8}
 use Rattle.std.specs.List.{list_all, zip}
@@ -49,27 +48,17 @@ formed_24 s h = formed-same stamp_form s h
 -- ---- numbers
 
 -- bytes behind a number of k digits
-bytes-below : (k n : ℕ) (s : List ℕ) → n + 23 ≤ 23 * 10 ^ k → ((i : ℕ) → i < length s → Fits w8 (get_or s i 0))
+bytes-below : (k n : ℕ) (s : List ℕ) → n + 23 ≤ 23 * 10 ^ k → ((i : ℕ) → Fits w8 (get_or s i 0))
     → value_from n s + 23 ≤ 23 * 10 ^ (k + length s)
 unfolding value_from
 bytes-below k n [] h b = rw add-zero h
 bytes-below k n (x ∷ s) h b =
-    let t = b 0 (omega arith) in
+    let t = b 0 in
     rw (add-suc k (length s), ← suc-add k (length s))
-    (bytes-below (suc k) (n * 10 + (x - 48)) s (rw pow-suc (omega (arith, h, t))) (λ i l. b (suc i) (omega (arith, l))))
+    (bytes-below (suc k) (n * 10 + (x - 48)) s (rw pow-suc (omega (arith, h, t))) (λ i. b (suc i)))
 
--- four bytes from a on, or fewer, spell what a word holds
-pub field_fits : (s : List ℕ) (a n : ℕ) → n ≤ 4 → ((i : ℕ) → Fits w8 (get_or s i 0))
-    → value_from 0 (take n (drop a s)) < 2 ^ 64
-field_fits s a n h b =
-    let l = length-take n (drop a s) in
-    let p = pow-le-pow_right {n = 10} (lit< tt) {i = length (take n (drop a s))} {j = 4} (omega (arith, l)) in
-    let q = bytes-below 0 0 (take n (drop a s)) (omega arith) each in
-    let r : value_from 0 (take n (drop a s)) + 23 ≤ 23 * 10 ^ length (take n (drop a s)) = rw zero-add at q in
-    omega (arith, p, r)
-  where
-    each : (i : ℕ) → i < length (take n (drop a s)) → Fits w8 (get_or (take n (drop a s)) i 0)
-    each i k =
-        let l = length-take n (drop a s) in
-        let m : i < n = omega (arith, l, k) in
-        rw (get_or-take n (drop a s) i 0, get_or-drop a s i 0) (b (a + i))
+pub few-fit : (s : List ℕ) → length s ≤ 4 → ((i : ℕ) → Fits w8 (get_or s i 0)) → value_from 0 s < 2 ^ 64
+few-fit s h b =
+    let p = pow-le-pow_right {n = 10} (lit< tt) {i = length s} {j = 4} h in
+    let q : value_from 0 s + 23 ≤ 23 * 10 ^ length s = rw zero-add at (bytes-below 0 0 s (omega arith) b) in
+    omega (arith, p, q)

@@ -1,9 +1,9 @@
 // The form of a stamp's 24 bytes, and the date that stands in them.
 #![tactic(auto)]
 
-ghost use Rattle.std.specs.Prelude.{cond, ◌≡◌, eqb, length, Some, None};
+ghost use Rattle.std.specs.Prelude.{cond, ◌≡◌, ◌≤◌, eqb, length, Some, None};
 ghost use Rattle.std.specs.List.{list_all, zip};
-ghost use Rattle.spec.specs.Bytes.{digit};
+ghost use Rattle.spec.specs.Bytes.{digit, value_from};
 ghost use Rattle.lines.specs.Stamps.{formed, stamp_form, date_in};
 
 use lines::Date;
@@ -30,6 +30,14 @@ fn stamp_formed(s: &[u8]) -> bool
     s.len() == form.len() && has_form(form, s)
 }
 
+// The number that up to four bytes spell: whatever they are, a word holds it.
+fn number(s: &[u8]) -> u64
+    requires { length s.now ≤ 4 }
+    ensures { result ≡ value_from 0 s.now }
+{
+    value(s)
+}
+
 // The date of the 24 bytes.
 #[tactic(auto, unfolding(lines::specs::Stamps::date_in))]
 fn date_in(s: &[u8]) -> Date
@@ -37,13 +45,13 @@ fn date_in(s: &[u8]) -> Date
     ensures { result ≡ date_in s.now }
 {
     Date {
-        year: value(&s[..4]),
-        month: value(&s[5..7]),
-        day: value(&s[8..10]),
-        hour: value(&s[11..13]),
-        minute: value(&s[14..16]),
-        second: value(&s[17..19]),
-        milli: value(&s[20..23]),
+        year: number(&s[..4]),
+        month: number(&s[5..7]),
+        day: number(&s[8..10]),
+        hour: number(&s[11..13]),
+        minute: number(&s[14..16]),
+        second: number(&s[17..19]),
+        milli: number(&s[20..23]),
     }
 }
 
