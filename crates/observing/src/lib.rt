@@ -67,9 +67,7 @@ fn observe_with<F: FnOnce(u64) -> Option<u64>>(
         return Err(Refusal::Item);
     }
     let category = model.category(item);
-    let Some(word) = packed(category) else {
-        return Err(Refusal::Kind);
-    };
+    let word = packed(category).ok_or(Refusal::Kind)?;
     match observe_short(model, observations, category, item, time, word) {
         Some(noted) => Ok(noted),
         None => observe_long(model, observations, category, item, time, word),
