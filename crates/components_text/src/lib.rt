@@ -9,16 +9,17 @@ ghost use Rattle.writer.specs.Puts.{Put};
 ghost use Rattle.row_groups.specs.Groups.{reply_rows};
 
 use attributes::{put_number, put_text};
+use model::Named;
 use row_groups::{Document, name_text};
 use writer::Output;
 
 // The start of the device: its name and uuid are component 0's.
-pub fn put_device(d: &Document<'_>, out: &mut Output)
-    ensures { Put out.old (tag (device_tag d.now.model d.now.names) ++ 10 ∷ []) out.new }
+pub fn put_device(model: &Named<'_>, out: &mut Output)
+    ensures { Put out.old (tag (device_tag model.now.words model.now.names.now) ++ 10 ∷ []) out.new }
 {
     let t = name_text(
-        d.model.names,
-        model::component_name(d.model.words.component_word(0)),
+        model.names,
+        model::component_name(model.words.component_word(0)),
     );
     put_text(out, b"<DeviceStream name=\"", t);
     put_text(out, b" uuid=\"", t);

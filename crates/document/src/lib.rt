@@ -62,7 +62,7 @@ fn put_streams(d: &Document<'_>, out: &mut Output)
         return out.put_bytes(b"<Streams/>\n");
     }
     out.put_bytes(b"<Streams>\n");
-    put_device(d, out);
+    put_device(&d.model, out);
     put_components(d, out);
     out.put_bytes(b"</DeviceStream>\n</Streams>\n");
 }

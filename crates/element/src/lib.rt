@@ -19,9 +19,10 @@ fn put_case(out: &mut Output, start: bool, x: u8)
         return;
     }
     if start {
-        return out.put_byte(x.to_ascii_uppercase());
+        out.put_byte(x.to_ascii_uppercase());
+    } else {
+        out.put_byte(x.to_ascii_lowercase());
     }
-    out.put_byte(x.to_ascii_lowercase());
 }
 
 // A name in Pascal case, without a 'T' before.
@@ -46,16 +47,15 @@ fn first_sign(s: &[u8]) -> Option<u8>
 fn is_bare(s: &[u8]) -> bool
     ensures { result ≡ bare (capitals (split 95 s.now)) }
 {
-    first_sign(s).is_none_or(|x| is_digit(x))
+    first_sign(s).is_none_or(is_digit)
 }
 
 // A row's element.
 pub fn put_element(out: &mut Output, s: &[u8])
     ensures { Put out.old (element_name s.now) out.new }
 {
-    if !is_bare(s) {
-        return put_pascal(out, s);
+    if is_bare(s) {
+        out.put_byte(b'T');
     }
-    out.put_byte(b'T');
     put_pascal(out, s);
 }

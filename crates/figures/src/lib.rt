@@ -12,12 +12,12 @@ fn put_part(out: &mut Output, p: u64)
     ensures { Put out.old (part_text p) out.new }
 {
     if p % 100 == 0 {
-        return out.put_fixed::<1>(p / 100);
+        out.put_fixed::<1>(p / 100);
+    } else if p % 10 == 0 {
+        out.put_fixed::<2>(p / 10);
+    } else {
+        out.put_fixed::<3>(p);
     }
-    if p % 10 == 0 {
-        return out.put_fixed::<2>(p / 10);
-    }
-    out.put_fixed::<3>(p)
 }
 
 // A point and the thousandths, if there are any.

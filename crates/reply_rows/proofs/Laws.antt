@@ -23,20 +23,6 @@ module _ (reply : List ℕ) where
   pub words-length : words_ok reply ≡ true → 4 + 3 * get_or reply 0 0 ≤ length reply
   words-length e = leb-true _ _ (and_right (leb 4 (length reply)) _ e)
 
-  pub words-short : length reply < 4 → false ≡ words_ok reply
-  words-short h = rw (lt-leb 4 (length reply) h)
-
-  pub words-tested : 4 ≤ length reply → leb (get_or reply 0 0) ((length reply - 4) / 3) ≡ words_ok reply
-  words-tested h =
-      rw (le-leb 4 (length reply) h)
-      (same_truth (leb (get_or reply 0 0) ((length reply - 4) / 3)) (leb (4 + 3 * get_or reply 0 0) (length reply))
-      (λ e.
-      le-leb (4 + 3 * get_or reply 0 0) (length reply)
-      (omega (arith, leb-true (get_or reply 0 0) ((length reply - 4) / 3) e)))
-      (λ e.
-      le-leb (get_or reply 0 0) ((length reply - 4) / 3)
-      (omega (arith, leb-true (4 + 3 * get_or reply 0 0) (length reply) e))))
-
 -- ---- a value's word
 
 module _ (c word : ℕ) where

@@ -33,6 +33,14 @@ impl<'a> Model for Reply<'a> {
 }
 
 impl<'a> Reply<'a> {
+    // The reply of words that are known to be as many as its rows take.
+    pub fn of(words: &'a [u64]) -> Reply<'a>
+        requires { words_ok words.now ≡ true }
+        ensures { result ≡ words.now }
+    {
+        Reply { words }
+    }
+
     // The words as they are.
     pub fn slice(&self) -> &'a [u64]
         ensures value { result.now ≡ self.now }
@@ -85,10 +93,7 @@ impl<'a> Reply<'a> {
 pub fn words_ok(reply: &[u64]) -> bool
     ensures { result ≡ words_ok reply.now }
 {
-    if reply.len() < SIZES {
-        return false;
-    }
-    reply[0] <= ((reply.len() - SIZES) / ROW_WORDS) as u64
+    SIZES <= reply.len() && reply[0] <= ((reply.len() - SIZES) / ROW_WORDS) as u64
 }
 
 // The group of a category's rows.
@@ -123,21 +128,14 @@ fn packed_ok(model: &Words<'_>, word: u64) -> bool
     ensures { result ≡ packed_ok model.now word }
 {
     let item = value::item_of(word);
-    if model.items() <= item {
-        return false;
-    }
-    word_ok(model.category(item), word % value::ITEM)
+    item < model.items() && word_ok(model.category(item), word % value::ITEM)
 }
 
 // Whether a document can be made of the reply: refusal 2's test.
 pub fn reply_ok(model: &Words<'_>, reply: &[u64]) -> bool
     ensures { result ≡ reply_ok model.now reply.now }
 {
-    if !words_ok(reply) {
-        return false;
-    }
-    let reply = Reply { words: reply };
-    reply.all_rows(|row| packed_ok(model, row.packed))
+    words_ok(reply) && Reply::of(reply).all_rows(|row| packed_ok(model, row.packed))
 }
 
 // The reply, where a document can be made of it, or refusal 2.
@@ -149,15 +147,12 @@ pub fn checked<'a>(model: &Words<'_>, reply: &'a [u64]) -> Result<Reply<'a>, Ref
     if !reply_ok(model, reply) {
         return Err(Refusal::Store);
     }
-    Ok(Reply { words: reply })
+    Ok(Reply::of(reply))
 }
 
 // Whether no time is after 2099: refusal 21's test.
 pub fn times_ok(creation: u64, reply: &Reply<'_>) -> bool
     ensures { result ≡ times_ok creation reply.now }
 {
-    if MAX_TIME < creation {
-        return false;
-    }
-    reply.all_rows(|row| row.time <= MAX_TIME)
+    creation <= MAX_TIME && reply.all_rows(|row| row.time <= MAX_TIME)
 }

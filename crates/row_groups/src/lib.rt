@@ -113,12 +113,20 @@ impl<'a> Document<'a> {
             (λ r. (r ≡ Refused) × (reply_ok model.entry.words reply.entry.now ≡ false)) }
     {
         let reply = reply_rows::checked(&model.words, reply)?;
+        Ok(Document::of(model, reply))
+    }
+
+    // What the document of a reply is made of, whose rows are known to be the model's.
+    pub fn of(model: Named<'a>, reply: Reply<'a>) -> Document<'a>
+        requires { reply_ok model.words reply ≡ true }
+        ensures { result ≡ record { model = model.entry.words; names = model.entry.names.now; reply = reply.entry } }
+    {
         let present = groups_present(&model.words, &reply);
-        Ok(Document {
+        Document {
             model,
             reply,
             present,
-        })
+        }
     }
 
     // Whether component c's group g has rows.

@@ -11,6 +11,6 @@ pub returns-then-start : goal.returns-then-start
 returns-then-start c =
     case-upper _ c.if-x-eq95.false c.if-start.true c.to_ascii_uppercase.ensures.value c.put_byte.ensures
 
-pub returns : goal.returns
-returns c =
-    case-lower _ c.if-x-eq95.false c.if-start.false c.to_ascii_lowercase.ensures.value c.put_byte-2.ensures
+pub returns-else-start : goal.returns-else-start
+returns-else-start c =
+    case-lower _ c.if-x-eq95.false c.if-start.false c.to_ascii_lowercase.ensures.value c.put_byte-else-start.ensures

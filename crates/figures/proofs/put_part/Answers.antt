@@ -13,9 +13,9 @@ returns-then-p-eq0-2 c =
     c.if-p-eq0-2.true)
     c.put_fixed-then-p-eq0-2.ensures
 
-pub returns : goal.returns
-returns c =
+pub returns-else-p-eq0-2 : goal.returns-else-p-eq0-2
+returns-else-p-eq0-2 c =
     rw
     (part-three _ c.if-p-eq0.false
     c.if-p-eq0-2.false)
-    c.put_fixed-2.ensures
+    c.put_fixed-else-p-eq0-2.ensures

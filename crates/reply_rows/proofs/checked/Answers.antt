@@ -3,6 +3,6 @@ use Rattle.spec.proofs.Words.{told}
 use Rattle.reply_rows.proofs.Laws.{reply-words}
 use Rattle.reply_rows.proofs.checked.Goals as goal
 
-pub invariant_of-result : goal.invariant_of-result
-invariant_of-result c =
+pub of-requires : goal.of-requires
+of-requires c =
     reply-words _ _ (told c.reply_ok.ensures c.if-not-reply_ok.false)
