@@ -11,33 +11,17 @@ use model::Words;
 use spec::{Answer, MAX_ASSETS, MAX_NUMBER, MAX_RING, Refusal, Row, Value};
 
 // Whether the sizes, the first number and the stores' lengths are ones that start takes.
+#[tactic(auto, unfolding(history::specs::Calls::start_ok))]
 fn start_ok(m: u64, n: u64, a: u64, b: u64, words: u64, size: u64) -> bool
     requires { m ≤ max_items }
     ensures { result ≡ start_ok m n a b words size }
 {
-    if n < 1 {
-        return false;
-    }
-    if MAX_RING < n {
-        return false;
-    }
-    if a < 1 {
-        return false;
-    }
-    if MAX_ASSETS < a {
-        return false;
-    }
-    if b < 1 {
-        return false;
-    }
     // b + m could wrap
-    if MAX_NUMBER + 1 - m < b {
-        return false;
-    }
-    if words != observations::words_for(n, m) {
-        return false;
-    }
-    size == assets::bytes_for(a)
+    (1..=MAX_RING).contains(&n)
+        && (1..=MAX_ASSETS).contains(&a)
+        && (1..=MAX_NUMBER + 1 - m).contains(&b)
+        && words == observations::words_for(n, m)
+        && size == assets::bytes_for(a)
 }
 
 // The store that start makes, whatever stood there: each item in turn Unavailable, the first with number b. It is its
