@@ -17,7 +17,7 @@ use stamp::put_stamp;
 use stamp_fields::read_date;
 use writer::{Output, write_whole};
 
-// The time of a line's stamp: no bytes are time 0.
+// The time of a line's stamp. No bytes are time 0, the calls' own number for a time that is missing.
 #[tactic(auto, using(crate::proofs::Laws::stamps))]
 fn time_in(stamp: &[u8]) -> Result<u64, LineError>
     ensures { result ≡ time_read stamp.now }

@@ -6,10 +6,8 @@ ghost use Rattle.spec.specs.Value.{no_value};
 ghost use Rattle.lines.specs.Lines.{sample_for, event_for, state_for, value_for};
 
 use lines::Form;
-use spec::{Level, Value};
-
-// A level's codes.
-const CODES: u64 = 16777216;
+use spec::{Level, SAMPLE, Value};
+use value::CODES;
 
 // So many thousandths as a sample.
 fn sample(minus: bool, n: u64) -> Option<Value>
@@ -35,11 +33,8 @@ fn event(minus: bool, point: bool, n: u64) -> Option<Value>
 fn state(level: Level, code: u64) -> Option<Value>
     ensures { unwrap_or result no_value ≡ state_for level code }
 {
-    if code < CODES {
-        Some(Value::Condition(level, code as u32))
-    } else {
-        None
-    }
+    let code = u32::try_from(code).ok()?;
+    (code < CODES).then_some(Value::Condition(level, code))
 }
 
 // The value that an item of the category reads in a form; a number that is too large for its kind is none.
@@ -49,7 +44,7 @@ pub fn value_for(category: u64, form: Form) -> Option<Value>
 {
     match form {
         Form::Missing => Some(Value::Unavailable),
-        Form::Decimal { minus, whole, part } if category == 0 => {
+        Form::Decimal { minus, whole, part } if category == SAMPLE => {
             let n = whole.checked_mul(1000)?.checked_add(part.unwrap_or(0))?;
             sample(minus, n)
         }

@@ -31,7 +31,7 @@ pub enum Form {
     State(Level, u64),
 }
 
-// What a line says.
+// What a line says. A time of 0 is missing, as in the calls, which have that number for it: then the host's is taken.
 #[derive(Clone, Copy)]
 pub struct Line {
     pub time: u64,
