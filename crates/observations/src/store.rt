@@ -36,7 +36,8 @@ impl<'a> Store<'a> {
         Store { words }
     }
 
-    // The words as they are.
+    // The words as they are. It is called for the head's facts alone too: no plainer, since the fields are private, and
+    // so what the type keeps is known behind a call that says it.
     pub fn slice(&self) -> &'a [u64]
         ensures value { result.now ≡ self.now }
         ensures head { Headed self.now }

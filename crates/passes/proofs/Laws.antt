@@ -193,11 +193,6 @@ pub record Passing (steps m : ℕ) (st : List ℕ) (f a e : ℕ) (o l : List (Li
   pub marks : pass_marks steps st f (e - a) a o ≡ pass_marks steps st f (e - s) s l
   pub seen : seen_from st f (e - a) a v ≡ seen_from st f (e - s) s w
 
-pub passing-start : (steps m : ℕ) (st : List ℕ) (f a e : ℕ) (o : List (List ℕ)) (v : List ℕ) (q : ℕ)
-    → Unwrapped (ring_size st) (base st) e a q → f ≤ a → Passing steps m st f a e o o v v a q
-passing-start steps m st f a e o v q r h =
-    record { run = r; from = h; ok = refl; marks = refl; seen = refl }
-
 module _ {steps m : ℕ} {st : List ℕ} {f a e : ℕ} {o l : List (List ℕ)} {v w : List ℕ} {s q : ℕ}
     (z : Passing steps m st f a e o l v w s q) where
   -- the numbers up to r are behind too, which change no mark

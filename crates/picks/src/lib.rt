@@ -70,10 +70,8 @@ fn step_item(i: u64, place: u64, word: u64, marks: &mut [u64; spec::ENTRY_SLOTS]
 {
     let key = marks::key_of(i, word);
     let mark = marks::mark_of(place, key);
-    if key != 0 {
-        if marks::key_in(marks[0]) != 0 {
-            return eights::raise(marks, key, mark);
-        }
+    if key != 0 && marks::key_in(marks[0]) != 0 {
+        return eights::raise(marks, key, mark);
     }
     let change = changes::change_for(marks, i, word);
     eights::apply(marks, change, mark);

@@ -19,6 +19,7 @@ use Rattle.snapshot_rows.specs.Held.{row_of, used_places}
 use Rattle.picks.specs.Pass.{word_of, seen_from}
 use Rattle.snapshots.specs.Snapshots.{plain_place, settled}
 use Rattle.picks.proofs.Eights.{eight-same, eight-other}
+use mir.Val.{bool_byte}
 use Rattle.snapshots.proofs.Held.{ring-row}
 
 -- ---- the newest places
@@ -100,11 +101,12 @@ module _ (r : List ℕ) (p : ℕ) where
   place-seen n = (rw (ne_eqb p 0 n), omega arith)
 
   module _ {x y z : ℕ} (e : r ≡ x ∷ y ∷ z ∷ []) (n : p ≡ 0) where
-    pub place_none : x ≡ 0 → (0 ≡ plain_place r p) × (0 ≤ p + 1)
-    place_none h = (rw (n, e, h), omega arith)
-
-    pub place-first : (x ≡ 0 → ⊥) → (1 ≡ plain_place r p) × (1 ≤ p + 1)
-    place-first h = (rw (n, e, ne_eqb x 0 h), omega arith)
+    pub place-first : {v : ℕ} → v ≡ bool_byte (not (eqb x 0)) → (v ≡ plain_place r p) × (v ≤ p + 1)
+    place-first {v} h = go (eqb x 0) refl h
+      where
+        go : (t : Bool) → eqb x 0 ≡ t → v ≡ bool_byte (not (eqb x 0)) → (v ≡ plain_place r p) × (v ≤ p + 1)
+        go true q k = let z : v ≡ 0 = k ∙ rw q in (rw (n, e, q, z), omega (arith, z))
+        go false q k = let z : v ≡ 1 = k ∙ rw q in (rw (n, e, q, z), omega (arith, z))
 
 -- ---- the marks
 
@@ -135,11 +137,6 @@ module _ (selection steps m : ℕ) (st w : List ℕ) where
   item-same : (i : ℕ) (l : List (List ℕ)) → settles selection steps i ≡ true → i < length l
       → eight_of (settled_item i l) i ≡ set (eight_of l i) 0 (plain_mark i)
   item-same i l t h = rw t (eight-same (set (eight_of l i) 0 (plain_mark i)) l i h)
-
-  pub length-settled : (k j : ℕ) (l : List (List ℕ)) → length (settled selection steps m st w k j l) ≡ length l
-  unfolding settled
-  length-settled zero j l = refl
-  length-settled (suc k) j l = length-settled k (suc j) (settled_item j l) ∙ length-item j l
 
   settled-below : (k j : ℕ) (l : List (List ℕ)) (i : ℕ) → i < j
       → eight_of (settled selection steps m st w k j l) i ≡ eight_of l i

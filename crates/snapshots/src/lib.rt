@@ -1,6 +1,6 @@
 // The marks of current with at: each selected item's entries behind one pass over the ring, from its checkpoint on. An
-// entry is held as a mark: of the checkpoint by its place from 1 on, of the ring by its number, which is 9 for the
-// pass's first. A condition item's marks are stepped along the pass; of another the newest place is kept, by item.
+// entry is held as a mark by its place: of the checkpoint from 1 on, of the ring from 9 on, which is that of the pass's
+// first number. A condition item's marks are stepped along the pass; of another the newest place is kept, by item.
 #![tactic(auto)]
 
 ghost use Rattle.std.specs.Prelude.{◌≡◌, true, is_some, ◌&&◌, ℕ, ◌+◌, ◌-◌, ◌*◌, ◌^◌, ◌<◌, ◌≤◌};
@@ -74,10 +74,7 @@ fn plain_place(st: &Store<'_>, i: u64, seen: u64) -> u64
         return seen;
     }
     let row = st.checkpoint_row(spec::ENTRIES * i);
-    if row.number == 0 {
-        return 0;
-    }
-    1
+    u64::from(row.number != 0)
 }
 
 // The marks of the selected items that are not in `steps`, by their newest places.
