@@ -9,7 +9,8 @@ use native.Mathlib.Numerals.{add-one}
 use native.Mathlib.Omega.{arith}
 use lib.Count.{ones}
 use lib.Dec.{leb, eqb}
-use lib.ListN.{length, get_or, set}
+use lib.ListN.{length, get_or, set, drop, drop_of_length-le}
+use lib.Seq.{drop-cons}
 use borrow.Author.Tests.{eq-eqb, ne_eqb, le-leb, lt-leb, leb-true, leb-false, eqb-true, eqb-false}
 use Rattle.spec.specs.Words.{every, bit, row}
 use Rattle.spec.specs.Blocks.{table_rows, flat_rows, extra_rows}
@@ -30,42 +31,39 @@ use Rattle.rows.proofs.Flat.{Left, left-start, FlatWriting, flat_start, flat-roo
 use Rattle.rows.proofs.Laws.{count-is, broken-is}
 use Rattle.latest.specs.Latest.{extra_in, first_row, first_rows}
 
--- ---- eight rows from row x on, one after another
+-- ---- an item's rows, one after another
 
 -- the used ones from the j-th on
-abbrev pub used_from : List ℕ → ℕ → ℕ → ℕ → ℕ → List (List ℕ)
-used_from st t w x j = used_rows (table_rows st t w (8 - j) (x + j))
+abbrev pub used_from : List (List ℕ) → ℕ → List (List ℕ)
+used_from rs j = used_rows (drop j rs)
 
-pub used_start : (st : List ℕ) (t w x k d : ℕ) (o : List ℕ) → d + length (used_rows (table_rows st t w 8 x)) ≤ k
-    → Left (used_rows (table_rows st t w 8 x)) k d o o d (used_from st t w x 0)
-used_start st t w x k d o h = let q : x + 0 ≡ x = omega arith in rw q (left-start _ k d o h)
+pub used_start : (rs : List (List ℕ)) (k d : ℕ) (o : List ℕ) → d + length (used_rows rs) ≤ k
+    → Left (used_rows rs) k d o o d (used_from rs 0)
+used_start rs k d o h = left-start _ k d o h
 
-module _ (st : List ℕ) (t w x j : ℕ) where
-  module _ (h : j < 8) {n u p : ℕ} (e : row st t w (x + j) 3 ≡ n ∷ u ∷ p ∷ []) where
-    pub used-none : n ≡ 0 → used_from st t w x j ≡ []
-    unfolding table_rows used_rows
-    used-none z = let q : 8 - j ≡ suc (8 - (j + 1)) = omega arith in rw (q, e, z)
+module _ (rs : List (List ℕ)) (j : ℕ) where
+  module _ (h : j < length rs) {n u p : ℕ} (e : get_or rs j [] ≡ n ∷ u ∷ p ∷ []) where
+    pub used-none : n ≡ 0 → used_from rs j ≡ []
+    unfolding used_rows
+    used-none z = rw (drop-cons rs j [] h, e, z)
 
-    pub used-more : (n ≡ 0 → ⊥) → used_from st t w x j ≡ (n ∷ u ∷ p ∷ []) ∷ used_from st t w x (j + 1)
-    unfolding table_rows used_rows
-    used-more z =
-        let q : 8 - j ≡ suc (8 - (j + 1)) = omega arith in
-        let r : suc (x + j) ≡ x + (j + 1) = omega arith in
-        rw (q, e, ne_eqb n 0 z, r)
+    pub used-more : (n ≡ 0 → ⊥) → used_from rs j ≡ (n ∷ u ∷ p ∷ []) ∷ used_from rs (j + 1)
+    unfolding used_rows
+    used-more z = rw (drop-cons rs j [] h, e, ne_eqb n 0 z, add-one j)
 
-  pub used-end : 8 ≤ j → used_from st t w x j ≡ []
-  unfolding table_rows used_rows
-  used-end h = let q : 8 - j ≡ 0 = omega arith in rw q
+  pub used-end : length rs ≤ j → used_from rs j ≡ []
+  unfolding used_rows
+  used-end h = rw (drop_of_length-le rs {i = j} h)
 
 no_rows : (rs : List (List ℕ)) → length rs ≡ 0 → rs ≡ []
 no_rows [] e = refl
 no_rows (r ∷ rs) e = absurd (omega arith)
 
 -- behind as many turns as there are entries, or rows left
-pub used_over : (st : List ℕ) (t w x j k d c : ℕ) → min 8 (k - d) ≤ j → c ≡ d + j
-    → c + length (used_from st t w x j) ≤ k → used_from st t w x j ≡ []
-used_over st t w x j k d c b e f =
-    by-test (leb 8 j) (λ i. used-end st t w x j (leb-true 8 j i))
+pub used_over : (rs : List (List ℕ)) (j k d c : ℕ) → length rs ≡ 8 → min 8 (k - d) ≤ j → c ≡ d + j
+    → c + length (used_from rs j) ≤ k → used_from rs j ≡ []
+used_over rs j k d c s b e f =
+    by-test (leb 8 j) (λ i. used-end rs j (rw s (leb-true 8 j i)))
     (λ i. let g = leb-false 8 j i in no_rows _ (omega arith))
 
 latest-few : (cat : ℕ → ℕ) (N m : ℕ) (st : List ℕ) (i : ℕ) → length (latest_rows cat N m st i) ≤ 8
@@ -290,12 +288,16 @@ unfolding current_rows
 written_start cat m st selection k o e = record { put = flat_start _ _ m k o e }
 
 -- one row
-pub first-written : (st : List ℕ) (t w x : ℕ) {n u p c a : ℕ} (l : List ℕ) {b : List ℕ}
-    → row st t w x 3 ≡ n ∷ u ∷ p ∷ [] → c < a → b ≡ set (set (set l c n) a u) (a + 1) p
-    → b ≡ rows_at l c a (table_rows st t w 1 x)
-unfolding table_rows numbers pairs
-first-written st t w x {n} {u} {p} {c} {a} l e h eb =
+pub first-written : (r : List ℕ) {n u p c a : ℕ} (l : List ℕ) {b : List ℕ}
+    → r ≡ n ∷ u ∷ p ∷ [] → c < a → b ≡ set (set (set l c n) a u) (a + 1) p
+    → b ≡ rows_at l c a (r ∷ [])
+unfolding numbers pairs
+first-written r {n} {u} {p} {c} {a} l e h eb =
     rw e (eb ∙ sym (rows_more l c a (n ∷ u ∷ p ∷ []) [] (omega arith)))
+
+pub first-of : (st : List ℕ) (t w x : ℕ) → get_or (table_rows st t w 8 x) 0 [] ∷ [] ≡ table_rows st t w 1 x
+unfolding table_rows
+first-of st t w x = refl
 
 module _ {cat : ℕ → ℕ} {m : ℕ} {st : List ℕ} {selection k : ℕ} {o l : List ℕ} {c i : ℕ}
     (v : Written cat m st selection k o l c i) where

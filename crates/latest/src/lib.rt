@@ -1,12 +1,10 @@
 // The rows of current: the latest entries of the selected items, counted and written.
 #![tactic(auto)]
 
-ghost use Rattle.std.specs.Prelude.{◌≡◌, true, ◌+◌, ◌*◌, ◌^◌, ◌≤◌, ◌<◌, length};
-ghost use Rattle.spec.specs.Blocks.{table_rows};
+ghost use Rattle.std.specs.Prelude.{◌≡◌, true, [], ◌∷◌, ◌+◌, ◌*◌, ◌^◌, ◌≤◌, ◌<◌, length, get_or};
 ghost use Rattle.spec.specs.Entries.{used_rows};
 ghost use Rattle.spec.specs.Model.{items, category};
 ghost use Rattle.history.specs.Observations.{ring_size, item_count, current_rows, current_ok};
-ghost use Rattle.entries.specs.Forms.{Table};
 ghost use Rattle.rows.specs.Rows.{rows_at, rows_into};
 ghost use Rattle.latest.specs.Latest.{extra_in, first_rows};
 
@@ -33,21 +31,19 @@ pub fn extra(source: Modelled<'_>, selection: u64) -> Option<u64>
     Some(extra)
 }
 
-// The used ones of eight entries, the rows from row x on of the table of w rows at word t, where `done` of the k rows
-// are written; how many are written then. `done`, `k` and `out` stay apart: a struct would hold a lent buffer, and each
-// contract would name its three parts and say that it lends the same buffer still.
-fn write_entries(st: &[u64], w: u64, t: u64, x: u64, done: u64, k: u64, out: &mut [u64]) -> u64
-    requires table { Table w t x (length st.now) }
-    requires x_bound { (done + length (used_rows (table_rows st.now t w 8 x)) ≤ k) × (3 * k ≤ length out.old) }
-    ensures value { result ≡ done + length (used_rows (table_rows st.now t w 8 x)) }
-    ensures out_after { out.new
-        ≡ rows_at out.old done (k + 2 * done) (used_rows (table_rows st.now t w 8 x)) }
+// The used ones of an item's entries, where `done` of the k rows are written; how many are written then. `done`, `k`
+// and `out` stay apart: a struct would hold a lent buffer, and each contract would name its three parts and say that it
+// lends the same buffer still.
+fn write_entries(entries: &Entries<'_>, done: u64, k: u64, out: &mut [u64]) -> u64
+    requires { (done + length (used_rows entries.now) ≤ k) × (3 * k ≤ length out.old) }
+    ensures value { result ≡ done + length (used_rows entries.now) }
+    ensures out_after { out.new ≡ rows_at out.old done (k + 2 * done) (used_rows entries.now) }
 {
     // a number of turns that the compiler doesn't know keeps it from writing the loop out eight times
-    let most = spec::ENTRIES.min(k - done);
+    let most = entries.len().min(k - done);
     let mut c = done;
     for j in 0..most {
-        let row = observations::row_at(st, w, t, x + j);
+        let row = entries.row(j);
         if row.number == 0 {
             return c;
         }
@@ -57,14 +53,12 @@ fn write_entries(st: &[u64], w: u64, t: u64, x: u64, done: u64, k: u64, out: &mu
     c
 }
 
-// The first of eight entries as it stands, used or not, where `done` of the k rows are written.
-fn write_first(st: &[u64], w: u64, t: u64, x: u64, done: u64, k: u64, out: &mut [u64])
-    requires table { Table w t x (length st.now) }
-    requires done_lt_k { (done < k) × (3 * k ≤ length out.old) }
-    ensures { out.new ≡ rows_at out.old done (k + 2 * done) (table_rows st.now t w 1 x) }
+// The first of an item's entries as it stands, used or not, where `done` of the k rows are written.
+fn write_first(entries: &Entries<'_>, done: u64, k: u64, out: &mut [u64])
+    requires { (done < k) × (3 * k ≤ length out.old) }
+    ensures { out.new ≡ rows_at out.old done (k + 2 * done) (get_or entries.now 0 [] ∷ []) }
 {
-    let row = observations::row_at(st, w, t, x);
-    rows::write_row(out, done, k + 2 * done, row);
+    rows::write_row(out, done, k + 2 * done, entries.row(0));
 }
 
 // The first entry of each selected item, where these are the k rows.
@@ -79,7 +73,7 @@ fn write_firsts(st: &Store<'_>, selection: u64, k: u64, out: &mut [u64])
     let mut c: u64 = 0;
     for i in 0..m {
         if selection::has(selection, i) {
-            write_first(words, w, t, spec::ENTRIES * i, c, k, out);
+            write_first(&Entries::of(words, w, t, spec::ENTRIES * i), c, k, out);
             c += 1;
         }
     }
@@ -102,10 +96,11 @@ fn write_each(source: Modelled<'_>, selection: u64, k: u64, out: &mut [u64])
     let mut c: u64 = 0;
     for i in 0..m {
         if selection::has(selection, i) {
+            let entries = Entries::of(words, w, t, spec::ENTRIES * i);
             if source.model.category(i) == spec::CONDITION {
-                c = write_entries(words, w, t, spec::ENTRIES * i, c, k, out);
+                c = write_entries(&entries, c, k, out);
             } else {
-                write_first(words, w, t, spec::ENTRIES * i, c, k, out);
+                write_first(&entries, c, k, out);
                 c += 1;
             }
         }

@@ -4,7 +4,7 @@ use native.Mathlib.Omega.{arith}
 use Rattle.spec.specs.Model.{items}
 use Rattle.spec.proofs.Words.{told}
 use Rattle.latest.proofs.Laws.{latest-table, written_start, written_out, written-end}
-use Rattle.latest.proofs.Laws.{entries-room, entries-more, first-room, first_more}
+use Rattle.latest.proofs.Laws.{entries-room, entries-more, first-room, first_more, first-of}
 use Rattle.latest.proofs.write_each.Goals as goal
 use Rattle.latest.proofs.write_each.Goals.{then-has+then-category-eq-CONDITION, then-has+else-category-eq-CONDITION}
 use Rattle.latest.proofs.write_each.Goals.{else-has}
@@ -13,35 +13,32 @@ pub loop-i-init : goal.loop-i-init
 loop-i-init c =
     written_start _ _ _ _ _ _ c.requires.k_value
 
+pub of-entries-requires : goal.of-entries-requires
+of-entries-requires c =
+    let h : c.loop-i.i < items c.args.source.model.now = omega arith in
+    rw c.slice-words.ensures.value
+    (latest-table _ _ (rw c.args.source.agree at c.slice-words.ensures.head.head) c.items-m.ensures.0 refl
+    c.latest_at-t.ensures h)
+
 pub write_entries-c-requires : goal.write_entries-c-requires
 write_entries-c-requires c =
     let v = c.loop-i.invariant in
-    let h : c.loop-i.i < items c.args.source.model.now = omega arith in record {
-      table = rw c.slice-words.ensures.value
-          (latest-table _ _ (rw c.args.source.agree at c.slice-words.ensures.head.head) c.items-m.ensures.0 refl
-          c.latest_at-t.ensures h);
-      x_bound = (
-        rw c.slice-words.ensures.value (entries-room v h (told c.has.ensures c.if-has.true) c.items-m.ensures.0 refl
-            c.latest_at-t.ensures
-            (told c.category.ensures c.if-category-eq-CONDITION.true)),
-        omega (arith, v.put.len, c.requires.k_in_bounds),
-      );
-    }
+    let h : c.loop-i.i < items c.args.source.model.now = omega arith in (
+      rw (c.of-entries.ensures, c.slice-words.ensures.value) (entries-room v h (told c.has.ensures c.if-has.true)
+          c.items-m.ensures.0 refl c.latest_at-t.ensures
+          (told c.category.ensures c.if-category-eq-CONDITION.true)),
+      omega (arith, v.put.len, c.requires.k_in_bounds),
+    )
 
 pub write_first-requires : goal.write_first-requires
 write_first-requires c =
     let v = c.loop-i.invariant in
-    let h : c.loop-i.i < items c.args.source.model.now = omega arith in record {
-      table = rw c.slice-words.ensures.value
-          (latest-table _ _ (rw c.args.source.agree at c.slice-words.ensures.head.head) c.items-m.ensures.0 refl
-          c.latest_at-t.ensures h);
-      done_lt_k = (
-        first-room v h (told c.has.ensures c.if-has.true) c.items-m.ensures.0 refl
-            c.latest_at-t.ensures
-            (λ z. c.if-category-eq-CONDITION.false (c.category.ensures ∙ z)),
-        omega (arith, v.put.len, c.requires.k_in_bounds),
-      );
-    }
+    let h : c.loop-i.i < items c.args.source.model.now = omega arith in (
+      first-room v h (told c.has.ensures c.if-has.true) c.items-m.ensures.0 refl
+          c.latest_at-t.ensures
+          (λ z. c.if-category-eq-CONDITION.false (c.category.ensures ∙ z)),
+      omega (arith, v.put.len, c.requires.k_in_bounds),
+    )
 
 pub loop-i-preserved : goal.loop-i-preserved
 loop-i-preserved c =
@@ -52,13 +49,13 @@ loop-i-preserved c =
           rw (w.out-is, w.c-is)
           (entries-more v h (told c.has.ensures w.if-has.true) c.items-m.ensures.0 refl
           c.latest_at-t.ensures (told w.category.ensures w.if-category-eq-CONDITION.true)
-          (rw c.slice-words.ensures.value at w.write_entries-c.ensures.value)
-          (rw c.slice-words.ensures.value at w.write_entries-c.ensures.out_after))
+          (rw (w.of-entries.ensures, c.slice-words.ensures.value) at w.write_entries-c.ensures.value)
+          (rw (w.of-entries.ensures, c.slice-words.ensures.value) at w.write_entries-c.ensures.out_after))
       | then-has+else-category-eq-CONDITION w ↦
           rw (w.out-is, w.c-is)
           (first_more v h (told c.has.ensures w.if-has.true) c.items-m.ensures.0 refl
           c.latest_at-t.ensures (λ z. w.if-category-eq-CONDITION.false (w.category.ensures ∙ z))
-          (rw c.slice-words.ensures.value at w.write_first.ensures))
+          (rw (w.of-entries.ensures, c.slice-words.ensures.value, first-of) at w.write_first.ensures))
       | else-has w ↦ rw (w.out-is, w.c-is) (written_out v h (told c.has.ensures w.if-has.false))
     ]
 

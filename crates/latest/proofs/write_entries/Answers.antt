@@ -6,24 +6,24 @@ use Rattle.latest.proofs.write_entries.Goals as goal
 
 pub loop-j-init : goal.loop-j-init
 loop-j-init c =
-    (omega arith, used_start _ _ _ _ _ _ _ c.requires.x_bound.0)
+    (omega arith, used_start _ _ _ _ c.requires.0)
 
 pub returns-then-row-eq0 : goal.returns-then-row-eq0
 returns-then-row-eq0 c =
     let whole = left_end c.loop-j.invariant.1
-    (used-none _ _ _ _ _ (omega arith) c.row_at-row.ensures c.if-row-eq0.true) in
+    (used-none c.args.entries.now _ (omega (arith, c.len.ensures)) c.row-row.ensures c.if-row-eq0.true) in
     record { value = whole.0; out_after = whole.1 }
 
 pub write_row-requires : goal.write_row-requires
 write_row-requires c =
     left-room c.loop-j.invariant.1
-    (used-more _ _ _ _ _ (omega arith) c.row_at-row.ensures c.if-row-eq0.false) c.requires.x_bound.1
+    (used-more c.args.entries.now _ (omega (arith, c.len.ensures)) c.row-row.ensures c.if-row-eq0.false) c.requires.1
 
 pub loop-j-preserved : goal.loop-j-preserved
 loop-j-preserved c =
     let v = c.loop-j.invariant in (
       omega (arith, v.0),
-      left-more v.1 (used-more _ _ _ _ _ (omega arith) c.row_at-row.ensures c.if-row-eq0.false) refl
+      left-more v.1 (used-more c.args.entries.now _ (omega (arith, c.len.ensures)) c.row-row.ensures c.if-row-eq0.false) refl
           c.write_row.ensures,
     )
 
@@ -31,5 +31,5 @@ pub returns : goal.returns
 returns c =
     let v = c.loop-j.invariant in
     let whole = left_end v.1
-    (used_over _ _ _ _ _ c.args.k c.args.done _ (omega arith) v.0 (omega (arith, v.1.rows, v.1.fits))) in
+    (used_over _ _ c.args.k c.args.done _ c.len.ensures.1 (omega (arith, c.len.ensures)) v.0 (omega (arith, v.1.rows, v.1.fits))) in
     record { value = whole.0; out_after = whole.1 }

@@ -5,4 +5,4 @@ use Rattle.latest.proofs.write_first.Goals as goal
 
 pub returns : goal.returns
 returns c =
-    first-written _ _ _ _ _ c.row_at-row.ensures (omega arith) c.write_row.ensures
+    first-written _ _ c.row.ensures (omega arith) c.write_row.ensures
