@@ -30,7 +30,7 @@ pub struct Part {
     pub length: u64,
 }
 
-// The answer's number and count.
+// The answer's number and count. No plainer as a From: that wants a ghost relation beside these two equations.
 fn outcome_of(answer: Answer) -> Outcome
     ensures number_value { result.number ≡ answer_number answer }
     ensures count_value { result.count ≡ answer_count answer }

@@ -9,7 +9,10 @@ use lib.Dec.{ltb, eqb}
 use lib.ListN.{length, get_or, set, take, length-set}
 use lib.Seq.{length-take-le, take-suc-set, append_snoc, get_or-take, get_or-set_same, get_or-set_other}
 use borrow.Author.Tests.{lt-ltb, le-ltb, leb-true, eqb-true, eqb-false}
-use Rattle.spec.specs.Bytes.{split}
+use Rattle.std.specs.Prelude.{Option, Some, None}
+use Rattle.std.specs.List.{slice_split, onto_first}
+use Rattle.std.proofs.lemmas.Iterator.{YieldsList}
+use Rattle.spec.specs.Bytes.{split, join_first}
 use Rattle.spec.specs.Text.{id_text, id_texts, longest_text}
 use Rattle.spec.specs.Assets.{max_assets, capacity, used, find}
 use Rattle.spec.specs.Reply.{refuse}
@@ -24,14 +27,14 @@ use Rattle.spec.proofs.Bytes.{join, join-split}
 
 -- ---- the first k cells of an array
 
--- there are as many, and each is a used one
+-- there are as many, and each is one of the store's
 pub record Kept (bs cells : List ℕ) (k : ℕ) : Type 0 where
   pub few : k ≤ max_assets
   pub there : k ≤ length cells
-  pub below : (i : ℕ) → i < k → get_or cells i 0 < used bs
+  pub below : (i : ℕ) → i < k → get_or cells i 0 < capacity bs
 
-kept-list : {bs cells : List ℕ} {k : ℕ} → Kept bs cells k → used bs ≤ capacity bs → Cells bs (take k cells)
-kept-list {bs} {cells} {k} is room =
+kept-list : {bs cells : List ℕ} {k : ℕ} → Kept bs cells k → Cells bs (take k cells)
+kept-list {bs} {cells} {k} is =
     let n = length-take-le k cells is.there in
     record {
       few = omega (arith, is.few);
@@ -44,6 +47,30 @@ kept-list {bs} {cells} {k} is room =
 -- one more cell is kept behind the first i
 kept_more : (cells : List ℕ) (i x : ℕ) → i < length cells → take (i + 1) (set cells i x) ≡ take i cells ++ (x ∷ [])
 kept_more cells i x h = rw (add-one i) (take-suc-set cells i x h)
+
+-- ---- the ids of a text, as an iterator gives them
+
+split-first : (x : ℕ) (r : List (List ℕ)) → onto_first x r ≡ join_first x r
+unfolding join_first
+split-first x [] = refl
+split-first x (p ∷ ps) = refl
+
+-- the library's parts
+pub split-is : (b : ℕ) (s : List ℕ) → slice_split (λ x. eqb x b) s ≡ split b s
+unfolding split
+split-is b [] = refl
+split-is b (x ∷ xs) = rw (split-is b xs, split-first x (split b xs))
+
+module _ {S A B : Type 0} {steps : S → Option A → S → Type 0} {v : A → B} {s t : S} where
+  -- an iterator's next item is the first of those that it is to give
+  pub given-next : (ys : List B) → YieldsList steps v s ys → (x : A) → steps s (Some x) t
+      → (more : List B) × ((ys ≡ v x ∷ more) × YieldsList steps v t more)
+  given-next [] g x h = absurd (g.runs x t h)
+  given-next (y ∷ ys) g x h = let m = g.runs.1 x t h in (ys, (rw m.0, record { runs = m.1 }))
+
+  pub given-none : (ys : List B) → YieldsList steps v s ys → steps s None t → ys ≡ []
+  given-none [] g h = refl
+  given-none (y ∷ ys) g h = absurd (g.runs.0 t h)
 
 -- ---- how many ids a text has
 
@@ -91,7 +118,7 @@ module _ {bs : List ℕ} {ids rest : List (List ℕ)} {k : ℕ} {cells : List �
   unfolding all_cells find_all
   finding-missing h = w.all ∙ rw (cut, le-ltb _ _ h)
 
-  module _ {cell : ℕ} (is : cell ≡ find bs id) (h : cell < used bs) where
+  module _ {cell : ℕ} (is : cell ≡ find bs id) (h : cell < used bs) (room : used bs ≤ capacity bs) where
     kept-cells : Kept bs (set cells k cell) (k + 1)
     kept-cells =
         record {
@@ -100,8 +127,8 @@ module _ {bs : List ℕ} {ids rest : List (List ℕ)} {k : ℕ} {cells : List �
           below = λ i l. go i l (eqb i k) refl;
         }
       where
-        go : (i : ℕ) → i < k + 1 → (t : Bool) → eqb i k ≡ t → get_or (set cells k cell) i 0 < used bs
-        go i l true e = rw (eqb-true i k e, get_or-set_same cells k cell 0 (omega (arith, w.size, finding-room))) h
+        go : (i : ℕ) → i < k + 1 → (t : Bool) → eqb i k ≡ t → get_or (set cells k cell) i 0 < capacity bs
+        go i l true e = rw (eqb-true i k e, get_or-set_same cells k cell 0 (omega (arith, w.size, finding-room))) (omega arith)
         go i l false e =
             let n = eqb-false i k e in
             rw (get_or-set_other cells k i cell 0 n) (w.kept.below i (omega arith))
@@ -122,11 +149,11 @@ module _ {bs : List ℕ} {ids rest : List (List ℕ)} {k : ℕ} {cells : List �
         }
 
 pub finding-last : {bs : List ℕ} {ids rest : List (List ℕ)} {k : ℕ} {cells : List ℕ}
-    → Finding bs ids rest k cells → rest ≡ [] → used bs ≤ capacity bs
+    → Finding bs ids rest k cells → rest ≡ []
     → FoundAll bs ids (take k cells) (Ok tt)
 unfolding find_all all_cells
-finding-last {bs} {ids} {rest} {k} {cells} w none room = (
-  kept-list w.kept room,
+finding-last {bs} {ids} {rest} {k} {cells} w none = (
+  kept-list w.kept,
   (sym (w.done ∙ rw none (append-nil (take k cells))), w.all ∙ rw none),
 )
 

@@ -34,15 +34,10 @@ fn find_all(assets: &Assets, ids: &[u8], found: &mut Found) -> Result<(), Refusa
     requires none_found { found.old.count ≡ 0 }
     ensures { FoundAll assets.now (split 59 ids.now) (take found.new.count found.new.cells) result }
 {
-    let mut rest = ids;
-    // each cut leaves the rest
-    while let Some((id, more)) = scan::split_once(rest, b';') {
+    for id in ids.split(|x| *x == b';') {
         let cell = cell_of(assets, id)?;
         found.push(cell);
-        rest = more;
     }
-    let cell = cell_of(assets, rest)?;
-    found.push(cell);
     Ok(())
 }
 

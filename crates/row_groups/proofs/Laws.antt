@@ -1,17 +1,17 @@
 -- Rows of a component and group, kept and marked one after the other.
-use Prim.Native.Nat.{ℕ, suc, ◌+◌, ◌-◌, ◌*◌, ◌≤◌, ◌<◌}
-use mathlib.Core.Path.{◌≡◌, refl, sym, ap, ◌∙◌}
+use Prim.Native.Nat.{ℕ, suc, ◌+◌, ◌*◌, ◌≤◌, ◌<◌}
+use mathlib.Core.Path.{◌≡◌, refl, sym, ◌∙◌}
 use mathlib.Core.Bool.{Bool, true, false, ◌||◌, not}
 use mathlib.Core.List.{List, [], ◌∷◌, ◌++◌, map, map-append, append_assoc, append-nil}
 use native.Mathlib.Omega.{arith}
 use borrow.Author.Tests.{eq-eqb, ne_eqb, eqb-true, eqb-false, ltb-true}
 use denote.Enum.Bare.{sameb}
 use lib.Dec.{eqb}
-use lib.ListN.{length, get_or, set, take, drop, replicate, length-set, length-take, get_or-replicate}
+use lib.ListN.{length, get_or, set, take, replicate, length-set, get_or-replicate}
 use lib.ListN.{length-replicate}
-use lib.Seq.{take-take, take_all, get_or-set_same, get_or-set_other}
+use lib.Seq.{take_all, get_or-set_same, get_or-set_other}
 use Rattle.spec.specs.Value.{item_of}
-use Rattle.spec.specs.Model.{Checked, name_bytes, name_count, name_cell, name_text, letters, max_components, items}
+use Rattle.spec.specs.Model.{Checked, name_bytes, name_count, name_text, max_components, items}
 use Rattle.spec.specs.Model.{item_word, item_name, component_of, category_of}
 use Rattle.spec.specs.Reply.{rows_of}
 use Rattle.spec.proofs.Words.{and_left, and_right}
@@ -102,22 +102,6 @@ cell_room model names M k h = omega (arith, M.names_len)
 pub item_room : (model names : List ℕ) → Checked model names → (j w : ℕ) → j < items model → w ≡ item_word model j
     → name_bytes * item_name w + name_bytes ≤ length names
 item_room model names M j w h e = rw e (cell_room model names M (item_name (item_word model j)) (M.item_name j h))
-
--- ---- names
-
-pub name-cut : (names : List ℕ) (k n : ℕ)
-    → let at = name_bytes * k in
-    n ≡ letters (take (at + name_bytes - at) (drop at names)) → n ≤ length (take (at + name_bytes - at) (drop at names))
-    → take (at + n - at) (drop at names) ≡ name_text names k
-name-cut names k n e h =
-    let at = name_bytes * k in
-    let z : at + name_bytes - at ≡ name_bytes = omega arith in
-    let q : at + n - at ≡ n = omega arith in
-    let f : n ≡ letters (name_cell names k) = rw z at e in
-    let l : n ≤ length (name_cell names k) = rw z at h in
-    rw q
-    (sym (take-take n name_bytes (drop at names) (omega (arith, length-take name_bytes (drop at names))))
-    ∙ ap (λ (m : ℕ). take m (name_cell names k)) f)
 
 -- ---- rows kept
 

@@ -57,10 +57,8 @@ pub fn name_text<'a>(names: &'a [u8], k: u64) -> &'a [u8]
     requires { name_bytes * k + name_bytes ≤ length names.now }
     ensures { result.now ≡ name_text names.now k }
 {
-    let at = spec::NAME_BYTES * (k as usize);
-    let end = at + spec::NAME_BYTES;
-    let stop = at + model::name_length(&names[at..end]);
-    &names[at..stop]
+    let cell = model::name_cell(names, k);
+    &cell[..model::name_length(cell)]
 }
 
 // A group's name. No one function with figures::put_level is plainer: they share neither type nor text.

@@ -1,12 +1,14 @@
--- The cells found, then those of the ids that are left, are all of them. The measure is how many are left.
-use Rattle.std.proofs.Common.{length}
+-- The cells found, then those of the ids that the iterator still gives, are all of them.
+use Prim.Native.Nat.{ℕ}
+use mathlib.Core.List.{List}
 use Rattle.spec.specs.Bytes.{split}
+use Rattle.std.proofs.lemmas.Iterator.{YieldsList}
 use Rattle.named_reply.proofs.Laws.{Finding}
 use Rattle.named_reply.proofs.find_all.Given as goal
 
 abbrev pub invariant-loop-id : goal.invariant-loop-id
 invariant-loop-id l =
-    Finding l.assets (split 59 l.ids) (split 59 l.rest) l.found.count l.found.cells
-
-abbrev pub decreases-loop-id : goal.decreases-loop-id
-decreases-loop-id l = length (split 59 l.rest)
+    (goal.iterator-loop-id).can_next l.id-iterator × ((goal.iterator-loop-id).is_finite l.id-iterator
+    × ((rest : List (List ℕ))
+    × (YieldsList (goal.iterator-loop-id).next_gives (λ x. x.now) l.id-iterator rest
+    × Finding l.assets (split 59 l.ids) rest l.found.count l.found.cells)))
