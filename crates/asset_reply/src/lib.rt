@@ -8,6 +8,7 @@ ghost use Rattle.spec.specs.Reply.{numbers, lengths};
 ghost use Rattle.history.specs.Calls.{cell_rows, all_cells, cells_reply, down_from};
 ghost use Rattle.asset_reply.specs.Cells as specs;
 
+use arrayvec::ArrayVec;
 use assets::Assets;
 use reply::SIZES;
 use spec::{Answer, Refusal};
@@ -42,6 +43,19 @@ impl Cells for Newest {
 
     fn cell(&self, i: u64) -> u64 {
         self.used - 1 - i
+    }
+}
+
+// The cells of a list of at most N.
+impl<const N: usize> Cells for ArrayVec<u64, N> {
+    ghost list = { λ v. v.items };
+
+    fn count(&self) -> u64 {
+        self.len() as u64
+    }
+
+    fn cell(&self, i: u64) -> u64 {
+        self[i as usize]
     }
 }
 

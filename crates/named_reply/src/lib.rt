@@ -1,7 +1,7 @@
 // The reply of the assets that a text names, in its order.
 #![tactic(auto)]
 
-ghost use Rattle.std.specs.Prelude.{◌≡◌, true, ◌<◌, ◌≤◌, List, ℕ, length, set, take, MatchResult};
+ghost use Rattle.std.specs.Prelude.{[], ◌≡◌, true, ◌<◌, ◌≤◌, List, ℕ, length, set, take, MatchResult};
 ghost use Rattle.spec.specs.Bytes.{split};
 ghost use Rattle.spec.specs.declared.Refusal.TheVariants.{AssetNotFound};
 ghost use Rattle.spec.specs.Text.{id_texts, longest_text};
@@ -9,13 +9,9 @@ ghost use Rattle.spec.specs.Assets.{used, capacity, find};
 ghost use Rattle.history.specs.Calls.{named_reply};
 ghost use Rattle.named_reply.specs.Cells.{FoundAll};
 
-use asset_reply::Cells;
+use arrayvec::ArrayVec;
 use assets::Assets;
 use spec::{ASSET_SLOTS, Answer, Refusal};
-
-mod found;
-
-use found::Found;
 
 // The cell of an id, or 13.
 fn cell_of(assets: &Assets, id: &[u8]) -> Result<u64, Refusal>
@@ -28,11 +24,15 @@ fn cell_of(assets: &Assets, id: &[u8]) -> Result<u64, Refusal>
 
 // The cells of the ids joined by ';', in their order, or 13 by the first that isn't stored. No id is empty, so a text
 // has at most 128.
-fn find_all(assets: &Assets, ids: &[u8], found: &mut Found) -> Result<(), Refusal>
+fn find_all(
+    assets: &Assets,
+    ids: &[u8],
+    found: &mut ArrayVec<u64, ASSET_SLOTS>,
+) -> Result<(), Refusal>
     requires ids_length { length ids.now ≤ longest_text }
     requires ids_value { id_texts (split 59 ids.now) ≡ true }
-    requires none_found { found.old.count ≡ 0 }
-    ensures { FoundAll assets.now (split 59 ids.now) (take found.new.count found.new.cells) result }
+    requires none_found { found.old.items ≡ [] }
+    ensures { FoundAll assets.now (split 59 ids.now) found.new.items result }
 {
     for id in ids.split(|x| *x == b';') {
         let cell = cell_of(assets, id)?;
@@ -48,7 +48,7 @@ pub fn reply_named(assets: &Assets, ids: &[u8], reply: &mut [u64]) -> Answer
     ensures { let x = named_reply assets.now (split 59 ids.now) reply.old in
         (result ≡ x.answer) × (reply.new ≡ x.reply) }
 {
-    let mut found = Found::new();
+    let mut found = ArrayVec::new();
     find_all(assets, ids, &mut found)?;
     asset_reply::reply_cells(assets, &found, reply)
 }

@@ -1,5 +1,5 @@
 -- A turn finds the first id that the iterator gives; at its end none is left.
-use Rattle.std.proofs.Common.{rules, tests, refl, ap, length, arith}
+use Rattle.std.proofs.Common.{rules, tests, arith}
 use Rattle.std.specs.List.{slice_split}
 use Rattle.std.proofs.lemmas.Iterator.Splits.{YieldsList-from_slice_split}
 use Rattle.std.proofs.iter.Serving.{serving}
@@ -21,8 +21,8 @@ loop-id-init c =
           (
             YieldsList-from_slice_split _ (λ x. eqb x 59) ids (search rules) (search rules) (search rules)
                 (λ x b q k. search (rules, tests)),
-            rw (split-is 59 ids, c.requires.none_found)
-                (finding-none _ _ _ c.requires.ids_length (search rules) c.requires.ids_value),
+            rw (split-is 59 ids)
+                (finding-none _ _ _ c.requires.ids_length c.requires.none_found c.requires.ids_value),
           ),
         ),
       ),
@@ -40,7 +40,8 @@ pub push-requires : goal.push-requires
 push-requires c =
     let i = c.loop-id.invariant.1.1 in
     let n = given-next {t = c.next.new.self} i.0 i.1.0 c.in-Some.id (rw c.in-Some.is at c.next.ensures.steps) in
-    finding-room i.1.1 n.1.0
+    let r = finding-room i.1.1 n.1.0 in
+    (omega arith, r)
 
 pub loop-id-preserved : goal.loop-id-preserved
 loop-id-preserved c =
@@ -50,7 +51,7 @@ loop-id-preserved c =
       search rules,
       (
         search rules,
-        (n.0, (n.1.1, rw (c.push.ensures.count, c.push.ensures.cells) (finding-more i.1.1 n.1.0 e.0 e.1 e.2))),
+        (n.0, (n.1.1, rw c.push.ensures.items (finding-more i.1.1 n.1.0 e.0 e.1 e.2))),
       ),
     )
 

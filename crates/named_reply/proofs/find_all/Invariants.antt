@@ -11,4 +11,4 @@ invariant-loop-id l =
     (goal.iterator-loop-id).can_next l.id-iterator × ((goal.iterator-loop-id).is_finite l.id-iterator
     × ((rest : List (List ℕ))
     × (YieldsList (goal.iterator-loop-id).next_gives (λ x. x.now) l.id-iterator rest
-    × Finding l.assets (split 59 l.ids) rest l.found.count l.found.cells)))
+    × Finding l.assets (split 59 l.ids) rest l.found.items)))
