@@ -2,12 +2,11 @@
 // room for it.
 #![tactic(auto)]
 
-ghost use Rattle.std.specs.Prelude.{◌≡◌, ◌<◌, true, ◌≢◌, Ok};
+ghost use Rattle.std.specs.Prelude.{◌≡◌, ◌<◌, true};
 ghost use Rattle.spec.specs.Model.{items, category};
 ghost use Rattle.history.specs.Observations.{Head, ring_size, latest_ok};
 ghost use Rattle.history.specs.Calls.{room_for, observe_by};
-ghost use Rattle.judging.specs.declared.Judged.TheVariants.{New};
-ghost use Rattle.short_way.specs.Found.{found, observed_by};
+ghost use Rattle.short_way.specs.Found.{found, observed_by, NewIfPlain};
 
 use entries::Entries;
 use judging::Judged;
@@ -49,7 +48,7 @@ fn judge_latest(
     requires head { Head (items model.now) observations.now }
     requires item_bound { (item < items model.now) × (cat ≡ category model.now item) }
     requires new_if_plain { let st = observations.now in
-        (cat ≢ 2 → Ok New ≡ found (category model.now) (ring_size st) (items model.now) st item word) }
+        NewIfPlain cat (found (category model.now) (ring_size st) (items model.now) st item word) }
     ensures { let st = observations.now in
         let model = model.entry.now in
         result ≡ found (category model) (ring_size st) (items model) st item word }
@@ -77,7 +76,7 @@ pub fn observe_long(
     requires head { Head (items model.now) observations.old }
     requires item_bound { (item < items model.now) × (cat ≡ category model.now item) }
     requires new_if_plain { let st = observations.old in
-        (cat ≢ 2 → Ok New ≡ found (category model.now) (ring_size st) (items model.now) st item word) }
+        NewIfPlain cat (found (category model.now) (ring_size st) (items model.now) st item word) }
     ensures { let of = category model.now in
         let x = observed_by of (items model.now) observations.old item time word in
         (result ≡ x.answer) × (observations.new ≡ x.observations) }
