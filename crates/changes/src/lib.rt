@@ -7,8 +7,8 @@ ghost use Rattle.changes.specs.Changes.{raised_for, cleared_for, change_for, Cha
 use spec::ENTRY_SLOTS;
 
 // What an observation does to the eight entries of its item: it is put at a place, it stands alone, the entry at a
-// place goes out, they stay, or it would be a ninth. Full is no Option's None: by its definition it is a change too, one
-// that leaves the eight as they are, so that who knows that there is room does the change with no test.
+// place goes out, they stay, or it would be a ninth. Full is no Option's None: by its definition it is a change too,
+// one that leaves the eight as they are, so that who knows that there is room does the change with no test.
 #[derive(Clone, Copy)]
 pub enum Change {
     Put(usize),

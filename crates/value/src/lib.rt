@@ -36,8 +36,8 @@ pub const WARNING: u64 = NORMAL + 1;
 
 pub const FAULT: u64 = NORMAL + TOP_LEVEL;
 
-// What no item takes. `decode` gives it where a word has no value, by its definition, and who asks for the value refuses
-// it as any other that the item doesn't take: an Option would make decode a function that can fail.
+// What no item takes. `decode` gives it where a word has no value, by its definition, and who asks for the value
+// refuses it as any other that the item doesn't take: an Option would make decode a function that can fail.
 const NO_VALUE: Value = Value::Condition(Level::Normal, u32::MAX);
 
 // The low word of a sample: the sample, plus 2^32 if it is negative.
