@@ -9,8 +9,8 @@ pub const ITEM_SLOTS: usize = MAX_ITEMS as usize;
 
 pub const MAX_COMPONENTS: u64 = 64;
 
-// The categories with values of their own. Numbers and no enum: a word that C brings, or a lent buffer has, may have any
-// number there, and a narrower parameter would ask more of callers.
+// The categories with values of their own. Numbers and no enum: a word that C brings, or a lent buffer has, may have
+// any number there, and a narrower parameter would ask more of callers.
 pub const SAMPLE: u64 = 0;
 
 pub const EVENT: u64 = 1;
