@@ -38,7 +38,8 @@ use Rattle.spec.specs.declared.Refusal.TheVariants.{Spent, TooMany, InvalidXpath
 use Rattle.std.specs.Prelude.{Ok, Err, Option, Some, None}
 use Rattle.spec.specs.Answers.{Answer, ObserveAnswer}
 use Rattle.spec.specs.declared.Noted.TheVariants.{Recorded}
-use Rattle.spec.proofs.Words.{and_left, and_right, and_both, by_cond, leb-not, by-test}
+use Rattle.spec.proofs.Words.{and_left, and_right, by_cond, leb-not, by-test}
+use Rattle.std.proofs.lemmas.Bool.{and_from}
 use Rattle.spec.proofs.Packing.{Coded, taken-coded}
 use Rattle.history.proofs.Compared.{compare-coded}
 use Rattle.spec.proofs.Model.{checked}
@@ -449,7 +450,7 @@ module _ (model names : List ℕ) (p : State) (st : List ℕ) (G : Good model na
   cells_agree (i ∷ is) e =
       let l : i < length p.T = ltb-true i (length p.T) (and_left (ltb i (length p.T)) _ e) in
       let r = cells_agree is (and_right (ltb i (length p.T)) _ e) in
-      (and_both (length_ok (length_at (bytes p) i)) _ (lengths i l).0 r.0, rw ((lengths i l).1, r.1))
+      (and_from (length_ok (length_at (bytes p) i)) _ (lengths i l).0 r.0, rw ((lengths i l).1, r.1))
 
   cells-reply : (is reply : List ℕ) → all_cells (λ i. ltb i (length p.T)) is ≡ true
       → cells_reply (bytes p) is reply ≡ asset_reply (length p.T) p.A (held_rows p.T is) reply
@@ -472,7 +473,7 @@ module _ (model names : List ℕ) (p : State) (st : List ℕ) (G : Good model na
   all-below : (n k : ℕ) → n ≤ k → all_cells (λ i. ltb i k) (newest_first n) ≡ true
   unfolding all_cells newest_first
   all-below zero k h = refl
-  all-below (suc n) k h = and_both (ltb n k) _ (lt-ltb n k h) (all-below n k (omega arith))
+  all-below (suc n) k h = and_from (ltb n k) _ (lt-ltb n k h) (all-below n k (omega arith))
 
   down_is : (n : ℕ) → down_from n ≡ newest_first n
   unfolding down_from newest_first

@@ -18,6 +18,7 @@ use Rattle.history.specs.Reference.{State, Begun, Observation, nothing, newest_o
 use Rattle.history.specs.Reference.Begun.{not_begun, begun}
 use Rattle.history.specs.History.{Start, begins, stores_start}
 use Rattle.std.specs.Prelude.{Ok, Err}
+use Rattle.std.proofs.lemmas.Bool.{not-false}
 use Rattle.spec.specs.declared.Refusal.{Refusal}
 use Rattle.spec.specs.declared.Refusal.TheVariants.{Model, Size}
 use Rattle.spec.specs.declared.Value.TheVariants.{Unavailable}
@@ -170,10 +171,6 @@ pub record Begins (a : Start) (p : State) : Type 0 where
   pub assets : (stores_start a).assets ≡ bytes p
   pub base : p.B ≡ a.B
 
-not_back : (t : Bool) → not t ≡ false → t ≡ true
-not_back true e = refl
-not_back false e = sym e
-
 -- what a start's test says of the sizes, the first number and the stores' lengths
 pub record StartSizes (m N A B words size : ℕ) : Type 0 where
   pub N-low : 1 ≤ N
@@ -210,11 +207,11 @@ pub start-good : (a : Start) (p : State) → begins a ≡ begun p → Begins a p
 unfolding Calls.start Calls.start_both begin
 start-good a p e =
     let e1 = begun-past (not (model_ok a.model a.names)) _ p Model e in
-    let right : model_ok a.model a.names ≡ true = not_back (model_ok a.model a.names) e1.0 in
+    let right : model_ok a.model a.names ≡ true = not-false (model_ok a.model a.names) e1.0 in
     let e2 = begun-past (size_wrong m a.N a.A a.B words size) _ p Size e1.1 in
     let low = (checked a.model a.names right).sizes in
     let ok : start_ok m a.N a.A a.B words size ≡ true =
-    not_back (start_ok m a.N a.A a.B words size) (sym (size-wrong m a.N a.A a.B words size low.m_max) ∙ e2.0) in
+    not-false (start_ok m a.N a.A a.B words size) (sym (size-wrong m a.N a.A a.B words size low.m_max) ∙ e2.0) in
     let S = start-sizes m a.N a.A a.B words size ok in
     subst (Begins a) (begun-one _ p e2.1)
     (record {

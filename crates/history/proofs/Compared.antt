@@ -5,14 +5,14 @@ use mathlib.Core.Bool.{true, and-eq-true_iff, true≢false}
 use lib.Dec.{eqb}
 use lib.IntN.{ℤ, pos, negsuc}
 use borrow.Author.Tests.{eq-eqb, eqb-true}
-use Rattle.spec.specs.Value.{pack, takes, Fits}
+use Rattle.spec.specs.Value.{pack}
 use Rattle.history.specs.Recorded.{eq_sample, eq_level, eq_value}
 use Rattle.spec.specs.declared.Level.{Level}
 use Rattle.spec.specs.declared.Level.TheVariants.{Normal, Warning, Fault}
 use Rattle.spec.specs.declared.Value.{Value}
 use Rattle.spec.specs.declared.Value.TheVariants.{Unavailable, Sample, Event, Condition}
-use Rattle.spec.proofs.Words.{same_truth}
-use Rattle.spec.proofs.Packing.{Coded, taken-coded, pack-coded}
+use Rattle.std.specs.Cmp.{both_ways}
+use Rattle.spec.proofs.Packing.{Coded, pack-coded}
 
 eq_sample-true : (x y : ℤ) → eq_sample x y ≡ true → x ≡ y
 eq_sample-true (pos a) (pos b) h = ap pos (eqb-true a b h)
@@ -68,10 +68,6 @@ eq_value-eq v w e = rw e (eq_value-refl w)
 
 pub compare-coded : (item : ℕ) (v w : Value) → Coded v → Coded w → eqb (pack item v) (pack item w) ≡ eq_value v w
 compare-coded item v w hv hw =
-    same_truth (eqb (pack item v) (pack item w)) (eq_value v w)
+    both_ways (eqb (pack item v) (pack item w)) (eq_value v w)
     (λ e. eq_value-eq v w (pack-coded item v w hv hw (eqb-true _ _ e)))
     (λ e. eq-eqb _ _ (ap (pack item) (eq_value-true v w e)))
-
-pub pack-compares : (item category : ℕ) (v w : Value) → takes category v ≡ true → takes category w ≡ true → Fits v → Fits w
-    → eqb (pack item v) (pack item w) ≡ eq_value v w
-pack-compares item category v w hv hw fv fw = compare-coded item v w (taken-coded category v hv fv) (taken-coded category w hw fw)

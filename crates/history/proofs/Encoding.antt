@@ -16,6 +16,7 @@ use Rattle.spec.specs.Assets.{max_body, capacity, used, ids_at, bodies_at, cell,
 use Rattle.history.specs.Calls.{find_all}
 use Rattle.history.specs.Reference.{Held, place, holds, without, make_room, content_at, places_of}
 use Rattle.spec.proofs.Words.{and_left, and_right, by_cond}
+use Rattle.spec.proofs.Assets.{id-max}
 use Rattle.spec.proofs.Bytes.{same_refl, same_true}
 
 -- no asset
@@ -146,18 +147,14 @@ id-nz : (id : List ℕ) → id_ok id ≡ true → Nz id
 unfolding id_ok
 id-nz id e = all-nz id (and_right (leb (length id) 32) _ (and_right (leb 1 (length id)) _ e))
 
-id-le : (id : List ℕ) → id_ok id ≡ true → length id ≤ 32
-unfolding id_ok
-id-le id e = leb-true (length id) 32 (and_left (leb (length id) 32) _ (and_right (leb 1 (length id)) _ e))
-
 eq-cells : (x y : List ℕ) → id_ok x ≡ true → id_ok y ≡ true → same (pad 32 x) (pad 32 y) ≡ same x y
 unfolding zs
-eq-cells x y hx hy = same-zeros x y (32 - length x) (32 - length y) (id-nz x hx) (id-nz y hy) (omega (arith, id-le x hx, id-le y hy))
+eq-cells x y hx hy = same-zeros x y (32 - length x) (32 - length y) (id-nz x hx) (id-nz y hy) (omega (arith, id-max x hx, id-max y hy))
 
 wide-id : (T : List Held) → AllStorable T → Wide id_of 32 T
 wide-id [] h = tt
 wide-id (t ∷ T) h =
-    (length-append t.id (replicate (32 - length t.id) 0) ∙ omega (arith, length-replicate {A = ℕ} (32 - length t.id) 0, id-le t.id h.0.0), wide-id T h.1)
+    (length-append t.id (replicate (32 - length t.id) 0) ∙ omega (arith, length-replicate {A = ℕ} (32 - length t.id) 0, id-max t.id h.0.0), wide-id T h.1)
 
 wide-body : (T : List Held) → AllStorable T → Wide body_for 512 T
 wide-body [] h = tt

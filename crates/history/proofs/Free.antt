@@ -20,7 +20,7 @@ use Rattle.spec.specs.declared.Refusal.{Refusal}
 use Rattle.std.specs.Prelude.{Ok, Err}
 use Rattle.spec.specs.Answers.{Answer, ObserveAnswer}
 use Rattle.spec.specs.declared.Noted.TheVariants.{Recorded, Same}
-use Rattle.spec.proofs.Words.{and_both}
+use Rattle.std.proofs.lemmas.Bool.{and_from}
 
 abbrev pub number_free : ℕ → ℕ → Bool
 number_free k n = not (eqb n k)
@@ -86,9 +86,4 @@ module _ (k : ℕ) where
   pub batched-free : (n : ℕ) (ws answers : List ℕ) → 0 < k → length ws ≡ n → all (word_free k) ws ≡ true
       → output_free k (batched (Ok n) (over ws answers)) ≡ true
   batched-free n ws answers pos l h =
-      and_both _ _ (ap not (ne_eqb 0 k (λ e. omega arith))) (rw (take_at ws (drop (length ws) answers) n l) h)
-
-  pub refused-free : (r : Refusal) (answers : List ℕ) → RefusalFree r
-      → output_free k (batched (Err r) answers) ≡ true
-  unfolding all
-  refused-free r answers h = and_both _ _ h refl
+      and_from _ _ (ap not (ne_eqb 0 k (λ e. omega arith))) (rw (take_at ws (drop (length ws) answers) n l) h)

@@ -42,7 +42,8 @@ use Rattle.spec.specs.declared.Record.{Record}
 use Rattle.spec.specs.declared.Value.{Value}
 use Rattle.std.specs.Prelude.{Ok, Err, Option, Some, None}
 use Rattle.spec.specs.declared.Noted.TheVariants.{Recorded, Same}
-use Rattle.spec.proofs.Words.{by_cond, and_both}
+use Rattle.spec.proofs.Words.{by_cond}
+use Rattle.std.proofs.lemmas.Bool.{and_from}
 use Rattle.history.proofs.Free.{number_free, word_free, output_free, Free, AllFree, Sound, sound-word, SoundCell}
 use Rattle.history.proofs.Free.{sound-cell, batched-free}
 use Rattle.history.proofs.Requests.{selected-cases, sample-cases, at-cases}
@@ -158,7 +159,7 @@ module _ (model names : List ℕ) where
   unfolding all offers_answers
   words-free [] p l = refl
   words-free (o ∷ os) p l =
-      and_both _ _
+      and_from _ _
       (sound-word 2 (observe_answer model names p o.item o.value) (observe-sound p l o.item o.value))
       (words-free os (offer_next model names p o) (low-offer p l o))
 

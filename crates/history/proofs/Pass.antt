@@ -1,5 +1,5 @@
--- The ring's fold over any store, damaged or not: nine entries and the written form along it, two runs, one pass for
--- all items; and the count of current's rows.
+-- The ring's fold over any store, damaged or not: nine entries along it, two runs, one pass for all items; and the count
+-- of current's rows.
 use mathlib.Core.Path.{◌≡◌, refl, sym, ap, ◌∙◌}
 use mathlib.Core.Bool.{true, false, cond}
 use Prim.Native.Nat.{ℕ, zero, suc, ◌+◌, ◌≤◌, ◌<◌}
@@ -14,9 +14,9 @@ use Rattle.spec.specs.Blocks.{extra_rows}
 use Rattle.spec.specs.Entries.{step, used_rows, form_ok}
 use Rattle.history.specs.Observations.{item_at, numbered, newest_in, latest_at, item_rows, is_condition, entries_in}
 use Rattle.history.specs.Observations.{if_used, latest_rows, current_rows, current_ok}
-use Rattle.spec.proofs.Words.{and_left, by_cond, every-at, by-test}
+use Rattle.spec.proofs.Words.{and_left, every-at, by-test}
 use Rattle.spec.proofs.Blocks.{flat-length}
-use Rattle.spec.proofs.Steps.{nine-stays, Formed, step-formed}
+use Rattle.spec.proofs.Steps.{nine-stays}
 
 -- one test at the end of a fold tells whether there ever were nine
 pub nine-ends : (N B : ℕ) (st : List ℕ) (i k s : ℕ) (es : List (List ℕ)) → 8 < length es
@@ -27,15 +27,6 @@ nine-ends N B st i (suc k) s es h =
     by-test (eqb (item_at N B st s) i)
     (λ e. rw (e, nine-stays i es (numbered N B st s) h) (nine-ends N B st i k (suc s) es h))
     (λ e. rw e (nine-ends N B st i k (suc s) es h))
-
--- lists of the written form are all that is stepped
-pub entries-formed : (N B : ℕ) (st : List ℕ) (i k s : ℕ) (es : List (List ℕ)) → Formed i es
-    → Formed i (entries_in N B st i k s es)
-unfolding entries_in
-entries-formed N B st i zero s es f = f
-entries-formed N B st i (suc k) s es f =
-    entries-formed N B st i k (suc s) _
-    (by_cond (Formed i) (eqb (item_at N B st s) i) _ es (λ e. step-formed i es (numbered N B st s) f) (λ e. f))
 
 -- two runs, one behind the other
 pub entries-split : (N B : ℕ) (st : List ℕ) (i k l s : ℕ) (es : List (List ℕ))

@@ -41,7 +41,7 @@ blank-rows N m B b w (suc n) k h =
       blank-rows N m B b w n (suc k) h,
     )
 
-none_of : (c i : ℕ) → entries_of c i [] ≡ []
+pub none_of : (c i : ℕ) → entries_of c i [] ≡ []
 unfolding entries_of standing_from newest_or
 none_of c i = by-test (eqb c 2) (λ e. rw e) (λ e. rw e)
 

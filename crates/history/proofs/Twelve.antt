@@ -30,7 +30,8 @@ use Rattle.spec.specs.declared.Refusal.TheVariants.{InvalidRequest, Unsupported,
 use Rattle.spec.specs.declared.Refusal.TheVariants.{AssetNotFound, Asset, Space, Batch, Late, Early, Crowded}
 use Rattle.spec.specs.declared.Refusal.TheVariants.{Line as NoLine, Stamp as NoStamp}
 use Rattle.std.specs.Prelude.{Ok, Err}
-use Rattle.spec.proofs.Words.{by_cond, and_right, and_both}
+use Rattle.spec.proofs.Words.{by_cond, and_right}
+use Rattle.std.proofs.lemmas.Bool.{and_from}
 use Rattle.history.proofs.Free.{number_free, word_free, output_free, Free, Sound, sound-word, SoundCell, sound-cell}
 use Rattle.history.proofs.Free.{batched-free}
 use Rattle.history.proofs.Heads.{room-for, item-cases}
@@ -109,7 +110,7 @@ module _ (model names : List ℕ) (host : ℕ) where
   words-free [] st = refl
   words-free (r ∷ rs) st =
       let v = decode r.value in
-      and_both _ _ (observe-free model names st r.item r.time host v)
+      and_from _ _ (observe-free model names st r.item r.time host v)
       (words-free rs (observe model names st r.item r.time host v).observations)
 
   one_each : (rs : List Record) (st : List ℕ) → length (observe_all model names st host rs).words ≡ length rs

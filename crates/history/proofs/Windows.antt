@@ -5,7 +5,7 @@ use mathlib.Core.Bool.{Bool, true, false, cond}
 use Prim.Native.Nat.{ℕ, zero, suc, ◌+◌, ◌-◌, ◌≤◌}
 use native.Mathlib.Nat.{not-suc-le-zero}
 use native.Mathlib.Omega.{arith}
-use mathlib.Core.List.{List, [], ◌∷◌, ◌++◌, map, append_assoc, append-nil}
+use mathlib.Core.List.{List, [], ◌∷◌, ◌++◌, map, map-append, append_assoc, append-nil}
 use lib.Dec.{leb, eqb}
 use lib.ListN.{length, drop}
 use lib.Seq.{slice, take-append-le, drop_at}
@@ -33,10 +33,6 @@ use Rattle.spec.proofs.Reply.{length-numbers}
 use Rattle.history.proofs.Requests.{sample-cases}
 
 -- ---- parts of H
-
-map-append : (f : Observation → List ℕ) (X Y : List Observation) → map f (X ++ Y) ≡ map f X ++ map f Y
-map-append f [] Y = refl
-map-append f (o ∷ X) Y = rw (map-append f X Y)
 
 slice-join : (l : List Observation) (i j k : ℕ) → i ≤ j → j ≤ k → slice i j l ++ slice j k l ≡ slice i k l
 slice-join l zero zero k h g = refl

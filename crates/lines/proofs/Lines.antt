@@ -113,20 +113,17 @@ numeral-lacks : (b n : ℕ) → digit b ≡ false → n < 10 ^ 10 → Lacks b (d
 numeral-lacks b n d h = digits-lack b (decimal n) d (numeral-of n h).classed
 
 -- each of the thousandths 1 to 999, by a test
-each_part : (p : ℕ → Bool) → every p 999 1 ≡ true → (n : ℕ) → 1 ≤ n → n < 1000 → p n ≡ true
-each_part p e n h k = every-at p 999 1 n e h (omega arith)
-
 part-fraction : (n : ℕ) → 1 ≤ n → n < 1000 → fraction (part_text n) ≡ true
 unfolding every fixed part_text is_number all digit value_from
-part-fraction n h k = each_part (λ n. fraction (part_text n)) refl n h k
+part-fraction n h k = every-at (λ n. fraction (part_text n)) 999 1 n refl h (omega arith)
 
 part-back : (n : ℕ) → 1 ≤ n → n < 1000 → thousandths (part_text n) ≡ n
 unfolding every fixed part_text value_from
-part-back n h k = eqb-true _ _ (each_part (λ n. eqb (thousandths (part_text n)) n) refl n h k)
+part-back n h k = eqb-true _ _ (every-at (λ n. eqb (thousandths (part_text n)) n) 999 1 n refl h (omega arith))
 
 part-digits : (n : ℕ) → 1 ≤ n → n < 1000 → all digit (part_text n) ≡ true
 unfolding every fixed part_text all digit
-part-digits n h k = each_part (λ n. all digit (part_text n)) refl n h k
+part-digits n h k = every-at (λ n. all digit (part_text n)) 999 1 n refl h (omega arith)
 
 -- ---- decimals
 

@@ -13,7 +13,8 @@ use Rattle.lines.specs.Digits.{fixed}
 use Rattle.lines.specs.Stamps.{leap, month_length, month_start, real_date, day_number, time_of, max_time, cycle_year}
 use Rattle.lines.specs.Stamps.{cycle_month, cycle_day, cycle_age, date_of, formed, stamp_form, date_in, date_text}
 use Rattle.lines.specs.declared.Date.{Date}
-use Rattle.spec.proofs.Words.{and_left, and_right, every-at}
+use Rattle.std.proofs.lemmas.Bool.{and_parts}
+use Rattle.spec.proofs.Words.{every-at}
 use Rattle.spec.proofs.Bytes.{all_append, all-imp}
 use Rattle.spec.proofs.Digits.{digit-is}
 use Rattle.lines.proofs.Digits.{fixed-digits, fixed-value}
@@ -32,6 +33,7 @@ day_in k m d = 365 * k + march_start m + (d - 1)
 abbrev pub begun : ℕ → ℕ
 begun m = (14 - m) / 12
 
+-- every-at from 0 on, shorter at its eleven uses
 each : (p : ℕ → Bool) (n : ℕ) → every p n 0 ≡ true → (i : ℕ) → i < n → p i ≡ true
 each p n e i h = every-at p n 0 i e (omega arith) (omega arith)
 
@@ -223,21 +225,18 @@ pub record Real (d : Date) : Type 0 where
   pub second-to : d.second ≤ 59
   pub milli-to : d.milli ≤ 999
 
-both : (a b : Bool) → a && b ≡ true → (a ≡ true) × (b ≡ true)
-both a b e = (and_left a b e, and_right a b e)
-
 pub real-bounds : (d : Date) → real_date d ≡ true → Real d
 unfolding real_date
 real-bounds d h =
-    let y = both (leb 1970 d.year && leb d.year 2099) _ h in
-    let m = both (leb 1 d.month && leb d.month 12) _ y.1 in
-    let a = both (leb 1 d.day && leb d.day _) _ m.1 in
-    let t = both (leb d.hour 23) _ a.1 in
-    let i = both (leb d.minute 59) _ t.1 in
-    let s = both (leb d.second 59) _ i.1 in
-    let y2 = both (leb 1970 d.year) _ y.0 in
-    let m2 = both (leb 1 d.month) _ m.0 in
-    let a2 = both (leb 1 d.day) _ a.0 in
+    let y = and_parts (leb 1970 d.year && leb d.year 2099) _ h in
+    let m = and_parts (leb 1 d.month && leb d.month 12) _ y.1 in
+    let a = and_parts (leb 1 d.day && leb d.day _) _ m.1 in
+    let t = and_parts (leb d.hour 23) _ a.1 in
+    let i = and_parts (leb d.minute 59) _ t.1 in
+    let s = and_parts (leb d.second 59) _ i.1 in
+    let y2 = and_parts (leb 1970 d.year) _ y.0 in
+    let m2 = and_parts (leb 1 d.month) _ m.0 in
+    let a2 = and_parts (leb 1 d.day) _ a.0 in
     record {
       year-from = leb-true _ _ y2.0;
       year-to = leb-true _ _ y2.1;

@@ -13,7 +13,9 @@ use borrow.Author.Tests.{leb-true, ltb-true, ltb-false, le-leb, not-true}
 use Rattle.spec.specs.Words.{every}
 use Rattle.spec.specs.Bytes.{name_byte, all}
 use Rattle.spec.specs.Model.{name_bytes, letters, zeros, cell_ok, name_cell, name_count}
-use Rattle.spec.proofs.Words.{and_left, and_right, and_both, same_truth, every-at, every_of, every-keep, every-kept}
+use Rattle.spec.proofs.Words.{and_left, and_right, every-at, every_of, every-keep, every-kept}
+use Rattle.std.specs.Cmp.{both_ways}
+use Rattle.std.proofs.lemmas.Bool.{and_from}
 use Rattle.spec.proofs.Model.{Names}
 use Rattle.names.specs.Cells.{block, cell_byte, bytes_at, cell_bytes, follows, zeros_last}
 
@@ -87,9 +89,9 @@ module _ {s : List ℕ} {fine : Bool} {left : List ℕ} (r : Pairing s fine left
 module _ (p : ℕ → Bool) (at n from m : ℕ) (first : at ≤ from) (no_gap : from ≤ at + n) (ends : at + n ≤ from + m) where
   two_runs : every p (from + m - at) at ≡ every p n at && every p m from
   two_runs =
-      same_truth _ _
+      both_ways _ _
       (λ e.
-      and_both (every p n at) _
+      and_from (every p n at) _
       (every_of p n at (λ i h g. every-at p (from + m - at) at i e h (omega arith)))
       (every_of p m from (λ i h g. every-at p (from + m - at) at i e (omega arith) (omega arith))))
       (λ e. every_of p (from + m - at) at (λ i h g. in_one e i h (omega arith) (ltb i (at + n)) refl))
@@ -182,7 +184,7 @@ unfolding zeros
 zeros-behind x [] z f = refl
 zeros-behind x (y ∷ ys) z f =
     let e = zero-follows x y z (f 0 (omega arith)) in
-    and_both (eqb y 0) _ e (zeros-behind y ys e (λ i h. f (suc i) (omega arith)))
+    and_from (eqb y 0) _ e (zeros-behind y ys e (λ i h. f (suc i) (omega arith)))
 
 -- what stands behind the name is zeros
 abbrev tail : List ℕ → Bool
@@ -233,7 +235,7 @@ tail_of (x ∷ xs) f g =
     (λ n. tail_name x xs n ∙ tail_of xs (λ i h. f (suc i) (omega arith)) (λ i h. g (suc i) (omega arith)))
     (λ n.
     let z = rest-zero x (f 0 (omega arith)) n in
-    tail-rest x xs n ∙ and_both (eqb x 0) _ z (zeros-behind x xs z (λ i h. g i (omega arith))))
+    tail-rest x xs n ∙ and_from (eqb x 0) _ z (zeros-behind x xs z (λ i h. g i (omega arith))))
 
 -- ---- the first byte
 
@@ -260,9 +262,9 @@ unfolding cell_ok cell_bytes zeros_last
 cell-gives s e =
     let n = first-name s (leb-true _ _ (and_left (leb 1 (letters s)) _ e)) in
     let t = and_right (leb 1 (letters s)) _ e in
-    and_both (cell_bytes s) _
+    and_from (cell_bytes s) _
     (every_of (λ i. cell_byte (get_or s i 0)) (length s) 0 (λ i h g. tail-bytes s i t))
-    (and_both (not (eqb (get_or s 0 0) 0)) _
+    (and_from (not (eqb (get_or s 0 0) 0)) _
     (rw (name-not-zero _ n))
     (every_of (λ i. follows (get_or s i 0) (get_or s (i + 1) 0)) (length s - 1) 0
     (λ i h g. rw (add-one i) (tail-follows s i t))))
@@ -273,7 +275,7 @@ cell-given s e =
     let b = and_left (cell_bytes s) _ e in
     let l = and_right (cell_bytes s) _ e in
     let p = and_right (not (eqb (get_or s 0 0) 0)) _ l in
-    and_both (leb 1 (letters s)) _
+    and_from (leb 1 (letters s)) _
     (le-leb _ _ (first-letter s (rest-name _ (first_byte_lem s b) (not-true _ (and_left _ _ l)))))
     (tail_of s
     (λ i h. every-at (λ i. cell_byte (get_or s i 0)) (length s) 0 i b (omega arith) (omega arith))
@@ -283,7 +285,7 @@ cell-given s e =
     rw (add-one i) at f))
 
 pub cell-is : (s : List ℕ) → cell_ok s ≡ cell_bytes s && zeros_last s
-cell-is s = same_truth _ _ (cell-gives s) (cell-given s)
+cell-is s = both_ways _ _ (cell-gives s) (cell-given s)
 
 -- ---- the cells of the names
 

@@ -12,7 +12,8 @@ use borrow.Author.Tests.{eq-eqb, ne_eqb, eqb-true, eqb-false, ltb-true, ltb-fals
 use Rattle.spec.specs.Words.{every}
 use Rattle.spec.specs.Bytes.{name_byte}
 use Rattle.spec.specs.Model.{name_bytes, max_names, name_count, name_cell, cell_ok, names_ok}
-use Rattle.spec.proofs.Words.{and_right, and_both, not_so, every-at, every_of}
+use Rattle.spec.proofs.Words.{and_right, not_so, every-at, every_of}
+use Rattle.std.proofs.lemmas.Bool.{and_from}
 use Rattle.spec.proofs.Bytes.{among, inside, name_runs, name-at}
 use Rattle.spec.proofs.Model.{Names, names_of}
 use Rattle.scan.proofs.Classes.{Returns, returns-by}
@@ -98,7 +99,7 @@ module _ (names : List ℕ) (i x : ℕ) (ok : names_ok names ≡ true) (there : 
           let was =
           and_right (cell_bytes (name_cell names k)) _ (sym (cell-is (name_cell names k)) ∙ ns.cell k within) in
           cell-is (name_cell changed k)
-          ∙ and_both (cell_bytes (name_cell changed k)) _ (bytes-in-cell changed k within' e) (last-kept ∙ was)
+          ∙ and_from (cell_bytes (name_cell changed k)) _ (bytes-in-cell changed k within' e) (last-kept ∙ was)
 
     bytes-kept : name_byte x ≡ true → cell_bytes changed ≡ true
     unfolding cell_bytes
@@ -118,10 +119,10 @@ module _ (names : List ℕ) (i x : ℕ) (ok : names_ok names ≡ true) (there : 
     passes n =
         let b = bytes-kept n in
         let l = length-set names i x in
-        and_both (leb 1 (length changed)) _ (le-leb 1 (length changed) (omega (arith, l, ns.low)))
-        (and_both (leb (length changed) (name_bytes * max_names)) _
+        and_from (leb 1 (length changed)) _ (le-leb 1 (length changed) (omega (arith, l, ns.low)))
+        (and_from (leb (length changed) (name_bytes * max_names)) _
         (le-leb (length changed) (name_bytes * max_names) (omega (arith, l, ns.high)))
-        (and_both (eqb (length changed % name_bytes) 0) _
+        (and_from (eqb (length changed % name_bytes) 0) _
         (eq-eqb (length changed % name_bytes) 0 (ap (λ (n : ℕ). n % name_bytes) l ∙ ns.whole))
         (every_of (λ k. cell_ok (name_cell changed k)) (name_count changed) 0
         (λ k h g. cell-kept k (omega (arith, count_kept)) b))))

@@ -12,7 +12,8 @@ use Rattle.std.specs.List.{list_all}
 use Rattle.std.specs.Simd.{first_chunks}
 use Rattle.spec.specs.Words.{every}
 use Rattle.spec.specs.Model.{name_bytes, max_names, cell_ok, name_cell, names_ok}
-use Rattle.spec.proofs.Words.{not_so, same_truth, every-at, every_of}
+use Rattle.spec.proofs.Words.{not_so, every-at, every_of}
+use Rattle.std.specs.Cmp.{both_ways}
 use Rattle.spec.proofs.Model.{Names, names_of}
 use Rattle.names.specs.Cells.{cell_bytes, zeros_last}
 use Rattle.names.proofs.CellLaws.{every-on, cell-by-zeros, names-bytes}
@@ -48,7 +49,7 @@ cells-decide names e a b t =
     let is : (i : ℕ) → i < n → zeros_last (name_cell names i) ≡ cell_ok (name_cell names i) =
     λ i h. cell-by-zeros names i h t in
     let both =
-    same_truth (every (λ i. zeros_last (name_cell names i)) n 0) (every (λ i. cell_ok (name_cell names i)) n 0)
+    both_ways (every (λ i. zeros_last (name_cell names i)) n 0) (every (λ i. cell_ok (name_cell names i)) n 0)
     (λ g. every_of _ n 0 (λ i h l. sym (is i (omega arith)) ∙ every-at _ n 0 i g h l))
     (λ g. every_of _ n 0 (λ i h l. is i (omega arith) ∙ every-at _ n 0 i g h l)) in
     rw (le-leb 1 (length names) (omega arith), le-leb (length names) (name_bytes * max_names) (omega arith), eq-eqb _ _ e)

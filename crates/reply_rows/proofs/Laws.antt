@@ -12,7 +12,8 @@ use Rattle.spec.specs.Words.{every}
 use Rattle.spec.specs.Value.{item_of}
 use Rattle.spec.specs.Model.{items, category}
 use Rattle.spec.specs.Reply.{rows_of}
-use Rattle.spec.proofs.Words.{and_left, and_right, same_truth}
+use Rattle.spec.proofs.Words.{and_left, and_right}
+use Rattle.std.specs.Cmp.{both_ways}
 use Rattle.lines.specs.Stamps.{max_time}
 use Rattle.streams.specs.Streams.{group_of, word_ok, packed_ok, all_rows, words_ok, reply_ok, times_ok}
 use Rattle.streams.proofs.Rows.{row_at, row_number, row-time, row-packed, rows-every}
@@ -37,7 +38,7 @@ module _ (c word : ℕ) where
     where
       go : (k g : ℕ) (t : Bool) → g < 2 → eqb k (suc g) ≡ eqb k (suc g) && (not (eqb k 3) || t)
       go k g t h =
-          same_truth (eqb k (suc g)) (eqb k (suc g) && (not (eqb k 3) || t))
+          both_ways (eqb k (suc g)) (eqb k (suc g) && (not (eqb k 3) || t))
           (λ e. rw (e, ne_eqb k 3 (λ q. omega (arith, eqb-true k (suc g) e))))
           (λ e. and_left _ _ e)
 

@@ -1,11 +1,11 @@
 -- A number that was looked for, and what its finding tells.
 use Prim.Native.Nat.{ℕ, ◌-◌, ◌≤◌, ◌<◌}
-use mathlib.Core.Path.{◌≡◌, refl, sym, ◌∙◌}
+use mathlib.Core.Path.{◌≡◌, refl, sym}
 use mathlib.Core.Bool.{Bool, true, false, cond}
 use lib.Dec.{ltb}
 use borrow.Author.Tests.{lt-ltb, le-ltb, ltb-true, ltb-false}
-use Rattle.std.specs.Prelude.{Option, Some, None}
-use Rattle.spec.specs.Words.{every, first_where}
+use Rattle.std.specs.Prelude.{Some, None}
+use Rattle.spec.specs.Words.{first_where}
 use Rattle.spec.specs.Found.{found_below}
 use Rattle.spec.proofs.Words.{first-here, first-end}
 

@@ -49,9 +49,6 @@ pub word_lt : (v : Value) → Coded v → value_word v < 2 ^ 34
 word_lt v h = omega (arith, low-lt v h, kind-le v)
 
 -- the word of a value that an item takes
-pub taken-low-lt : (category : ℕ) (v : Value) → takes category v ≡ true → Fits v → low v < 2 ^ 32
-taken-low-lt category v h f = low-lt v (taken-coded category v h f)
-
 pub taken-word-lt : (category : ℕ) (v : Value) → takes category v ≡ true → Fits v → value_word v < 2 ^ 34
 taken-word-lt category v h f = word_lt v (taken-coded category v h f)
 

@@ -16,7 +16,8 @@ use Rattle.spec.specs.Blocks.{table_rows}
 use Rattle.spec.specs.Entries.{active, active_as, kind_field, level_field, normal, packed, holds, any_entry}
 use Rattle.spec.specs.Entries.{code_field, has_code, any_active, entered, cleared, or_alone, step_active, step}
 use Rattle.spec.specs.Entries.{each_row, zero_row, used_rows, codes_differ, form_ok, repeats_in, crowded}
-use Rattle.spec.proofs.Words.{and_left, and_right, and_both, by-test}
+use Rattle.spec.proofs.Words.{and_left, and_right, by-test}
+use Rattle.std.proofs.lemmas.Bool.{and_from}
 use Rattle.spec.proofs.Blocks.{Threes}
 
 -- the step's four outcomes
@@ -85,33 +86,6 @@ step-three own es r h t =
 pub nine-stays : (own : ℕ) (es : List (List ℕ)) (r : List ℕ) → 8 < length es → step own es r ≡ es
 unfolding step
 nine-stays own es r h = rw (lt-ltb 8 (length es) h)
-
-length-entered : (own : ℕ) (r : List ℕ) (es : List (List ℕ)) → length (entered own r es) ≤ suc (length es)
-unfolding entered
-length-entered own r [] = omega arith
-length-entered own r (e ∷ es) =
-    by-test (active_as own (code_field (packed r)) (packed e)) (λ f. rw f (omega arith))
-    (λ f. rw f (omega (arith, length-entered own r es)))
-
-length-cleared : (own c : ℕ) (es : List (List ℕ)) → length (cleared own c es) ≤ length es
-unfolding cleared
-length-cleared own c [] = omega arith
-length-cleared own c (e ∷ es) =
-    by-test (active_as own c (packed e)) (λ f. rw f (omega arith)) (λ f. rw f (omega (arith, length-cleared own c es)))
-
-length-alone : (r : List ℕ) (es : List (List ℕ)) → length (or_alone r es) ≤ suc (length es)
-length-alone r [] = omega arith
-length-alone r (e ∷ es) = omega arith
-
--- never ten
-pub step-nine : (own : ℕ) (es : List (List ℕ)) (r : List ℕ) → length es ≤ 9 → length (step own es r) ≤ 9
-step-nine own es r h =
-    step-cases (λ l. length l ≤ 9) own es r (λ e. h)
-    (λ l f g. omega (arith, length-entered own r es))
-    (λ l f.
-    omega
-    (arith, length-cleared own (code_field (packed r)) es, length-alone r (cleared own (code_field (packed r)) es)))
-    (omega arith)
 
 -- ---- a step's length, by the packed word alone
 
@@ -265,7 +239,7 @@ used-formed own least rs h =
 pub form-less : (own : ℕ) (rs : List (List ℕ)) → form_ok own 1 rs ≡ true → form_ok own 0 rs ≡ true
 unfolding form_ok
 form-less own rs h =
-    and_both (leb 0 (length (used_rows rs))) _ (le-leb 0 (length (used_rows rs)) (omega arith))
+    and_from (leb 0 (length (used_rows rs))) _ (le-leb 0 (length (used_rows rs)) (omega arith))
     (and_right (leb 1 (length (used_rows rs))) _ h)
 
 -- ---- Same and 19 exclude each other

@@ -21,7 +21,7 @@ use Rattle.spec.proofs.Words.{by-test}
 use Rattle.history.proofs.Added.{length-evict}
 use Rattle.history.proofs.Kept.{Rep, next, entries-other, add-rep}
 use Rattle.history.proofs.Rows.{evict-ok}
-use Rattle.history.proofs.Start.{blank-rep}
+use Rattle.history.proofs.Start.{none_of, blank-rep}
 use Rattle.plain.specs.Short.{put_number}
 use Rattle.plain.proofs.Laws.{put-latest, numbered, newest-first}
 use Rattle.evicting.specs.Writing.{Overwriting}
@@ -38,10 +38,6 @@ pub record Filling (cat : ℕ → ℕ) (n m b host k p : ℕ) (st : List ℕ) : 
   pub fresh : (i : ℕ) → k ≤ i → entries_of (cat i) i held ≡ []
   pub placed : p ≡ place n b (b + k)
   pub rest : add_all cat n m b host (m - k) (b + k) k st ≡ start_store cat n m b host
-
-none_of : (c i : ℕ) → entries_of c i [] ≡ []
-unfolding entries_of standing_from newest_or
-none_of c i = by-test (eqb c 2) (λ e. rw e) (λ e. rw e)
 
 pub filling-none : (cat : ℕ → ℕ) (n m b host : ℕ) → Starting n m b → Filling cat n m b host 0 0 (blank n m b)
 unfolding start_store

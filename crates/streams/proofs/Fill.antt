@@ -19,7 +19,8 @@ use Rattle.spec.specs.declared.Value.TheVariants.{Unavailable, Sample, Event, Co
 use Rattle.lines.specs.Digits.{fixed}
 use Rattle.lines.specs.Stamps.{date_of, stamp_text}
 use Rattle.lines.specs.Lines.{level_word, part_text, point_text, unsigned_text, sample_text, value_text}
-use Rattle.spec.proofs.Words.{and_left, and_both, every-at, by_cond}
+use Rattle.spec.proofs.Words.{and_left, every-at, by_cond}
+use Rattle.std.proofs.lemmas.Bool.{and_from}
 use Rattle.spec.proofs.Bytes.{Lacks, AllOf, all_append, all-imp}
 use Rattle.spec.proofs.Digits.{digit-is, all-last}
 use Rattle.lines.proofs.Digits.{fixed-digits}
@@ -139,14 +140,14 @@ unfolding all
 lower-all [] h = refl
 lower-all (x ∷ s) h =
     let t = (and-eq-true_iff (word_byte x) (all word_byte s)).0 h in
-    and_both (word_byte (lower x)) _ (lower_word x t.0) (lower-all s t.1)
+    and_from (word_byte (lower x)) _ (lower_word x t.0) (lower-all s t.1)
 
 capital-all : (s : List ℕ) → all word_byte s ≡ true → all word_byte (capital s) ≡ true
 unfolding all
 capital-all [] h = refl
 capital-all (x ∷ s) h =
     let t = (and-eq-true_iff (word_byte x) (all word_byte s)).0 h in
-    and_both (word_byte (upper x)) _ (upper-word x t.0) (lower-all s t.1)
+    and_from (word_byte (upper x)) _ (upper-word x t.0) (lower-all s t.1)
 
 capitals-all : (ss : List (List ℕ)) → AllOf word_byte ss → all word_byte (capitals ss) ≡ true
 unfolding capitals AllOf all

@@ -1,7 +1,7 @@
 -- A document's tags nest, whatever the model, the names and the reply's words, and no text filled in is markup.
 use Prim.Native.Nat.{ℕ, zero, suc, ◌≤◌}
 use mathlib.Core.Path.{◌≡◌, refl, sym, ap, ◌∙◌}
-use mathlib.Core.Bool.{Bool, true, false, cond, ◌||◌, not, and-eq-true_iff}
+use mathlib.Core.Bool.{Bool, true, false, cond, not, or-true, and-eq-true_iff}
 use mathlib.Core.List.{List, [], ◌∷◌, ◌++◌, map, append_assoc, append-nil}
 use native.Mathlib.Omega.{arith}
 use lib.Dec.{eqb}
@@ -250,10 +250,6 @@ text-neutral element r f i l begun s =
       text-tags-in element r s i,
       opens begun (element ++ row_attributes r) element ((47 ∷ element) ∷ tags s) (row_opens element r f i),
     ) (closes begun element (tags s) (end-tag element l f))
-
-or-true : (a : Bool) → (a || true) ≡ true
-or-true true = refl
-or-true false = refl
 
 -- an element without content
 neutral-empty : (t : List ℕ) → Inner t → Neutral (empty_tag t ∷ [])

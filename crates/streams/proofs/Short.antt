@@ -8,6 +8,7 @@ use native.Mathlib.Omega.{arith}
 use lib.Dec.{ltb, eqb}
 use lib.IntN.{ℤ, pos, negsuc}
 use lib.ListN.{length, get_or, length-append, length-take}
+use Rattle.std.proofs.lemmas.List.{length-map}
 use borrow.Author.Tests.{ltb-true, ne_eqb}
 use Rattle.spec.specs.Bytes.{bytes, digit, digits, decimal, split, join_first}
 use Rattle.spec.specs.Value.{takes, Fits, FitsSample}
@@ -56,18 +57,14 @@ few j n h l = (decimal-spells j n h l).few
 name-length : (names : List ℕ) (k : ℕ) → length (name_text names k) ≤ name_bytes
 name-length names k = simp length-take (omega arith)
 
-map-length : (f : ℕ → ℕ) (s : List ℕ) → length (map f s) ≡ length s
-map-length f [] = refl
-map-length f (x ∷ s) = ap suc (map-length f s)
-
 capital-length : (s : List ℕ) → length (capital s) ≡ length s
 capital-length [] = refl
-capital-length (x ∷ s) = ap suc (map-length _ s)
+capital-length (x ∷ s) = ap suc (length-map s _)
 
 first-length : (x : ℕ) (ss : List (List ℕ)) → length (capitals (join_first x ss)) ≡ suc (length (capitals ss))
 unfolding capitals join_first
 first-length x [] = refl
-first-length x (s ∷ ss) = simp (length-append, map-length, capital-length) (omega arith)
+first-length x (s ∷ ss) = simp (length-append, length-map, capital-length) (omega arith)
 
 capitals-length : (s : List ℕ) → length (capitals (split 95 s)) ≤ length s
 unfolding capitals split
