@@ -7,17 +7,15 @@ use mathlib.Core.List.{List, [], ◌∷◌, ◌++◌}
 use native.Mathlib.Omega.{arith}
 use native.Mathlib.Nat.{sub-zero, add-zero, mod-lt, mod-eq_of_lt, mod_self, suc-mod}
 use native.Mathlib.Numerals.{add-one}
-use lib.Dec.{eqb}
 use lib.ListN.{length, length-append}
 use borrow.Author.Tests.{ne_eqb}
 use Rattle.spec.specs.Value.{pack}
 use Rattle.spec.specs.Blocks.{padded}
 use Rattle.history.specs.Observations.{latest_at, place, store_words, item_rows, evict, evict_ok, add, blank, add_all}
 use Rattle.history.specs.Observations.{start_store}
-use Rattle.history.specs.Reference.{Observation, newest_or}
-use Rattle.history.specs.Standing.{standing_from, entries_of}
+use Rattle.history.specs.Reference.{Observation}
+use Rattle.history.specs.Standing.{entries_of}
 use Rattle.spec.specs.declared.Value.TheVariants.{Unavailable}
-use Rattle.spec.proofs.Words.{by-test}
 use Rattle.history.proofs.Added.{length-evict}
 use Rattle.history.proofs.Kept.{Rep, next, entries-other, add-rep}
 use Rattle.history.proofs.Rows.{evict-ok}
