@@ -19,7 +19,8 @@ use Rattle.spec.specs.Path.{select_subtree, select_typed, select_form, select}
 use Rattle.std.specs.Prelude.{Option, Some, None, is_some}
 use Rattle.std.proofs.Common.{Bor}
 use Rattle.std.specs.Cmp.Lexicographic.{pointwise}
-use Rattle.spec.proofs.Words.{by_cond, same_truth}
+use Rattle.spec.proofs.Words.{by_cond}
+use Rattle.std.specs.Cmp.{both_ways}
 use Rattle.spec.proofs.Bytes.{same-ne, same-eq, same_true}
 use Rattle.scan.proofs.Laws.{same-is}
 use Rattle.spec.proofs.Bits.{set-lt, set-ext}
@@ -52,7 +53,7 @@ same-front c t n h = go (eqb n (length t)) refl
 turned : (s t : List ℕ) → pointwise eqb s t ≡ same t s
 turned s t =
     same-is s t
-    ∙ same_truth _ _ (λ e. same-eq t s (sym (same_true s t e))) (λ e. same-eq s t (sym (same_true t s e)))
+    ∙ both_ways _ _ (λ e. same-eq t s (sym (same_true s t e))) (λ e. same-eq s t (sym (same_true t s e)))
 
 module _ (names : List ℕ) (k : ℕ) (t : List ℕ) where
   -- the front of the name's cell against t
