@@ -60,6 +60,5 @@ pub fn end_of(f: u64, n: u64, last: u64) -> u64
     requires last_le_max_number { last ≤ max_number }
     ensures { result ≡ calls.end_of f n last }
 {
-    let next = last + 1;
-    if n < next - f { f + n } else { next }
+    f + n.min(last + 1 - f)
 }
