@@ -6,6 +6,7 @@ use mathlib.Core.List.{List, [], ◌∷◌, ◌++◌, append_assoc, map}
 use native.Mathlib.Omega.{arith}
 use contract.BorrowLft.{◌⊑◌, ⊑_meet, ⊑_static}
 use lib.ListN.{length, get_or, length-map}
+use Rattle.std.proofs.lemmas.List.{nil_from_length}
 use Rattle.spec.specs.Bytes.{bytes, decimal}
 use Rattle.spec.specs.Reply.{rows_of}
 use Rattle.lines.specs.Stamps.{stamp_text}
@@ -52,10 +53,6 @@ header-text reply N instance creation = simp append_assoc
 
 -- ---- the rows
 
-no_rows : (rows : List Row) → length rows ≡ 0 → rows ≡ []
-no_rows [] e = refl
-no_rows (r ∷ rows) e = absurd (omega arith)
-
 around : (d c : List ℕ)
     → (bytes "<Streams>" ++ 10 ∷ [])
     ++ ((tag d ++ 10 ∷ []) ++ (c ++ ((bytes "</DeviceStream>" ++ 10 ∷ []) ++ (bytes "</Streams>" ++ 10 ∷ []))))
@@ -70,7 +67,7 @@ module _ (model names reply : List ℕ) (k : ℕ) (ek : k ≡ get_or reply 0 0) 
   pub none-text : k ≡ 0
       → bytes "<Streams/>" ++ 10 ∷ [] ≡ ended (streams_lines model names (map row_in (rows_of reply)))
   unfolding streams_lines ended
-  none-text e = rw (no_rows (map row_in (rows_of reply)) (omega (arith, reply-length reply)))
+  none-text e = rw (nil_from_length (map row_in (rows_of reply)) (omega (arith, reply-length reply)))
 
   pub some-text : k ≢ 0
       → (bytes "<Streams>" ++ 10 ∷ [])

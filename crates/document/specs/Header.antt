@@ -2,7 +2,9 @@
 use Rattle.std.specs.Prelude.{ℕ, List, [], ◌∷◌, ◌++◌}
 use Rattle.spec.specs.Bytes.{bytes, decimal}
 use Rattle.lines.specs.Stamps.{stamp_text}
-use Rattle.streams.specs.Streams.{attribute}
+use Rattle.streams.specs.Streams.{attribute, header_tag, document}
+use Rattle.row_groups.specs.Groups.{Source}
+use Rattle.document.specs.declared.Header.{Header}
 
 abbrev pub start_lines : List (List ℕ)
 start_lines =
@@ -26,3 +28,10 @@ numbers_part next first last =
     ++ (attribute (bytes "nextSequence") (decimal next)
     ++ (attribute (bytes "firstSequence") (decimal first)
     ++ attribute (bytes "lastSequence") (decimal last)))
+
+-- the header of a reply, and the document of a source, with what the header says beside them
+abbrev pub header_of : List ℕ → Header → List ℕ
+header_of reply h = header_tag reply h.buffer_size h.instance h.creation
+
+abbrev pub document_of : Source → Header → List ℕ
+document_of d h = document d.model d.names d.reply h.buffer_size h.instance h.creation

@@ -1,12 +1,12 @@
 // A streams document, written: whole, or not at all.
 #![tactic(auto)]
 
-ghost use Rattle.std.specs.Prelude.{true, [], ◌∷◌, ◌++◌, ◌≡◌};
-ghost use Rattle.streams.specs.Streams.{empty_tag, header_tag, streams_lines, ended, document};
+ghost use Rattle.std.specs.Prelude.{true, [], ◌∷◌, ◌++◌, ◌≡◌, get_or};
+ghost use Rattle.streams.specs.Streams.{empty_tag, streams_lines, ended};
 ghost use Rattle.writer.specs.Puts.{Put};
 ghost use Rattle.writer.specs.Whole.{text_after, bytes_of};
 ghost use Rattle.row_groups.specs.Groups.{reply_rows};
-ghost use Rattle.document.specs.Header.{start_lines, given_part, numbers_part};
+ghost use Rattle.document.specs.Header.{start_lines, given_part, numbers_part, header_of, document_of};
 
 use attributes::{put_number, put_time};
 use components_text::{put_components, put_device};
@@ -33,22 +33,21 @@ fn put_given(h: &Header, out: &mut Output)
 }
 
 // Its second half: the reply's next, first and last.
-fn put_numbers(next: u64, first: u64, last: u64, out: &mut Output)
-    ensures { Put out.old (numbers_part next first last) out.new }
+fn put_numbers(reply: &Reply<'_>, out: &mut Output)
+    ensures { Put out.old
+        (numbers_part (get_or reply.now 3 0) (get_or reply.now 1 0) (get_or reply.now 2 0)) out.new }
 {
-    put_number(out, b" version=\"1.2\" nextSequence=\"", next);
-    put_number(out, b" firstSequence=\"", first);
-    put_number(out, b" lastSequence=\"", last);
+    put_number(out, b" version=\"1.2\" nextSequence=\"", reply.next());
+    put_number(out, b" firstSequence=\"", reply.first());
+    put_number(out, b" lastSequence=\"", reply.last());
 }
 
 // The header.
 fn put_header(reply: &Reply<'_>, h: &Header, out: &mut Output)
-    ensures { Put out.old
-        (empty_tag (header_tag reply.now h.now.buffer_size h.now.instance h.now.creation) ++ 10 ∷ []) out.new }
+    ensures { Put out.old (empty_tag (header_of reply.now h.now) ++ 10 ∷ []) out.new }
 {
-    let words = reply.slice();
     put_given(h, out);
-    put_numbers(words[3], words[1], words[2], out);
+    put_numbers(reply, out);
     out.put_bytes(b"/>\n");
 }
 
@@ -77,9 +76,7 @@ fn put_start(out: &mut Output)
 
 // The document.
 fn put_document(d: &Document<'_>, h: &Header, out: &mut Output)
-    ensures { Put out.old
-        (document d.now.model d.now.names d.now.reply h.now.buffer_size h.now.instance h.now.creation)
-        out.new }
+    ensures { Put out.old (document_of d.now h.now) out.new }
 {
     put_start(out);
     put_header(&d.reply, h, out);
@@ -89,14 +86,8 @@ fn put_document(d: &Document<'_>, h: &Header, out: &mut Output)
 
 // The document, or nothing where the text is too short for it. The first pass, over no bytes, gives the length.
 pub fn write_document(d: &Document<'_>, h: &Header, text: &mut [u8]) -> Answer
-    ensures text_after { text.new
-        ≡ text_after
-        (document d.now.model d.now.names d.now.reply h.now.buffer_size h.now.instance h.now.creation)
-        text.old }
-    ensures value { result
-        ≡ bytes_of
-        (document d.now.model d.now.names d.now.reply h.now.buffer_size h.now.instance h.now.creation)
-        text.old }
+    ensures text_after { text.new ≡ text_after (document_of d.now h.now) text.old }
+    ensures value { result ≡ bytes_of (document_of d.now h.now) text.old }
 {
     write_whole(text, |out| put_document(d, h, out))
 }

@@ -56,6 +56,27 @@ impl<'a> Reply<'a> {
         self.words[0] as usize
     }
 
+    // The first number that a store has.
+    pub fn first(&self) -> u64
+        ensures { result ≡ get_or self.now 1 0 }
+    {
+        self.words[1]
+    }
+
+    // The last number that a store has.
+    pub fn last(&self) -> u64
+        ensures { result ≡ get_or self.now 2 0 }
+    {
+        self.words[2]
+    }
+
+    // The number that a client asks for next.
+    pub fn next(&self) -> u64
+        ensures { result ≡ get_or self.now 3 0 }
+    {
+        self.words[3]
+    }
+
     // Row i.
     #[inline]
     pub fn row_at(&self, i: usize) -> Row

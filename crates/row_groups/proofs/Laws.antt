@@ -1,7 +1,7 @@
 -- Rows of a component and group, kept and marked one after the other.
 use Prim.Native.Nat.{ℕ, suc, ◌+◌, ◌*◌, ◌≤◌, ◌<◌}
 use mathlib.Core.Path.{◌≡◌, refl, sym, ◌∙◌}
-use mathlib.Core.Bool.{Bool, true, false, ◌||◌, not}
+use mathlib.Core.Bool.{Bool, true, false, ◌||◌}
 use mathlib.Core.List.{List, [], ◌∷◌, ◌++◌, map, map-append, append_assoc, append-nil}
 use native.Mathlib.Omega.{arith}
 use borrow.Author.Tests.{eq-eqb, ne_eqb, eqb-true, eqb-false, ltb-true}
@@ -14,7 +14,7 @@ use Rattle.spec.specs.Value.{item_of}
 use Rattle.spec.specs.Model.{Checked, name_bytes, name_count, name_text, max_components, items}
 use Rattle.spec.specs.Model.{item_word, item_name, component_of, category_of}
 use Rattle.spec.specs.Reply.{rows_of}
-use Rattle.spec.proofs.Words.{and_left, and_right}
+use Rattle.spec.proofs.Words.{and_left, and_right, by-test}
 use Rattle.streams.specs.Streams.{Row, row_of, row_in, group_of, packed_ok, words_ok, reply_ok, each, having, row_component}
 use Rattle.streams.specs.Streams.{row_group, groups, tag, end_tag, row_line, between, group_name, item_type, row_lines}
 use Rattle.streams.specs.Streams.{group_lines, ended}
@@ -27,8 +27,7 @@ use Rattle.streams.proofs.Pieces.{ended-append, having-append}
 use Rattle.writer.specs.Puts.{Put, stop}
 use Rattle.writer.specs.declared.Output.{Output}
 use Rattle.writer.proofs.Laws.{put-none, put-append}
-use Rattle.row_groups.specs.Groups.{reply_rows, kept, kept_text, marks, mark_at, filled, Marked, any_kept}
-use Rattle.row_groups.specs.Groups.{Documented, Placed}
+use Rattle.row_groups.specs.Groups.{reply_rows, kept, kept_text, filled, Marked, any_kept}
 
 -- ---- the groups' numbers
 
@@ -49,26 +48,14 @@ tested Condition Samples = refl
 tested Condition Events = refl
 tested Condition Condition = refl
 
-module _ (g h : Group) {t : Bool} (e : t ≡ not (sameb the_type g h)) where
-  pub number-same : t ≡ false → group_number g ≡ group_number h
-  number-same f = eqb-true _ _ (sym (tested g h) ∙ go (sameb the_type g h) (sym e ∙ f))
-    where
-      go : (x : Bool) → not x ≡ false → x ≡ true
-      go true f = refl
-      go false f = sym f
+module _ (g h : Group) {t : Bool} (e : t ≡ sameb the_type g h) where
+  pub number-same : t ≡ true → group_number g ≡ group_number h
+  number-same f = eqb-true _ _ (sym (tested g h) ∙ (sym e ∙ f))
 
-  pub number-other : t ≡ true → group_number g ≡ group_number h → ⊥
-  number-other f = eqb-false _ _ (sym (tested g h) ∙ go (sameb the_type g h) (sym e ∙ f))
-    where
-      go : (x : Bool) → not x ≡ true → x ≡ false
-      go true f = sym f
-      go false f = refl
+  pub number-other : t ≡ false → group_number g ≡ group_number h → ⊥
+  number-other f = eqb-false _ _ (sym (tested g h) ∙ (sym e ∙ f))
 
 -- ---- what the call's checks give
-
-pub placed : (model names reply : List ℕ) → Documented model names reply → Placed model reply
-placed model names reply d =
-    record { sizes = d.checked.sizes; component = d.checked.component; accepted = d.accepted }
 
 module _ (model reply : List ℕ) (h : reply_ok model reply ≡ true) where
   -- a row's item is one of the model's
@@ -85,14 +72,6 @@ module _ (model reply : List ℕ) (i : ℕ) {w j : ℕ} (ew : w ≡ get_or (row_
 
   pub own-word : {word : ℕ} → word ≡ item_word model j → word ≡ item_word model (item_of (get_or (row_at reply i) 2 0))
   own-word e = rw (ej, ew) at e
-
--- the component of an item
-pub component-small : (model reply : List ℕ) → Placed model reply → (j w c : ℕ) → j < items model
-    → w ≡ item_word model j → c ≡ component_of w → c < max_components
-component-small model reply M j w c h e f =
-    let n = M.component j h in
-    let z = M.sizes.c_max in
-    rw (f, e) (omega arith)
 
 -- the cell of a name
 pub cell_room : (model names : List ℕ) → Checked model names → (k : ℕ) → k < name_count names
@@ -197,75 +176,85 @@ filled_more : {A : Type 0} (a : List A) (x : A) → filled (a ++ x ∷ []) ≡ t
 filled_more [] x = refl
 filled_more (y ∷ a) x = refl
 
-pub marked-none : (model : List ℕ) → Marked model [] (replicate marks false)
+pub marked-none : (model : List ℕ) → Marked model [] (replicate max_components (replicate groups false))
 unfolding having
 marked-none model =
     record {
-      len = length-replicate {A = Bool} marks false;
-      at = λ c g h k. get_or-replicate marks (mark_at c g) false false (omega arith);
+      len = length-replicate {A = List Bool} max_components (replicate groups false);
+      each = λ c h. rw (get_or-replicate max_components c (replicate groups false) [] h) (length-replicate groups false);
+      at = λ c g h k.
+          rw (get_or-replicate max_components c (replicate groups false) [] h) (get_or-replicate groups g false false k);
     }
 
-module _ (model : List ℕ) (rows : List Row) {present : List Bool} (m : Marked model rows present) (x : Row) where
-  at_more : row_component model x < max_components → row_group model x < groups
-      → (c g : ℕ) → c < max_components → g < groups
-      → get_or (set present (mark_at (row_component model x) (row_group model x)) true) (mark_at c g) false
-      ≡ filled (kept model c g (rows ++ x ∷ []))
-  at_more hc hg c g h k =
-      rw (kept_append model c g rows (x ∷ []))
-      (go (eqb (row_component model x) c) (eqb (row_group model x) g) refl refl)
-    where
-      other : (mark_at c g ≡ mark_at (row_component model x) (row_group model x) → ⊥) → kept model c g (x ∷ []) ≡ []
-          → get_or (set present (mark_at (row_component model x) (row_group model x)) true) (mark_at c g) false
-          ≡ filled (kept model c g rows ++ kept model c g (x ∷ []))
-      other n e =
-          rw (e, append-nil (kept model c g rows))
-          (get_or-set_other present (mark_at (row_component model x) (row_group model x)) (mark_at c g) true false n
-          ∙ m.at c g h k)
+module _ (model : List ℕ) (rows : List Row) {present : List (List Bool)} (m : Marked model rows present) (x : Row) where
+  -- the marks with the row's own
+  abbrev more : List (List Bool)
+  more =
+      set present (row_component model x)
+      (set (get_or present (row_component model x) []) (row_group model x) true)
 
-      go : (t u : Bool) → eqb (row_component model x) c ≡ t → eqb (row_group model x) g ≡ u
-          → get_or (set present (mark_at (row_component model x) (row_group model x)) true) (mark_at c g) false
-          ≡ filled (kept model c g rows ++ kept model c g (x ∷ []))
-      go false u e f =
-          let n = eqb-false (row_component model x) c e in
-          other (λ q. n (omega arith)) (kept-not-component model c g x n)
-      go true false e f =
-          let p = eqb-true (row_component model x) c e in
-          let n = eqb-false (row_group model x) g f in
-          other (λ q. n (omega arith)) (kept-not-group model c g x p n)
-      go true true e f =
-          let p = eqb-true (row_component model x) c e in
-          let q = eqb-true (row_group model x) g f in
-          rw (kept-own model c g x p q, filled_more (kept model c g rows) x, p, q)
-          (get_or-set_same present (mark_at c g) true false (omega (arith, m.len)))
+  module _ (c : ℕ) (h : c < max_components) where
+    more-other : (row_component model x ≡ c → ⊥) → get_or more c [] ≡ get_or present c []
+    more-other n = get_or-set_other present (row_component model x) c _ [] (λ q. n (sym q))
 
-  pub marked_more : row_component model x < max_components → row_group model x < groups
-      → Marked model (rows ++ x ∷ []) (set present (mark_at (row_component model x) (row_group model x)) true)
-  marked_more hc hg =
+    more-same : row_component model x ≡ c → get_or more c [] ≡ set (get_or present c []) (row_group model x) true
+    more-same p = rw p (get_or-set_same present c _ [] (omega (arith, m.len)))
+
+    each_more : length (get_or more c []) ≡ groups
+    each_more =
+        by-test (eqb (row_component model x) c)
+        (λ t. rw (more-same (eqb-true (row_component model x) c t))
+        (length-set (get_or present c []) (row_group model x) true ∙ m.each c h))
+        (λ t. rw (more-other (eqb-false (row_component model x) c t)) (m.each c h))
+
+    at_more : (g : ℕ) → g < groups → get_or (get_or more c []) g false ≡ filled (kept model c g (rows ++ x ∷ []))
+    at_more g k =
+        rw (kept_append model c g rows (x ∷ []))
+        (by-test (eqb (row_component model x) c)
+        (λ t. own (eqb-true (row_component model x) c t))
+        (λ t.
+        let n = eqb-false (row_component model x) c t in
+        rw (kept-not-component model c g x n, append-nil (kept model c g rows), more-other n) (m.at c g h k)))
+      where
+        own : row_component model x ≡ c
+            → get_or (get_or more c []) g false ≡ filled (kept model c g rows ++ kept model c g (x ∷ []))
+        own p =
+            rw (more-same p)
+            (by-test (eqb (row_group model x) g)
+            (λ t.
+            let q = eqb-true (row_group model x) g t in
+            rw (kept-own model c g x p q, filled_more (kept model c g rows) x, q)
+            (get_or-set_same (get_or present c []) g true false (omega (arith, m.each c h))))
+            (λ t.
+            let n = eqb-false (row_group model x) g t in
+            rw (
+              kept-not-group model c g x p n,
+              append-nil (kept model c g rows),
+              get_or-set_other (get_or present c []) (row_group model x) g true false (λ q. n (sym q)),
+            )
+            (m.at c g h k)))
+
+  pub marked_more : Marked model (rows ++ x ∷ []) more
+  marked_more =
       record {
-        len = length-set present (mark_at (row_component model x) (row_group model x)) true ∙ m.len;
-        at = at_more hc hg;
+        len = length-set present (row_component model x) _ ∙ m.len;
+        each = each_more;
+        at = λ c g h k. at_more c h g k;
       }
 
 -- a turn of the marking
-pub marking-more : (model reply : List ℕ) (i : ℕ) → i < get_or reply 0 0 → {present : List Bool}
-    → Marked model (map row_in (take i (rows_of reply))) present → (w c at : ℕ) (g : Group)
-    → w ≡ item_word model (item_of (get_or (row_at reply i) 2 0)) → c ≡ component_of w
-    → group_number g ≡ group_of (category_of w) → c < max_components → at ≡ mark_at c (group_number g)
-    → Marked model (map row_in (take (suc i) (rows_of reply))) (set present at true)
-marking-more model reply i h m w c at g ew ec eg lc ea =
+pub marking-more : (model reply : List ℕ) (i : ℕ) → i < get_or reply 0 0 → {present : List (List Bool)}
+    → Marked model (map row_in (take i (rows_of reply))) present → (w c g : ℕ)
+    → w ≡ item_word model (item_of (get_or (row_at reply i) 2 0)) → c ≡ component_of w → g ≡ group_of (category_of w)
+    → Marked model (map row_in (take (suc i) (rows_of reply))) (set present c (set (get_or present c []) g true))
+marking-more model reply i h m w c g ew ec eg =
     let x = row_in (row_at reply i) in
     let fc : c ≡ row_component model x = rw ew at ec in
-    let fg : group_number g ≡ row_group model x = rw ew at eg in
-    rw (
-      rows-suc reply i h,
-      map-append row_in (take i (rows_of reply)) (row_at reply i ∷ []),
-      ea,
-      fc,
-      fg,
-    )
-    (marked_more model (map row_in (take i (rows_of reply))) m x (rw fc at lc) (rw fg at (number-small g)))
+    let fg : g ≡ row_group model x = rw ew at eg in
+    rw (rows-suc reply i h, map-append row_in (take i (rows_of reply)) (row_at reply i ∷ []), fc, fg)
+    (marked_more model (map row_in (take i (rows_of reply))) m x)
 
-pub marking-all : (model reply : List ℕ) (i : ℕ) → get_or reply 0 0 ≤ i → {present : List Bool}
+pub marking-all : (model reply : List ℕ) (i : ℕ) → get_or reply 0 0 ≤ i → {present : List (List Bool)}
     → Marked model (map row_in (take i (rows_of reply))) present → Marked model (reply_rows reply) present
 marking-all model reply i h m = rw (take_all i (rows_of reply) (omega (arith, rows-length reply))) at m
 

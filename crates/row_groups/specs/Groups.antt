@@ -1,6 +1,6 @@
 -- What a document is made of, its rows by component and group, which of them there are, and what the call's checks
 -- give.
-use Rattle.std.specs.Prelude.{ℕ, ◌+◌, ◌*◌, ◌<◌, ◌≡◌, Bool, true, false, ◌||◌, List, [], ◌∷◌, map, length, get_or}
+use Rattle.std.specs.Prelude.{ℕ, ◌<◌, ◌≡◌, Bool, true, false, ◌||◌, List, [], ◌∷◌, map, length, get_or}
 use Rattle.spec.specs.Model.{Sizes, Checked, max_components, components, items, item_word, component_of}
 use Rattle.spec.specs.Reply.{rows_of}
 use Rattle.streams.specs.Streams.{Row, row_in, reply_ok, having, row_component, row_group, groups, row_lines, ended}
@@ -35,16 +35,11 @@ any_kept model c rows = filled (kept model c 0 rows) || (filled (kept model c 1 
 
 -- ---- marks: for each group of each component whether it has rows
 
-abbrev pub marks : ℕ
-marks = groups * max_components
-
-abbrev pub mark_at : ℕ → ℕ → ℕ
-mark_at c g = groups * c + g
-
-pub record Marked (model : List ℕ) (rows : List Row) (present : List Bool) : Type 0 where
-  pub len : length present ≡ marks
+pub record Marked (model : List ℕ) (rows : List Row) (present : List (List Bool)) : Type 0 where
+  pub len : length present ≡ max_components
+  pub each : (c : ℕ) → c < max_components → length (get_or present c []) ≡ groups
   pub at : (c g : ℕ) → c < max_components → g < groups
-      → get_or present (mark_at c g) false ≡ filled (kept model c g rows)
+      → get_or (get_or present c []) g false ≡ filled (kept model c g rows)
 
 -- ---- what the call's checks give
 
@@ -60,6 +55,6 @@ pub record Placed (model reply : List ℕ) : Type 0 where
   pub accepted : reply_ok model reply ≡ true
 
 -- a document's source, with the marks of its rows
-pub record Ready (model names reply : List ℕ) (present : List Bool) : Type 0 where
+pub record Ready (model names reply : List ℕ) (present : List (List Bool)) : Type 0 where
   pub documented : Documented model names reply
   pub marked : Marked model (reply_rows reply) present

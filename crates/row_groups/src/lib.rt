@@ -8,7 +8,7 @@ ghost use Rattle.spec.specs.Reply.{rows_of};
 ghost use Rattle.streams.specs.Groups.{group_number};
 ghost use Rattle.streams.specs.Streams.{row_in, reply_ok, each, groups, group_name, group_lines, ended};
 ghost use Rattle.writer.specs.Puts.{Put};
-ghost use Rattle.row_groups.specs.Groups.{reply_rows, kept, kept_text, filled, any_kept, marks, mark_at};
+ghost use Rattle.row_groups.specs.Groups.{reply_rows, kept, kept_text, filled, any_kept};
 ghost use Rattle.row_groups.specs.Groups.{Marked, Placed};
 
 use model::{Named, Words};
@@ -19,33 +19,34 @@ use std::marker::Model;
 use streams::{GROUPS, Group};
 use writer::Output;
 
+const GROUP_SLOTS: usize = GROUPS as usize;
+
+const COMPONENT_SLOTS: usize = spec::MAX_COMPONENTS as usize;
+
 // A mark for each group of each component.
-const MARKS: usize = (GROUPS * spec::MAX_COMPONENTS) as usize;
+type Marks = [[bool; GROUP_SLOTS]; COMPONENT_SLOTS];
 
 // ---- which groups have rows
 
-// Where the mark of component c's group g stands.
-fn mark_at(c: u64, g: Group) -> usize
-    requires { c < max_components }
-    ensures { (result ≡ mark_at c (group_number g)) × (result < marks) }
+// Where a group's mark stands among a component's.
+fn mark_of(g: Group) -> usize
+    ensures { (result ≡ group_number g) × (result < groups) }
 {
-    (GROUPS * c + g as u64) as usize
+    g as usize
 }
 
 // Whether each group of each component has rows.
-fn groups_present(model: &Words<'_>, reply: &Reply<'_>) -> [bool; MARKS]
+fn groups_present(model: &Words<'_>, reply: &Reply<'_>) -> Marks
     requires { Placed model.now reply.now }
     ensures { Marked model.now (reply_rows reply.now) result }
 {
-    let mut present = [false; MARKS];
+    let mut present = [[false; GROUP_SLOTS]; COMPONENT_SLOTS];
     for i in 0..reply.rows() {
         let item = value::item_of(reply.row_at(i).packed);
         let word = model.item_word(item);
-        let at = mark_at(
-            model::component_of(word),
-            group_of(model::category_of(word)),
-        );
-        present[at] = true;
+        let c = model::component_of(word);
+        let g = group_of(model::category_of(word));
+        present[c as usize][mark_of(g)] = true;
     }
     present
 }
@@ -89,7 +90,7 @@ fn put_tag(before: &[u8], g: Group, out: &mut Output)
 pub struct Document<'a> {
     pub model: Named<'a>,
     pub reply: Reply<'a>,
-    present: [bool; MARKS],
+    present: Marks,
 }
 
 impl<'a> Model for Document<'a> {
@@ -132,7 +133,7 @@ impl<'a> Document<'a> {
         requires { c < max_components }
         ensures { result ≡ filled (kept self.now.model c (group_number g) (reply_rows self.now.reply)) }
     {
-        self.present[mark_at(c, g)]
+        self.present[c as usize][mark_of(g)]
     }
 
     // Whether component c has rows.
@@ -154,16 +155,12 @@ impl<'a> Document<'a> {
             out.new }
     {
         let packed = self.reply.row_at(i).packed;
-        let item = self.model.words.item_word(value::item_of(packed));
-        if model::component_of(item) != c {
-            return;
+        let word = self.model.words.item_word(value::item_of(packed));
+        if model::component_of(word) == c && group_of(model::category_of(word)) == g {
+            let t = name_text(self.model.names, model::item_name(word));
+            // read again, so that a row that isn't written costs its packed word alone
+            put_row(out, g, t, &self.reply.row_at(i));
         }
-        if group_of(model::category_of(item)) != g {
-            return;
-        }
-        let t = name_text(self.model.names, model::item_name(item));
-        // read again, so that a row that isn't written costs its packed word alone
-        put_row(out, g, t, &self.reply.row_at(i));
     }
 
     // The lines of the rows of component c and group g, in reply order.

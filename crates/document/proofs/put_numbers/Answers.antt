@@ -6,4 +6,5 @@ use Rattle.document.proofs.put_numbers.Goals as goal
 pub returns : goal.returns
 returns c =
     put_is (numbers-text _ _ _)
-    (put-append c.put_number.ensures (put-append c.put_number-2.ensures c.put_number-3.ensures))
+    (rw (c.next.ensures, c.first.ensures, c.last.ensures) at
+    (put-append c.put_number.ensures (put-append c.put_number-2.ensures c.put_number-3.ensures)))

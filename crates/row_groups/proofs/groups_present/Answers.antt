@@ -2,7 +2,7 @@ use mathlib.Core.Path.{ap, ◌∙◌}
 use native.Mathlib.Numerals.{add-one}
 use native.Mathlib.Omega.{arith}
 use Rattle.streams.specs.Streams.{group_of}
-use Rattle.row_groups.proofs.Laws.{own-item, own-word, component-small, marked-none, marking-more, marking-all}
+use Rattle.row_groups.proofs.Laws.{own-item, own-word, marked-none, marking-more, marking-all}
 use Rattle.row_groups.proofs.groups_present.Goals as goal
 
 pub loop-i-init : goal.loop-i-init
@@ -15,25 +15,15 @@ item_word-word-requires c =
     own-item a.model.now a.reply.now c.loop-i.i c.row_at.ensures.packed c.item_of-item.ensures
     c.requires.accepted (omega (arith, c.rows-i-end.ensures.0))
 
-pub mark_at-at-requires : goal.mark_at-at-requires
-mark_at-at-requires c =
-    let a = c.args in
-    let there = own-item a.model.now a.reply.now c.loop-i.i c.row_at.ensures.packed c.item_of-item.ensures
-    c.requires.accepted (omega (arith, c.rows-i-end.ensures.0)) in
-    component-small _ _ c.requires _ _ _ there c.item_word-word.ensures c.component_of.ensures
-
 pub loop-i-preserved : goal.loop-i-preserved
 loop-i-preserved c =
     let a = c.args in
     let q = c.loop-i in
-    let there = own-item a.model.now a.reply.now q.i c.row_at.ensures.packed c.item_of-item.ensures
-    c.requires.accepted (omega (arith, c.rows-i-end.ensures.0)) in rw (add-one q.i)
-    (marking-more a.model.now a.reply.now q.i (omega (arith, c.rows-i-end.ensures.0)) q.invariant _ _ _ _
+    rw (add-one q.i)
+    (marking-more a.model.now a.reply.now q.i (omega (arith, c.rows-i-end.ensures.0)) q.invariant _ _ _
     (own-word a.model.now a.reply.now q.i c.row_at.ensures.packed c.item_of-item.ensures c.item_word-word.ensures)
-    c.component_of.ensures
-    (c.group_of.ensures ∙ ap group_of c.category_of.ensures)
-    (component-small _ _ c.requires _ _ _ there c.item_word-word.ensures c.component_of.ensures)
-    c.mark_at-at.ensures.0)
+    c.component_of-c.ensures
+    (c.mark_of.ensures.0 ∙ (c.group_of-g.ensures ∙ ap group_of c.category_of.ensures)))
 
 pub returns : goal.returns
 returns c = marking-all _ c.args.reply.now c.loop-i.i (omega (arith, c.rows-i-end.ensures.0)) c.loop-i.invariant

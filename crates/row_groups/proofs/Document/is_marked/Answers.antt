@@ -4,5 +4,5 @@ use Rattle.row_groups.proofs.Document.is_marked.Goals as goal
 
 pub returns : goal.returns
 returns c =
-    rw (← c.self.view_is, c.mark_at.ensures.0)
+    rw (← c.self.view_is, c.mark_of.ensures.0)
     (c.self.invariant.marked.at c.args.c _ c.requires (number-small c.args.g))
