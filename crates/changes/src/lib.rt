@@ -56,10 +56,7 @@ pub fn change_for(marks: &[u64; ENTRY_SLOTS], own: u64, word: u64) -> Change
         return raised(marks, key);
     }
     let code = marks::code_of(word);
-    if code == 0 {
-        return Change::Alone;
-    }
-    if !marks::is_normal(word) {
+    if code == 0 || !marks::is_normal(word) {
         return Change::Alone;
     }
     cleared(marks, code + 1)

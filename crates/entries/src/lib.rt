@@ -53,7 +53,8 @@ pub fn fill(entries: &Entries<'_>, own: u64, marks: &mut [u64; ENTRY_SLOTS]) -> 
     Some(n)
 }
 
-// Whether the entries behind the first are zeros. All words are read and tested at once: cheaper than a test each.
+// Whether the entries behind the first are zeros: all words joined, and one test. A test in each turn, with a way out,
+// is no shorter.
 fn rest_unused(entries: &Entries<'_>) -> bool
     ensures { result ≡ each_row zero_row (drop 1 entries.now) }
 {

@@ -34,15 +34,9 @@ pub fn evict(model: &Words<'_>, st: &mut [u64], n: u64, b: u64, s: u64, p: u64)
     ensures { st.new ≡ evict (category model.now) n (items model.now) b s st.old }
 {
     if n <= s - b {
-        let time = observations::ring_time(st, n, p);
-        let packed = observations::ring_word(st, n, p);
-        let item = value::item_of(packed);
+        let evicted = observations::ring_row(st, n, p, s - n);
+        let item = value::item_of(evicted.packed);
         let checkpoint = observations::checkpoint_at(n, model.items());
-        let evicted = Row {
-            number: s - n,
-            time,
-            packed,
-        };
         set_newest(model, st, checkpoint, item, evicted);
     }
 }

@@ -13,7 +13,7 @@ use value::{FAULT, ITEM, LEVEL, NORMAL, WARNING};
 pub type Marks = [[u64; spec::ENTRY_SLOTS]; spec::ITEM_SLOTS];
 
 // A mark's place is counted in these.
-const PLACE: u64 = 4294967296;
+const PLACE: u64 = 1 << 32;
 
 // An item's unit where a condition's kind and level are counted in theirs.
 const OWN: u64 = ITEM / LEVEL;

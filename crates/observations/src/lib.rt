@@ -146,6 +146,20 @@ pub fn ring_word(st: &[u64], n: u64, p: u64) -> u64
     st[(RING_AT + n + p) as usize]
 }
 
+// The row at place p of a ring of n entries. Its number comes from who asks, since the ring holds none.
+pub fn ring_row(st: &[u64], n: u64, p: u64, number: u64) -> Row
+    requires { (p < n) × (latest_at n ≤ length st.now) }
+    ensures number { result.number ≡ number }
+    ensures time { result.time ≡ ring_time st.now n p }
+    ensures packed { result.packed ≡ ring_word st.now n p }
+{
+    Row {
+        number,
+        time: ring_time(st, n, p),
+        packed: ring_word(st, n, p),
+    }
+}
+
 // Row k of the table of w rows that begins at word t.
 #[tactic(auto, unfolding(spec::specs::Words::row))]
 pub fn row_at(st: &[u64], w: u64, t: u64, k: u64) -> Row

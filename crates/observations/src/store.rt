@@ -117,13 +117,14 @@ impl<'a> Store<'a> {
         super::checkpoint_at(self.ring_size(), self.items())
     }
 
-    // Row k of the checkpoint table.
-    pub fn checkpoint_row(&self, k: u64) -> Row
-        requires { k < 8 * item_count self.now }
+    // An item's entry j in the checkpoint table.
+    pub fn checkpoint_row(&self, item: u64, j: u64) -> Row
+        requires { (item < item_count self.now) × (j < 8) }
         ensures { let t = checkpoint_at (ring_size self.now) (item_count self.now) in
-            row self.now t (8 * item_count self.now) k 3 ≡ result.number ∷ result.time ∷ result.packed ∷ [] }
+            row self.now t (8 * item_count self.now) (8 * item + j) 3 ≡ result.number ∷ result.time ∷ result.packed ∷ [] }
     {
         let t = self.checkpoint_at();
+        let k = spec::ENTRIES * item + j;
         super::row_at(self.words, spec::ENTRIES * self.items(), t, k)
     }
 }

@@ -1,4 +1,5 @@
-// Numbers given to observations: whether one is left, and adding with eviction.
+// Numbers given to observations: whether one is left, and adding with eviction. plain has the short way of both, and
+// says why.
 // What is read of the head before a write goes beside the store, as n, b, s and p: observations says why no type holds
 // it, and a struct of the numbers alone would need a clause for each that it is the store's.
 #![tactic(auto)]
@@ -49,10 +50,10 @@ pub fn room_for(model: &Words<'_>, st: &[u64]) -> Result<(), Refusal>
         return Ok(());
     }
     let p = observations::place(n, b, last + 1);
-    if may_overwrite(model, st, n, observations::ring_word(st, n, p)) {
-        return Ok(());
+    if !may_overwrite(model, st, n, observations::ring_word(st, n, p)) {
+        return Err(Refusal::Store);
     }
-    Err(Refusal::Store)
+    Ok(())
 }
 
 // A row's number: the overwritten entry's checkpoint, the ring, the item's latest, and last.

@@ -1,4 +1,5 @@
-// The short way of an observation, which most go: an item without conditions, whose one latest word decides.
+// The short way of an observation: an item without conditions, whose one latest word decides. What it saves stands at
+// plain's head.
 #![tactic(auto)]
 
 ghost use Rattle.std.specs.Prelude.{◌≡◌, ◌≤◌, ◌<◌, get_or};
@@ -24,8 +25,9 @@ fn repeats(observations: &[u64], m: u64, category: u64, item: u64, word: u64) ->
     observations::latest_word(observations, m, item) == word
 }
 
-// The short way, which most go: a value of an item without conditions that takes it, whose one latest word decides.
-// None, and nothing is changed, where there is more to it.
+// The short way: a value of an item without conditions that takes it, whose one latest word decides. None, and nothing
+// is changed, where there is more to it. The category goes beside model and item, here and in the long way: it was read
+// to judge the value, and without it each way would read it once more.
 pub fn observe_short(
     model: &Words<'_>,
     observations: &mut [u64],

@@ -56,16 +56,11 @@ fn row_of(st: &Store<'_>, f: u64, i: u64, place: u64) -> Row
 {
     let words = st.slice();
     if place < FIRST_PLACE {
-        return st.checkpoint_row(spec::ENTRIES * i + (place - 1));
+        return st.checkpoint_row(i, place - 1);
     }
     let n = st.ring_size();
     let number = f + (place - FIRST_PLACE);
-    let p = st.place(number);
-    Row {
-        number,
-        time: observations::ring_time(words, n, p),
-        packed: observations::ring_word(words, n, p),
-    }
+    observations::ring_row(words, n, st.place(number), number)
 }
 
 // The rows of item i's eight marks, where `done` of the k rows are written; how many are written then. No plainer with

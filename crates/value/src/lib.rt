@@ -8,13 +8,13 @@ ghost use Rattle.spec.specs.Value.{decode_kind, decode};
 use spec::{Level, Value};
 
 // How many native codes there are.
-pub const CODES: u32 = 16777216;
+pub const CODES: u32 = 1 << 24;
 
 // The units of a packed word: of its item, of its value's kind, and of the level above a condition's code. A constant
 // can call no From.
-pub const ITEM: u64 = 1099511627776;
+pub const ITEM: u64 = 1 << 40;
 
-pub const KIND: u64 = 4294967296;
+pub const KIND: u64 = 1 << 32;
 
 pub const LEVEL: u64 = CODES as u64;
 
@@ -69,7 +69,8 @@ pub fn value_word(v: Value) -> u64
     }
 }
 
-// The packed word of an item and its value: any item below 2^24 fits.
+// The packed word of an item and its value: any item below 2^24 fits. The bound is a clause here and wherever an item's
+// number comes beside a word: a type that keeps it would be made and taken apart at each word.
 pub fn pack(item: u64, v: Value) -> u64
     requires { item < 2 ^ 24 }
     ensures { result ≡ pack item v }
@@ -120,16 +121,14 @@ fn condition_of(low: u32) -> Value
 pub fn decode(word: u64) -> Value
     ensures { result ≡ decode word }
 {
-    if word == 0 {
-        return Value::Unavailable;
-    }
     let kind = word / KIND;
     // no From or TryFrom: nothing is lost behind the remainder
     let low = (word % KIND) as u32;
-    match kind {
-        SAMPLE_KIND => Value::Sample(low.cast_signed()),
-        EVENT_KIND => Value::Event(low),
-        CONDITION_KIND => condition_of(low),
+    match (kind, low) {
+        (0, 0) => Value::Unavailable,
+        (SAMPLE_KIND, _) => Value::Sample(low.cast_signed()),
+        (EVENT_KIND, _) => Value::Event(low),
+        (CONDITION_KIND, _) => condition_of(low),
         _ => NO_VALUE,
     }
 }

@@ -12,6 +12,7 @@ use Rattle.changes.proofs.Laws.{change-fits, change-first, change-raised}
 use Rattle.changes.proofs.Laws.{change-codeless, change-other, change-cleared}
 use Rattle.marks.proofs.Laws.{key-zero, key-some}
 use Rattle.changes.proofs.change_for.Goals as goal
+use Rattle.changes.proofs.change_for.Goals.{then-code-eq0-via-then-code-eq0, then-code-eq0-via-else-code-eq0+then-not-is_normal}
 
 -- the change by the definition fits
 fitting : (ms : List ℕ) (own word : ℕ) {h : Change} → length ms ≡ 8 → h ≡ change_for own ms word → ChangeFits h
@@ -41,14 +42,12 @@ returns-then-code-eq0-clause-value c =
     let z = c.args in
     let f = first_some z.marks.now c.key_in.ensures.0 c.if-key_in-eq0.false in
     let i = key-zero z.own z.word c.key_of-key.ensures.0 c.if-key-ne0.false in
-    change-codeless z.own z.marks.now z.word f i (sym c.code_of-code.ensures.0 ∙ c.if-code-eq0.true)
-
-pub returns-then-not-is_normal-clause-value : goal.returns-then-not-is_normal-clause-value
-returns-then-not-is_normal-clause-value c =
-    let z = c.args in
-    let f = first_some z.marks.now c.key_in.ensures.0 c.if-key_in-eq0.false in
-    let i = key-zero z.own z.word c.key_of-key.ensures.0 c.if-key-ne0.false in
-    change-other z.own z.marks.now z.word f i (sym c.is_normal.ensures ∙ c.if-not-is_normal.true)
+    elim c.then-code-eq0.branch [
+      | then-code-eq0-via-then-code-eq0 w ↦
+          change-codeless z.own z.marks.now z.word f i (sym c.code_of-code.ensures.0 ∙ w.if-code-eq0.true)
+      | then-code-eq0-via-else-code-eq0+then-not-is_normal w ↦
+          change-other z.own z.marks.now z.word f i (sym w.is_normal.ensures ∙ w.if-not-is_normal.true)
+    ]
 
 pub returns : goal.returns
 returns c =

@@ -10,6 +10,7 @@ returns-then-s-b c =
 
 pub returns : goal.returns
 returns c =
-    plain-evicted _ _ _ _ _ _ _ _ c.place-at.ensures.is c.ring_word-packed.ensures _ c.item_of-item.ensures (omega arith)
-    _ _ _ _ (omega arith) (λ e. c.if-category-eq-CONDITION.false (c.category.ensures ∙ e)) c.items-m.ensures.0
-    c.checkpoint_at-t.ensures c.ring_time-time.ensures c.put_row.ensures
+    plain-evicted _ _ _ _ _ _ _ _ c.place-at.ensures.is c.ring_row-evicted.ensures.packed _ c.item_of-item.ensures
+    (omega arith) _ _ _ _ (omega arith) (λ e. c.if-category-eq-CONDITION.false (c.category.ensures ∙ e)) c.items-m.ensures.0
+    c.checkpoint_at-t.ensures c.ring_row-evicted.ensures.time
+    (rw c.ring_row-evicted.ensures.number at c.put_row.ensures)

@@ -14,12 +14,12 @@ returns-then-last-b c =
     (omega arith)
 
 -- where the number overwrites an entry, that entry decides
-pub returns-then-may_overwrite : goal.returns-then-may_overwrite
-returns-then-may_overwrite c =
+pub returns-then-not-may_overwrite : goal.returns-then-not-may_overwrite
+returns-then-not-may_overwrite c =
     room-entry _ _ _ _ _ _ c.ring_size-n.ensures.is c.base-b.ensures c.last-last.ensures.is (omega arith) _ _
-    (omega arith) c.place-p.ensures.is c.ring_word.ensures _ true c.may_overwrite.ensures c.if-may_overwrite.true
+    (omega arith) c.place-p.ensures.is c.ring_word.ensures _ false c.may_overwrite.ensures c.if-not-may_overwrite.true
 
 pub returns : goal.returns
 returns c =
     room-entry _ _ _ _ _ _ c.ring_size-n.ensures.is c.base-b.ensures c.last-last.ensures.is (omega arith) _ _
-    (omega arith) c.place-p.ensures.is c.ring_word.ensures _ false c.may_overwrite.ensures c.if-may_overwrite.false
+    (omega arith) c.place-p.ensures.is c.ring_word.ensures _ true c.may_overwrite.ensures c.if-not-may_overwrite.false

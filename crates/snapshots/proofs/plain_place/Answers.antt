@@ -1,3 +1,5 @@
+use Prim.Native.Nat.{◌*◌}
+use native.Mathlib.Nat.{add-zero}
 use Rattle.history.specs.Observations.{ring_size, item_count, checkpoint_at, item_row}
 use Rattle.snapshots.proofs.Settled.{place-seen, place-first}
 use Rattle.snapshots.proofs.plain_place.Goals as goal
@@ -12,4 +14,4 @@ pub returns : goal.returns
 returns c =
     let r = item_row c.args.st.now (checkpoint_at (ring_size c.args.st.now) (item_count c.args.st.now))
     (item_count c.args.st.now) c.args.i in
-    place-first r _ c.checkpoint_row-row.ensures c.if-seen-ne0.false c.from.ensures
+    place-first r _ (rw (add-zero (8 * c.args.i)) at c.checkpoint_row-row.ensures) c.if-seen-ne0.false c.from.ensures
