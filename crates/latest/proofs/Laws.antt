@@ -5,6 +5,7 @@ use mathlib.Core.Logic.{◌≢◌, ◌⊎◌, inl, inr}
 use mathlib.Core.Bool.{Bool, true, false, cond, ◌&&◌, ◌||◌, not, and-false}
 use mathlib.Core.List.{List, [], ◌∷◌}
 use Rattle.std.specs.Prelude.{min, Option, Some, None}
+use Rattle.std.proofs.lemmas.List.{nil_from_length}
 use native.Mathlib.Numerals.{add-one}
 use native.Mathlib.Omega.{arith}
 use lib.Count.{ones}
@@ -55,16 +56,12 @@ module _ (rs : List (List ℕ)) (j : ℕ) where
   unfolding used_rows
   used-end h = rw (drop_of_length-le rs {i = j} h)
 
-no_rows : (rs : List (List ℕ)) → length rs ≡ 0 → rs ≡ []
-no_rows [] e = refl
-no_rows (r ∷ rs) e = absurd (omega arith)
-
 -- behind as many turns as there are entries, or rows left
 pub used_over : (rs : List (List ℕ)) (j k d c : ℕ) → length rs ≡ 8 → min 8 (k - d) ≤ j → c ≡ d + j
     → c + length (used_from rs j) ≤ k → used_from rs j ≡ []
 used_over rs j k d c s b e f =
     by-test (leb 8 j) (λ i. used-end rs j (rw s (leb-true 8 j i)))
-    (λ i. let g = leb-false 8 j i in no_rows _ (omega arith))
+    (λ i. let g = leb-false 8 j i in nil_from_length _ (omega arith))
 
 latest-few : (cat : ℕ → ℕ) (N m : ℕ) (st : List ℕ) (i : ℕ) → length (latest_rows cat N m st i) ≤ 8
 latest-few cat N m st i =
@@ -368,7 +365,7 @@ unfolding used_rows
 used-one r rs e =
     by-test (eqb (get_or r 0 0) 0)
     (λ t. absurd (let z : ◌≡◌ {A = ℕ} 0 1 = rw t at e in omega arith))
-    (λ t. rw t (ap (λ (x : List (List ℕ)). r ∷ x) (no_rows (used_rows rs) (let z = rw t at e in omega arith))))
+    (λ t. rw t (ap (λ (x : List (List ℕ)). r ∷ x) (nil_from_length (used_rows rs) (let z = rw t at e in omega arith))))
 
 used-first : (st : List ℕ) (t w x : ℕ) → length (used_rows (table_rows st t w 8 x)) ≡ 1
     → used_rows (table_rows st t w 8 x) ≡ row st t w x 3 ∷ []

@@ -1,8 +1,9 @@
 -- How many rows current has beyond one for each selected item.
-use Rattle.std.specs.Prelude.{ℕ, cond, Option, Some, None, List, [], ◌∷◌}
+use Rattle.std.specs.Prelude.{ℕ, Bool, cond, Option, Some, None, List, [], ◌∷◌}
 use Rattle.spec.specs.Words.{bit}
 use Rattle.spec.specs.Blocks.{flat_rows, extra_rows}
-use Rattle.history.specs.Observations.{ring_size, latest_at, item_row, latest_rows, current_ok}
+use Rattle.spec.specs.Model.{items, category}
+use Rattle.history.specs.Observations.{ring_size, latest_at, item_row, latest_rows, current_ok, current_rows}
 
 -- the condition items' used entries beyond the first; none is given where a form is broken
 unfoldable pub extra_in : (ℕ → ℕ) → ℕ → List ℕ → ℕ → Option ℕ
@@ -16,3 +17,10 @@ first_row st m i = item_row st (latest_at (ring_size st)) m i ∷ []
 
 unfoldable pub first_rows : List ℕ → ℕ → ℕ → List (List ℕ)
 first_rows st m selection = flat_rows (bit selection) (first_row st m) m 0
+
+-- the selected items' latest entries, of a model and a store; and whether they are in their written form
+abbrev pub latest_in : List ℕ → List ℕ → ℕ → List (List ℕ)
+latest_in model st selection = current_rows (category model) (ring_size st) (items model) st selection
+
+abbrev pub latest_ok : List ℕ → List ℕ → ℕ → Bool
+latest_ok model st selection = current_ok (category model) (ring_size st) (items model) st selection

@@ -4,9 +4,9 @@
 ghost use Rattle.std.specs.Prelude.{◌≡◌, true, [], ◌∷◌, ◌+◌, ◌*◌, ◌^◌, ◌≤◌, ◌<◌, length, get_or};
 ghost use Rattle.spec.specs.Entries.{used_rows};
 ghost use Rattle.spec.specs.Model.{items, category};
-ghost use Rattle.history.specs.Observations.{ring_size, item_count, current_rows, current_ok};
+ghost use Rattle.history.specs.Observations.{item_count};
 ghost use Rattle.rows.specs.Rows.{rows_at, rows_into};
-ghost use Rattle.latest.specs.Latest.{extra_in, first_rows};
+ghost use Rattle.latest.specs.Latest.{extra_in, first_rows, latest_in, latest_ok};
 
 use entries::Entries;
 use observations::{Modelled, Store};
@@ -31,9 +31,9 @@ pub fn extra(source: Modelled<'_>, selection: u64) -> Option<u64>
     Some(extra)
 }
 
-// The used ones of an item's entries, where `done` of the k rows are written; how many are written then. `done`, `k`
-// and `out` stay apart: a struct would hold a lent buffer, and each contract would name its three parts and say that it
-// lends the same buffer still.
+// The used ones of an item's entries, where `done` of the k rows are written; how many are written then. No plainer
+// with done, k and out in a struct as writer::Output is, which grows at one place: k is fixed before, and rows_at is
+// over the whole buffer in two places at once, numbers and pairs.
 fn write_entries(entries: &Entries<'_>, done: u64, k: u64, out: &mut [u64]) -> u64
     requires { (done + length (used_rows entries.now) ≤ k) × (3 * k ≤ length out.old) }
     ensures value { result ≡ done + length (used_rows entries.now) }
@@ -81,13 +81,9 @@ fn write_firsts(st: &Store<'_>, selection: u64, k: u64, out: &mut [u64])
 
 // The rows of the selected items' latest entries, which are k: of each as many as it has.
 fn write_each(source: Modelled<'_>, selection: u64, k: u64, out: &mut [u64])
-    requires k_value { let model = source.model.now in
-        let st = source.store.now in
-        k ≡ length (current_rows (category model) (ring_size st) (items model) st selection) }
+    requires k_value { k ≡ length (latest_in source.model.now source.store.now selection) }
     requires k_in_bounds { 3 * k ≤ length out.old }
-    ensures { let model = source.entry.model.now in
-        let st = source.entry.store.now in
-        out.new ≡ rows_into out.old k (current_rows (category model) (ring_size st) (items model) st selection) }
+    ensures { out.new ≡ rows_into out.old k (latest_in source.entry.model.now source.entry.store.now selection) }
 {
     let words = source.store.slice();
     let m = source.model.items();
@@ -110,17 +106,11 @@ fn write_each(source: Modelled<'_>, selection: u64, k: u64, out: &mut [u64])
 // Current: the rows of the selected items' latest entries, which are k. Most often there is one to an item, whatever
 // its category.
 pub fn write_latest(source: Modelled<'_>, selection: u64, k: u64, out: &mut [u64])
-    requires fact { let model = source.model.now in
-        let st = source.store.now in
-        (selection < 2 ^ items model)
-        × (current_ok (category model) (ring_size st) (items model) st selection ≡ true) }
-    requires k_value { let model = source.model.now in
-        let st = source.store.now in
-        k ≡ length (current_rows (category model) (ring_size st) (items model) st selection) }
+    requires fact { (selection < 2 ^ items source.model.now)
+        × (latest_ok source.model.now source.store.now selection ≡ true) }
+    requires k_value { k ≡ length (latest_in source.model.now source.store.now selection) }
     requires k_in_bounds { 3 * k ≤ length out.old }
-    ensures { let model = source.entry.model.now in
-        let st = source.entry.store.now in
-        out.new ≡ rows_into out.old k (current_rows (category model) (ring_size st) (items model) st selection) }
+    ensures { out.new ≡ rows_into out.old k (latest_in source.entry.model.now source.entry.store.now selection) }
 {
     if k == selection::count(selection) {
         write_firsts(source.store, selection, k, out);

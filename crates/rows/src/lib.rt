@@ -35,8 +35,8 @@ impl Run {
 }
 
 // The two runs of the numbers from f up to e, at most a ring of them, for a ring of n entries and the first number b:
-// up to the ring's end, then from place 0 on. Here and below f and e stay two numbers: what is asked of them ties them to
-// the store, and of the two alone a type could say no more than that f isn't above e.
+// up to the ring's end, then from place 0 on. Here and below f and e stay two numbers: what is asked of them ties
+// them to the store, and of the two alone a type could say no more than that f isn't above e.
 pub fn runs(n: u64, b: u64, f: u64, e: u64) -> (Run, Run)
     requires n_pos { 1 ≤ n }
     requires range { (b ≤ f) × ((f ≤ e) × (e - f ≤ n)) }
@@ -97,8 +97,9 @@ pub fn write_row(out: &mut [u64], c: u64, a: u64, row: Row)
 }
 
 // One run of write_rows, where `done` of the k rows are written; how many are written then. No plainer as one with
-// count_run, which may fail; nor with done, k and out in a struct, which would hold a lent buffer; nor over the run's
-// words, since a row takes number, time and word of one place.
+// count_run, which may fail; nor over the run's words, since a row takes number, time and word of one place; nor with
+// done, k and out in a struct as writer::Output is, which grows at one place: k is fixed before, and rows_at is over
+// the whole buffer in two places at once, numbers and pairs.
 fn write_run(st: &Store<'_>, selection: u64, run: Run, done: u64, k: u64, out: &mut [u64]) -> u64
     requires run { Unwrapped (ring_size st.now) (base st.now) run.to run.from run.place }
     requires e_value { items_ok (item_count st.now) st.now run.from run.to ≡ true }

@@ -63,8 +63,9 @@ fn row_of(st: &Store<'_>, f: u64, i: u64, place: u64) -> Row
     observations::ring_row(words, n, st.place(number), number)
 }
 
-// The rows of item i's eight marks, where `done` of the k rows are written; how many are written then. No plainer with
-// done, k and out in a struct, which would hold a lent buffer.
+// The rows of item i's eight marks, where `done` of the k rows are written; how many are written then. No plainer
+// with done, k and out in a struct as writer::Output is, which grows at one place: k is fixed before, and rows_at is
+// over the whole buffer in two places at once, numbers and pairs.
 fn write_item(
     st: &Store<'_>,
     f: u64,
