@@ -18,21 +18,13 @@ use Rattle.marks.proofs.Repeats.{normal-none, normal-free, normal-there, all-act
 use Rattle.judging.specs.Findings.{repeated_if, raised_judged, cleared_judged, judged}
 use Rattle.judging.specs.declared.Judged.{Judged}
 use Rattle.judging.specs.declared.Judged.TheVariants.{Repeated, New}
-use Rattle.std.specs.Prelude.{Ok, Err, Option, Some, None, ok_or}
-use Rattle.spec.specs.declared.Refusal.{Refusal}
+use Rattle.std.specs.Prelude.{Ok, Err, Option, Some, None}
 use mathlib.Core.Logic.{◌⊎◌, inl, inr}
 use Rattle.spec.specs.declared.Refusal.TheVariants.{Store, Crowded}
 use Rattle.entries.proofs.Filling.{FilledBy, by-marked, by-eight, by-formed}
 use Rattle.entries.proofs.Marks.{used-at}
 use Rattle.entries.proofs.Laws.{filled-broken, filled-used}
 use Rattle.entries.specs.Forms.{filled}
-
--- ---- what stands behind a `?`
-
--- the refusal where there is none
-pub refusal-is : {A : Type 0} (o : Option A) {r s : Refusal} → Err r ≡ ok_or o s → o ≡ None → r ≡ s
-refusal-is None e n = cc
-refusal-is (Some x) e n = absurd (cc)
 
 -- ---- a branch each
 

@@ -13,15 +13,9 @@ use Rattle.spec.specs.declared.Value.{Value}
 use Rattle.spec.specs.declared.Refusal.TheVariants.{Item, Kind}
 use Rattle.spec.proofs.Words.{told, by-test}
 use Rattle.spec.proofs.Packing.{taken-word-lt, word_back, decode-fits}
-use Rattle.std.specs.Prelude.{Option, Some, None, Err, ok_or}
-use Rattle.spec.specs.declared.Refusal.{Refusal}
+use Rattle.std.specs.Prelude.{Some, None}
 use Rattle.short_way.specs.Found.{found, observed_by}
 use Rattle.observing.specs.Taken.{taken}
-
--- the refusal where there is none
-pub refusal-is : (o : Option ℕ) {r s : Refusal} → Err r ≡ ok_or o s → o ≡ None → r ≡ s
-refusal-is None e n = cc
-refusal-is (Some x) e n = absurd (cc)
 
 -- ---- the ways out
 

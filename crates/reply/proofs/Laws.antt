@@ -11,11 +11,11 @@ use lib.Seq.{sets, sets-eq, set_comm, length-sets, take_all, take_at, drop-appen
 use borrow.Author.Tests.{leb-true}
 use Rattle.spec.specs.Reply.{Replied, over, written}
 use Rattle.std.specs.Prelude.{Option, Some, None, Result, Ok, Err, IsErrAnd}
-use Rattle.std.proofs.lemmas.Result.{err_from_is_err_and}
 use Rattle.std.specs.Option.{ok_or}
 use Rattle.spec.specs.declared.Refusal.{Refusal}
 use Rattle.spec.specs.declared.Refusal.TheVariants.{Space}
 use Rattle.spec.specs.Answers.{Answer}
+use Rattle.spec.proofs.Refused.{handed-on}
 use Rattle.reply.specs.Fitted.{Fitted}
 
 -- a word behind those that are set
@@ -138,7 +138,7 @@ some-of (Some y) e h g = cc
 -- the refusal is the call's answer
 pub refused : (o : Replied) {r : Answer} {d e : Refusal} {y : List ℕ} → IsErrAnd r (λ z. z ≡ d) → d ≡ e
     → o ≡ record { answer = Err e; reply = y } → (r ≡ o.answer) × (y ≡ o.reply)
-refused o {r} h g w = let p = err_from_is_err_and r h in rw (p.1, p.2, g) (both o w)
+refused o {r} h g w = rw (handed-on r h g) (both o w)
 
 pub none-refused : {A : Type 0} (x : Option A) {e d : Refusal} {q : Result A Refusal} (o : Replied) {r : Answer}
     {y : List ℕ} → IsErrAnd r (λ z. z ≡ d) → q ≡ ok_or x e → q ≡ Err d

@@ -18,4 +18,5 @@ pub mod Assets
 pub mod Reply
 pub mod Steps
 pub mod Opened
+pub mod Refused
 pub mod Examples

@@ -3,24 +3,22 @@ use native.Mathlib.Numerals.{add-one}
 use Rattle.marks.proofs.Laws.{key-zero, key-some}
 use Rattle.entries.proofs.Filling.{filled-by}
 use Rattle.entries.proofs.Kept.{kept-none, kept-some}
-use Rattle.judging.proofs.Laws.{refusal-is, judged-unused, judged-raised, judged-first, judged-idle}
+use Rattle.judging.proofs.Laws.{judged-unused, judged-raised, judged-first, judged-idle}
 use Rattle.std.proofs.Common.{rules, tests}
-use Rattle.std.proofs.lemmas.Result.{err_from_is_err_and}
-use Rattle.spec.specs.declared.Refusal.{Refusal}
+use Rattle.spec.proofs.Refused.{handed-on, refusal-is}
 use Rattle.judging.proofs.Laws.{judged-cleared, judged-all}
 use Prim.Native.Nat.{suc}
 use mathlib.Core.Path.{sym, ap, ◌∙◌}
-use Rattle.std.specs.Prelude.{Ok, Err}
+use Rattle.std.specs.Prelude.{Ok}
 use Rattle.judging.specs.declared.Judged.{Judged}
 use Rattle.judging.proofs.judge.Goals as goal
 
 pub returns-in_err-ok_or : goal.returns-in_err-ok_or
 returns-in_err-ok_or c =
-    let p = err_from_is_err_and c.from_residual.result c.from_residual.ensures.1 in
     let r = refusal-is c.filter.result (sym c.in_err-ok_or.was ∙ c.ok_or.ensures.value) c.in_err-ok_or.ensures.ok_part in
     let k = kept-none c.fill.result c.filter.result _ c.filter.ensures (λ x b q. search (rules, tests))
     c.in_err-ok_or.ensures.ok_part in
-    p.1 ∙ ap (λ (x : Refusal). Err x) (p.2 ∙ r)
+    handed-on _ c.from_residual.ensures.1 r
     ∙ judged-unused _ _ _ c.fill.ensures.value k
 
 pub returns-then-key-ne0 : goal.returns-then-key-ne0

@@ -1,19 +1,16 @@
 -- The place of the key decides, and the row there.
-use mathlib.Core.Path.{refl, sym, ap, ◌∙◌}
+use mathlib.Core.Path.{refl, sym, ◌∙◌}
 use native.Mathlib.Omega.{arith}
-use Rattle.std.proofs.lemmas.Result.{err_from_is_err_and}
+use Rattle.spec.proofs.Refused.{handed-on, refusal-is}
 use Rattle.marks.proofs.Laws.{found-some, found-none}
-use Rattle.judging.proofs.Laws.{refusal-is, raised-none, raised-free, raised_by}
-use Rattle.std.specs.Prelude.{Err}
-use Rattle.spec.specs.declared.Refusal.{Refusal}
+use Rattle.judging.proofs.Laws.{raised-none, raised-free, raised_by}
 use Rattle.judging.proofs.judge_raised.Goals as goal
 
 pub returns-in_err-j : goal.returns-in_err-j
 returns-in_err-j c =
-    let p = err_from_is_err_and c.from_residual.result c.from_residual.ensures.1 in
     let e = c.in_err-j.ensures.ok_part in
     let n = found-none c.args.key c.args.marks.now (sym e ∙ c.find.ensures.place) in
-    p.1 ∙ ap (λ (x : Refusal). Err x) (p.2 ∙ refusal-is c.find.result (sym c.in_err-j.was ∙ c.ok_or.ensures.value) e)
+    handed-on _ c.from_residual.ensures.1 (refusal-is c.find.result (sym c.in_err-j.was ∙ c.ok_or.ensures.value) e)
     ∙ raised-none _ _ refl _ _ (sym n ∙ c.told-marks)
 
 pub returns-then-marks-j-eq0 : goal.returns-then-marks-j-eq0

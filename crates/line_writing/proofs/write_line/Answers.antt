@@ -1,6 +1,6 @@
 -- The tests decide, and behind them the line is written where there is room.
 use mathlib.Core.Path.{refl}
-use Rattle.std.proofs.lemmas.Result.{err_from_is_err_and}
+use Rattle.spec.proofs.Refused.{handed-on}
 use Rattle.history.specs.Calls.{write_line}
 use Rattle.line_writing.proofs.Laws.{item_refused, kind-refused, time-refused, passed}
 use Rattle.writer.proofs.Whole.{written_is}
@@ -9,9 +9,8 @@ use Rattle.line_writing.proofs.write_line.Goals as goal
 pub returns-in_err-words : goal.returns-in_err-words
 unfolding write_line
 returns-in_err-words c =
-    let p = err_from_is_err_and c.from_residual.result c.from_residual.ensures.1 in
     let n = rw c.in_err-words.was at c.checked.ensures in
-    rw (p.1, p.2, n.0, n.1) (refl, refl)
+    rw (handed-on _ c.from_residual.ensures.1 n.0, n.1) (refl, refl)
 
 pub returns-then-items-item : goal.returns-then-items-item
 returns-then-items-item c =

@@ -1,7 +1,7 @@
 -- The verdict decides; room for a number is what an addition needs.
 use mathlib.Core.Path.{refl, sym}
 use native.Mathlib.Numerals.{add-one}
-use Rattle.std.proofs.lemmas.Result.{err_from_is_err_and}
+use Rattle.spec.proofs.Refused.{handed-on}
 use Rattle.history.proofs.Observations.{head_of}
 use Rattle.long_way.proofs.record.Goals as goal
 
@@ -20,8 +20,7 @@ add-requires c =
 
 pub returns-in_err-room_for : goal.returns-in_err-room_for
 returns-in_err-room_for c =
-    let p = err_from_is_err_and c.from_residual.result c.from_residual.ensures.1 in
-    rw (sym c.in_err-room_for.ensures, p.1, p.2) (refl, refl)
+    rw (sym c.in_err-room_for.ensures, handed-on _ c.from_residual.ensures.1 refl) (refl, refl)
 
 pub returns : goal.returns
 returns c =

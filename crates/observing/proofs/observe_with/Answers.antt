@@ -1,8 +1,8 @@
 -- One law to each way out; behind the checks, what is found decides.
 use mathlib.Core.Path.{refl, sym, ◌∙◌}
 use native.Mathlib.Omega.{arith}
-use Rattle.std.proofs.lemmas.Result.{err_from_is_err_and}
-use Rattle.observing.proofs.Laws.{refusal-is, item_refused, kind-refused, passed, taken-none, taken-some}
+use Rattle.spec.proofs.Refused.{handed-on, refusal-is}
+use Rattle.observing.proofs.Laws.{item_refused, kind-refused, passed, taken-none, taken-some}
 use Rattle.observing.proofs.observe_with.Goals as goal
 
 pub returns-then-items-item : goal.returns-then-items-item
@@ -13,13 +13,10 @@ pub returns-in_err-word : goal.returns-in_err-word
 returns-in_err-word g c = λ v p.
     let n = c.in_err-word.ensures.ok_part in
     let e = p c.packed.result (omega arith) (rw c.category-category.ensures at c.packed.ensures) in
-    let q = err_from_is_err_and c.from_residual.result c.from_residual.ensures.1 in
     let k = refusal-is c.packed.result (sym c.in_err-word.was ∙ c.ok_or.ensures.value) n in
     rw (
       kind-refused _ _ _ _ v _ c.items.ensures.0 c.if-items-item.false _ refl refl (taken-none _ _ v (sym n ∙ e)),
-      q.1,
-      q.2,
-      k,
+      handed-on _ c.from_residual.ensures.1 k,
     )
     (refl, refl)
 

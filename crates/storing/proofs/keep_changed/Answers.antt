@@ -2,7 +2,7 @@
 use native.Mathlib.Omega.{arith}
 use mathlib.Core.Path.{refl, ap}
 use Rattle.std.specs.Prelude.{Ok}
-use Rattle.std.proofs.lemmas.Result.{err_from_is_err_and}
+use Rattle.spec.proofs.Refused.{handed-on}
 use Rattle.spec.proofs.Words.{told}
 use Rattle.storing.proofs.Laws.{cell_below, change-latest, event-added}
 use Rattle.storing.proofs.keep_changed.Goals as goal
@@ -28,8 +28,7 @@ add-requires c =
 
 pub returns-in_err-room_for : goal.returns-in_err-room_for
 returns-in_err-room_for c =
-    let p = err_from_is_err_and c.from_residual.result c.from_residual.ensures.1 in
-    rw (p.1, p.2, told c.room_for.ensures c.in_err-room_for.was) (refl, refl, refl)
+    rw (handed-on _ c.from_residual.ensures.1 refl, told c.room_for.ensures c.in_err-room_for.was) (refl, refl, refl)
 
 pub returns : goal.returns
 returns c =

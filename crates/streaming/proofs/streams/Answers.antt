@@ -1,6 +1,6 @@
 -- The tests decide, and behind them the document is written where there is room.
 use mathlib.Core.Path.{ap, ◌∙◌}
-use Rattle.std.proofs.lemmas.Result.{err_from_is_err_and}
+use Rattle.spec.proofs.Refused.{handed-on}
 use Rattle.spec.proofs.Words.{told}
 use Rattle.streams.specs.Streams.{times_ok}
 use Rattle.row_groups.specs.Groups.{Source}
@@ -9,16 +9,14 @@ use Rattle.streaming.proofs.streams.Goals as goal
 
 pub returns-in_err-named : goal.returns-in_err-named
 returns-in_err-named c =
-    let p = err_from_is_err_and c.from_residual.result c.from_residual.ensures.1 in
     let n = rw c.in_err-named.was at c.checked.ensures in
-    rw (p.1, p.2, n.0) (model-refused _ _ _ _ _ _ _ n.1)
+    rw (handed-on _ c.from_residual.ensures.1 n.0) (model-refused _ _ _ _ _ _ _ n.1)
 
 pub returns-in_err-made : goal.returns-in_err-made
 returns-in_err-made c =
-    let p = err_from_is_err_and c.from_residual-in_err-made.result c.from_residual-in_err-made.ensures.1 in
     let n = rw c.in_ok-named.was at c.checked.ensures in
     let d = rw c.in_err-made.was at c.checked-2.ensures in
-    rw (p.1, p.2, d.0) (reply-refused _ _ _ _ _ _ _ n.2 (rw n.0 at d.1))
+    rw (handed-on _ c.from_residual-in_err-made.ensures.1 d.0) (reply-refused _ _ _ _ _ _ _ n.2 (rw n.0 at d.1))
 
 pub returns-then-not-times_ok : goal.returns-then-not-times_ok
 returns-then-not-times_ok c =
