@@ -19,7 +19,8 @@ pub struct Date {
 }
 
 // The form of a line's value: UNAVAILABLE, a decimal by its sign, its whole part and, where it has a point, the
-// thousandths behind it, or a level with its code. The sign stands apart: -0.5 has one, and its whole part, 0, has none.
+// thousandths behind it, or a level with its code. The sign stands apart: -0.5 has one, and its whole part, 0, has
+// none.
 #[derive(Clone, Copy)]
 pub enum Form {
     Missing,

@@ -3,8 +3,8 @@
 
 ghost use Rattle.std.specs.Prelude.{◌≡◌, ◌+◌, ◌*◌, ◌≤◌, true, false, length, MatchResult};
 ghost use Rattle.spec.specs.declared.Refusal.TheVariants.{Model as Refused};
-ghost use Rattle.spec.specs.Model.{name_bytes, name_cell, letters, parent_of, component_name, category_of, component_of, item_name};
-ghost use Rattle.spec.specs.Model.{model_ok};
+ghost use Rattle.spec.specs.Model.{name_bytes, name_cell, letters, parent_of, component_name, category_of};
+ghost use Rattle.spec.specs.Model.{component_of, item_name, model_ok};
 
 use spec::Refusal;
 

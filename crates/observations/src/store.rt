@@ -1,5 +1,6 @@
 // The observation store behind a right head, to be read: what the head says, and the places of ring and tables.
-ghost use Rattle.std.specs.Prelude.{◌≡◌, true, false, [], ◌∷◌, ◌+◌, ◌*◌, ◌≤◌, ◌<◌, List, ℕ, length, get_or, MatchResult};
+ghost use Rattle.std.specs.Prelude.{◌≡◌, true, false, [], ◌∷◌, ◌+◌, ◌*◌, ◌≤◌, ◌<◌, List, ℕ, length, get_or};
+ghost use Rattle.std.specs.Prelude.{MatchResult};
 ghost use Rattle.spec.specs.declared.Refusal.TheVariants.{Store as Refused};
 ghost use Rattle.spec.specs.Model.{max_items};
 ghost use Rattle.history.specs.Observations.{max_ring, max_number, ring_size, item_count, base, last};
@@ -121,7 +122,8 @@ impl<'a> Store<'a> {
     pub fn checkpoint_row(&self, item: u64, j: u64) -> Row
         requires { (item < item_count self.now) × (j < 8) }
         ensures { let t = checkpoint_at (ring_size self.now) (item_count self.now) in
-            row self.now t (8 * item_count self.now) (8 * item + j) 3 ≡ result.number ∷ result.time ∷ result.packed ∷ [] }
+            row self.now t (8 * item_count self.now) (8 * item + j) 3
+            ≡ result.number ∷ result.time ∷ result.packed ∷ [] }
     {
         let t = self.checkpoint_at();
         let k = spec::ENTRIES * item + j;

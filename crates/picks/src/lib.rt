@@ -1,7 +1,7 @@
 // A block of the ring, in the pass of current with at: each item's newest place, and the entries of condition items,
 // picked out and stepped to their items' marks. `Part` stays a clause: it ties a run to the store and to the pass's
-// first number, so no type of the run alone can hold it. Nor is a struct of the pass's store, steps and first number any
-// plainer: each clause would name its three parts.
+// first number, so no type of the run alone can hold it. Nor is a struct of the pass's store, steps and first number
+// any plainer: each clause would name its three parts.
 #![tactic(auto)]
 
 ghost use Rattle.std.specs.Prelude.{◌≡◌, true, is_some, not, ◌-◌, ◌^◌, ◌<◌, ◌≤◌, length};

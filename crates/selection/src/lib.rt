@@ -18,9 +18,9 @@ pub fn bit_of(selection: u64, i: u64) -> u64
     (selection >> i) & 1
 }
 
-// Whether item i is in the selection. Loops over a selection's items ask it of each number: tried on snapshots::begin as
-// a filter of the range, and the proof didn't close, since behind a filter all that is known is the list of the items
-// given so far, and the definitions count numbers.
+// Whether item i is in the selection. Loops over a selection's items ask it of each number: tried on snapshots::begin
+// as a filter of the range, and the proof didn't close, since behind a filter all that is known is the list of the
+// items given so far, and the definitions count numbers.
 pub fn has(selection: u64, i: u64) -> bool
     requires { i < max_items }
     ensures { result ≡ bit selection i }

@@ -20,8 +20,8 @@ fn onward(at: usize, n: usize) -> usize
 }
 
 // A lent buffer and the place in it behind the text so far. What is put is written as far as the buffer reaches, and
-// the place goes on behind its end: over an empty buffer it gives the length alone. Numbers, dates and values are put by
-// functions of their own, and are no Display: `write!` answers an error at each piece, and none can fail here.
+// the place goes on behind its end: over an empty buffer it gives the length alone. Numbers, dates and values are put
+// by functions of their own, and are no Display: `write!` answers an error at each piece, and none can fail here.
 #[derive(Drop)]
 pub struct Output<'a> {
     bytes: &'a mut [u8],
