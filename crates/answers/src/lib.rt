@@ -47,11 +47,14 @@ fn refusal_number(refusal: Refusal) -> u64
     if place < 12 { place } else { place + 1 }
 }
 
-// The refusal as a word: its number with bit 63.
+// Bit 63, which a refusal's word has.
+const REFUSED: u64 = 1 << 63;
+
+// The refusal as a word: its number with that bit.
 fn refusal_word(refusal: Refusal) -> u64
     ensures { result ≡ refusal_word refusal }
 {
-    9223372036854775808 + refusal_number(refusal)
+    REFUSED + refusal_number(refusal)
 }
 
 // The number of an answer with a count: 0, or the refusal's.

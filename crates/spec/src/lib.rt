@@ -30,7 +30,7 @@ pub const NAME_BYTES: usize = 24;
 pub const MAX_NAMES: usize = 256;
 
 // Sequence numbers, and observations of a ring.
-pub const MAX_NUMBER: u64 = 9223372036854775807;
+pub const MAX_NUMBER: u64 = (1 << 63) - 1;
 
 pub const MAX_RING: u64 = 131072;
 

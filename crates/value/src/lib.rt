@@ -121,14 +121,17 @@ fn condition_of(low: u32) -> Value
 pub fn decode(word: u64) -> Value
     ensures { result ≡ decode word }
 {
+    // a test of its own: a match over kind and low word costs each caller a table of jumps
+    if word == 0 {
+        return Value::Unavailable;
+    }
     let kind = word / KIND;
     // no From or TryFrom: nothing is lost behind the remainder
     let low = (word % KIND) as u32;
-    match (kind, low) {
-        (0, 0) => Value::Unavailable,
-        (SAMPLE_KIND, _) => Value::Sample(low.cast_signed()),
-        (EVENT_KIND, _) => Value::Event(low),
-        (CONDITION_KIND, _) => condition_of(low),
+    match kind {
+        SAMPLE_KIND => Value::Sample(low.cast_signed()),
+        EVENT_KIND => Value::Event(low),
+        CONDITION_KIND => condition_of(low),
         _ => NO_VALUE,
     }
 }

@@ -10,7 +10,7 @@ ghost use Rattle.writer.specs.Whole.{Puts, text_after, bytes_of};
 use spec::{Answer, Refusal};
 
 // No buffer has as many bytes, so a place stops here.
-const STOP: usize = 9223372036854775808;
+const STOP: usize = 1 << 63;
 
 // The place n bytes on; it stops at 2^63.
 fn onward(at: usize, n: usize) -> usize
