@@ -1,5 +1,5 @@
 // A model's words once its sizes are right: what every reader of a model needs to know of it.
-ghost use Rattle.std.specs.Prelude.{◌≡◌, ◌≤◌, ◌<◌, List, ℕ};
+ghost use Rattle.std.specs.Prelude.{◌≡◌, ◌≤◌, ◌<◌, List, ℕ, MatchOption};
 ghost use Rattle.spec.specs.Found.{found_below};
 ghost use Rattle.spec.specs.Model.{max_components, max_items, components, items, Sizes};
 ghost use Rattle.spec.specs.Model.{component_word, item_word, category, change_item};
@@ -78,6 +78,17 @@ impl<'a> Words<'a> {
         ensures { result ≡ category self.now j }
     {
         category_of(self.item_word(j))
+    }
+
+    // The category of an item's number, where the model has that item: a number from outside is tested by it.
+    pub fn category_at(&self, item: u64) -> Option<u64>
+        ensures { MatchOption result (items self.now ≤ item)
+            (λ k. (k ≡ category self.now item) × (item < items self.now) × (items self.now ≤ max_items)) }
+    {
+        if self.items() <= item {
+            return None;
+        }
+        Some(self.category(item))
     }
 
     // The data item of category asset change, where there is one.
