@@ -8,7 +8,7 @@ use lib.Dec.{eqb}
 use lib.ListN.{length}
 use borrow.Author.Tests.{eq-eqb, ne_eqb}
 use Rattle.std.specs.List.{list_any}
-use Rattle.std.specs.Prelude.{Ok, Err}
+use Rattle.std.specs.Prelude.{Ok, Err, None}
 use Rattle.spec.specs.Bytes.{split, join_first}
 use Rattle.lines.specs.Stamps.{real_date, time_of, formed, stamp_form, date_in, stamp_text}
 use Rattle.lines.specs.Lines.{line_in, by_bar, form_of, stamp_part}
@@ -56,6 +56,11 @@ pub three_parts : (a b c : List ℕ) → list_any (λ x. eqb x 124) c ≡ false
 unfolding by_bar
 three_parts a b c h = rw (no_bar c h)
 
+pub no_form : (a b c : List ℕ) → list_any (λ x. eqb x 124) c ≡ false → form_of c ≡ None
+    → by_bar (a ∷ b ∷ split 124 c) ≡ Err Malformed
+unfolding line_in
+no_form a b c h e = rw (three_parts a b c h, e)
+
 -- and one with a bar at least two
 joined : (x : ℕ) (ps : List (List ℕ)) → 2 ≤ length ps → 2 ≤ length (join_first x ps)
 unfolding join_first
@@ -83,7 +88,7 @@ more_parts a b c h = go (split 124 c) (several c h)
     go (p ∷ []) m = absurd (omega arith)
     go (p ∷ q ∷ ps) m = refl
 
-pub ruleset bars = (one_part, two_parts, three_parts, more_parts)
+pub ruleset bars = (one_part, two_parts, three_parts, no_form, more_parts)
 
 -- ---- the writer's stamp
 

@@ -1,7 +1,7 @@
 // Adapter lines, read and written.
 #![tactic(auto)]
 
-ghost use Rattle.std.specs.Prelude.{true, ◌≡◌};
+ghost use Rattle.std.specs.Prelude.{true, ◌≡◌, Some};
 ghost use Rattle.lines.specs.Lines.{line_in, read_line, stamp_part, line_of};
 ghost use Rattle.line.specs.Times.{time_read};
 ghost use Rattle.writer.specs.Puts.{Put};
@@ -31,10 +31,9 @@ fn time_in(stamp: &[u8]) -> Result<u64, LineError>
 
 // What the three parts of a line say.
 #[tactic(auto, unfolding(lines::specs::Lines::line_in))]
-fn line_in(stamp: &[u8], item: &[u8], form: Option<Form>) -> Result<Line, LineError>
-    ensures { result ≡ line_in stamp.now item.now form }
+fn line_in(stamp: &[u8], item: &[u8], form: Form) -> Result<Line, LineError>
+    ensures { result ≡ line_in stamp.now item.now (Some form) }
 {
-    let form = form.ok_or(LineError::Malformed)?;
     let item = numeral(item).ok_or(LineError::Malformed)?;
     let time = time_in(stamp)?;
     Ok(Line { time, item, form })
@@ -50,7 +49,8 @@ pub fn read_line(s: &[u8]) -> Result<Line, LineError>
     if value.contains(&b'|') {
         return Err(LineError::Malformed);
     }
-    line_in(stamp, item, form_of(value))
+    let form = form_of(value).ok_or(LineError::Malformed)?;
+    line_in(stamp, item, form)
 }
 
 // A line's stamp: none for time 0.

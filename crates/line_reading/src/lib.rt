@@ -2,12 +2,12 @@
 // last of them the line is observed as it reads.
 #![tactic(auto)]
 
-ghost use Rattle.std.specs.Prelude.{◌≡◌};
+ghost use Rattle.std.specs.Prelude.{◌≡◌, Ok};
 ghost use Rattle.spec.specs.Model.{items};
 ghost use Rattle.history.specs.Observations.{Head};
 ghost use Rattle.history.specs.Calls.{observe_reading, observe_line};
 
-use lines::{Line, LineError};
+use lines::Line;
 use model::Words;
 use spec::{ObserveAnswer, Refusal};
 
@@ -16,14 +16,13 @@ use spec::{ObserveAnswer, Refusal};
 fn observe_reading(
     model: &Words<'_>,
     observations: &mut [u64],
-    reading: Result<Line, LineError>,
+    line: Line,
     host: u64,
 ) -> ObserveAnswer
     requires head { Head (items model.now) observations.old }
-    ensures { let x = observe_reading reading model.now observations.old host in
+    ensures { let x = observe_reading (Ok line) model.now observations.old host in
         (result ≡ x.answer) × (observations.new ≡ x.observations) }
 {
-    let line = reading?;
     if model.items() <= line.item {
         return Err(Refusal::Item);
     }
@@ -48,6 +47,6 @@ pub fn read_line(
 {
     let words = model::checked(model, names)?.words;
     observations::checked(observations, words.items())?;
-    let reading = line::read_line(line);
-    observe_reading(&words, observations, reading, host)
+    let line = line::read_line(line)?;
+    observe_reading(&words, observations, line, host)
 }
