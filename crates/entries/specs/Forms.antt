@@ -4,7 +4,7 @@ use Rattle.spec.specs.Entries.{packed, used_rows, form_ok}
 use Rattle.marks.specs.Marks.{mark_of, key_in, key_of, place_of}
 
 -- eight rows from row k on of a table of w rows that begins at word t, in a store of so many words
-pub record Table (w t k words : ℕ) : Type 0 where
+pub record EightRows (w t k words : ℕ) : Type 0 where
   pub inside : k + 8 ≤ w
   pub room : t + 3 * w ≤ words
 

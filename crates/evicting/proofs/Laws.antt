@@ -20,7 +20,7 @@ use Rattle.spec.proofs.Words.{and_left, and_right, by_cond}
 use Rattle.spec.proofs.Blocks.{table-rows-apart}
 use Rattle.history.proofs.Added.{rows_for, rows-for-three, rows-for-few, evict-item}
 use Rattle.observations.specs.Ring.{ring_word}
-use Rattle.entries.specs.Forms.{Table}
+use Rattle.entries.specs.Forms.{EightRows}
 use Rattle.plain.specs.Short.{overwritable}
 use Rattle.plain.proofs.Laws.{by_word}
 use Rattle.evicting.specs.Writing.{Overwriting, InTable}
@@ -30,7 +30,7 @@ use Rattle.evicting.specs.Writing.{Overwriting, InTable}
 module _ (cat : ℕ → ℕ) (st : List ℕ) (t m k item : ℕ) (em : k ≡ m) where
   -- what the step of a condition item's entries asks
   pub step_fits : InTable cat m t item st → k ≤ max_items → cat item ≡ 2
-      → Table (8 * k) t (8 * item) (length st)
+      → EightRows (8 * k) t (8 * item) (length st)
       × ((item < 2 ^ 24) × (form_ok item 0 (table_rows st t (8 * k) 8 (8 * item)) ≡ true))
   step_fits i h c =
       rw em (

@@ -8,22 +8,27 @@ ghost use Rattle.history.specs.Observations.{place, set_newest, evict};
 ghost use Rattle.evicting.specs.Writing.{Overwriting, InTable};
 
 use model::Words;
+use observations::Table;
 use spec::Row;
 
-// The table at word t takes an observation of the item: the entries of a condition item, or another's one row.
+// The table at word t takes an observation of the item: the entries of a condition item, or another's one row. Its rows
+// are as many as the model says, which a clause would ask of a Table.
 pub fn set_newest(model: &Words<'_>, st: &mut [u64], t: u64, item: u64, row: Row)
     requires in_table { InTable (category model.now) (items model.now) t item st.old }
     ensures { st.new
         ≡ set_newest (category model.now) st.old t (items model.now) item
         (row.number ∷ row.time ∷ row.packed ∷ []) }
 {
-    let w = spec::ENTRIES * model.items();
+    let table = Table {
+        at: t,
+        rows: spec::ENTRIES * model.items(),
+    };
     let k = spec::ENTRIES * item;
     let category = model.category(item);
     if category == spec::CONDITION {
-        stepping::step(st, w, t, k, item, row);
+        stepping::step(st, table, k, item, row);
     } else {
-        observations::put_row(st, w, t, k, row);
+        observations::put_row(st, table, k, row);
     }
 }
 

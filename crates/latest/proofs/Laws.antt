@@ -25,7 +25,7 @@ use Rattle.spec.proofs.Bits.{rows-ones}
 use Rattle.history.proofs.Pass.{current-count}
 use Rattle.entries.proofs.Filling.{rows-many}
 use Rattle.entries.proofs.Marks.{used-max}
-use Rattle.entries.specs.Forms.{Table, filled}
+use Rattle.entries.specs.Forms.{EightRows, filled}
 use Rattle.rows.specs.Rows.{rows_at, rows_into}
 use Rattle.rows.proofs.Writing.{rows_more}
 use Rattle.rows.proofs.Flat.{Left, left-start, FlatWriting, flat_start, flat-room, flat-more, flat-skip, flat-end}
@@ -132,27 +132,27 @@ module _ (own : ℕ) (rs : List (List ℕ)) where
         rw (le-leb 1 (length (used_rows rs)) (omega (arith, form-used)))
         (and_right (leb 0 (length (used_rows rs))) _ (filled-by (form_ok own 0 rs) x _ e).0)
 
--- ---- an item's rows in the latest table, where a is the number of items, n the ring's size and t the table's place
+-- ---- an item's rows in the latest table, which begins at word t and has w rows
 
 -- the contracts' eight rows
 abbrev pub eight : List ℕ → ℕ → ℕ → ℕ → List (List ℕ)
-eight st t a i = table_rows st t (8 * a) 8 (8 * i)
+eight st t w i = table_rows st t w 8 (8 * i)
 
-pub latest-table : {m a n t : ℕ} (st : List ℕ) (i : ℕ) → Head m st → a ≡ m → n ≡ ring_size st → t ≡ latest_at n → i < m
-    → Table (8 * a) t (8 * i) (length st)
-latest-table st i h ea en et l = record { inside = omega arith; room = omega (arith, h.len) }
+pub latest-table : {m w t : ℕ} (st : List ℕ) (i : ℕ) → Head m st → w ≡ 8 * m → t ≡ latest_at (ring_size st) → i < m
+    → EightRows w t (8 * i) (length st)
+latest-table st i h ew et l = record { inside = omega arith; room = omega (arith, h.len) }
 
-module _ (st : List ℕ) (i : ℕ) {m a n t : ℕ} (ea : a ≡ m) (en : n ≡ ring_size st) (et : t ≡ latest_at n) where
-  eight_is : eight st t a i ≡ item_rows st (latest_at (ring_size st)) m i
-  eight_is = rw (et, en, ea)
+module _ (st : List ℕ) (m i : ℕ) {w t : ℕ} (ew : w ≡ 8 * m) (et : t ≡ latest_at (ring_size st)) where
+  eight_is : eight st t w i ≡ item_rows st (latest_at (ring_size st)) m i
+  eight_is = rw (et, ew)
 
-  condition-rows : (cat : ℕ → ℕ) → cat i ≡ 2 → latest_rows cat (ring_size st) m st i ≡ used_rows (eight st t a i)
+  condition-rows : (cat : ℕ → ℕ) → cat i ≡ 2 → latest_rows cat (ring_size st) m st i ≡ used_rows (eight st t w i)
   condition-rows cat e = rw (eight_is, eq-eqb (cat i) 2 e)
 
   plain_rows_lem : (cat : ℕ → ℕ) → (cat i ≡ 2 → ⊥)
-      → latest_rows cat (ring_size st) m st i ≡ table_rows st t (8 * a) 1 (8 * i)
+      → latest_rows cat (ring_size st) m st i ≡ table_rows st t w 1 (8 * i)
   unfolding table_rows
-  plain_rows_lem cat e = rw (et, en, ea, ne_eqb (cat i) 2 e)
+  plain_rows_lem cat e = rw (et, ew, ne_eqb (cat i) 2 e)
 
 -- ---- counting: c rows beyond the first of each of the items below i
 
@@ -215,35 +215,34 @@ module _ {cat : ℕ → ℕ} {m : ℕ} {st : List ℕ} {selection c i : ℕ} (v 
       let k : c ≡ all_extra cat m st selection = omega (arith, v.rows, z) in
       rw (← e, k)
 
--- a turn for item i, a selected condition item; a is the number of items, n the ring's size, t the table's place
-pub record Turn (cat : ℕ → ℕ) (m : ℕ) (st : List ℕ) (selection c i a n t : ℕ) : Type 0 where
+-- a turn for item i, a selected condition item
+pub record Turn (cat : ℕ → ℕ) (m : ℕ) (st : List ℕ) (selection c i w t : ℕ) : Type 0 where
   pub now : Beyond cat m st selection c i
   pub below : i < m
   pub selected : bit selection i ≡ true
   pub condition : cat i ≡ 2
-  pub many : a ≡ m
-  pub ring : n ≡ ring_size st
-  pub table : t ≡ latest_at n
+  pub rows : w ≡ 8 * m
+  pub at : t ≡ latest_at (ring_size st)
 
-module _ {cat : ℕ → ℕ} {m : ℕ} {st : List ℕ} {selection c i a n t : ℕ} (v : Turn cat m st selection c i a n t) where
-  by_form : (b : Bool) → form_ok i 1 (eight st t a i) ≡ b → formed cat m st selection i ≡ b
-  by_form b f = rw (v.selected, eq-eqb (cat i) 2 v.condition, ← eight_is st i v.many v.ring v.table) f
+module _ {cat : ℕ → ℕ} {m : ℕ} {st : List ℕ} {selection c i w t : ℕ} (v : Turn cat m st selection c i w t) where
+  by_form : (b : Bool) → form_ok i 1 (eight st t w i) ≡ b → formed cat m st selection i ≡ b
+  by_form b f = rw (v.selected, eq-eqb (cat i) 2 v.condition, ← eight_is st m i v.rows v.at) f
 
-  beyond-unformed : None ≡ filled i (eight st t a i) → None ≡ extra_in cat m st selection
-  beyond-unformed f = broken v.now v.below (by_form false (form-no i (eight st t a i) f))
+  beyond-unformed : None ≡ filled i (eight st t w i) → None ≡ extra_in cat m st selection
+  beyond-unformed f = broken v.now v.below (by_form false (form-no i (eight st t w i) f))
 
-  module _ {x : ℕ} (f : Some x ≡ filled i (eight st t a i)) where
+  module _ {x : ℕ} (f : Some x ≡ filled i (eight st t w i)) where
     beyond-empty : x ≡ 0 → None ≡ extra_in cat m st selection
-    beyond-empty z = broken v.now v.below (by_form false (form-empty i (eight st t a i) f z))
+    beyond-empty z = broken v.now v.below (by_form false (form-empty i (eight st t w i) f z))
 
     pub beyond-more : (x ≡ 0 → ⊥) → Beyond cat m st selection (c + (x - 1)) (i + 1)
     beyond-more z =
-        let r = condition-rows st i v.many v.ring v.table cat v.condition in
-        next v.now v.below (by_form true (form-yes i (eight st t a i) f z))
-        (rw (v.selected, r, form-used i (eight st t a i) f)) refl
+        let r = condition-rows st m i v.rows v.at cat v.condition in
+        next v.now v.below (by_form true (form-yes i (eight st t w i) f z))
+        (rw (v.selected, r, form-used i (eight st t w i) f)) refl
 
   -- none used, or not filled
-  pub beyond-unused : {o : Option ℕ} → o ≡ filled i (eight st t a i) → (o ≡ None) ⊎ (o ≡ Some 0)
+  pub beyond-unused : {o : Option ℕ} → o ≡ filled i (eight st t w i) → (o ≡ None) ⊎ (o ≡ Some 0)
       → None ≡ extra_in cat m st selection
   beyond-unused e (inl n) = beyond-unformed (sym n ∙ e)
   beyond-unused e (inr n) = beyond-empty (sym n ∙ e) refl
@@ -305,16 +304,15 @@ module _ {cat : ℕ → ℕ} {m : ℕ} {st : List ℕ} {selection k : ℕ} {o l 
   pub written_out : i < m → bit selection i ≡ false → Written cat m st selection k o l c (i + 1)
   written_out h s = record { put = flat-skip v.put h s }
 
-  module _ (h : i < m) (s : bit selection i ≡ true) {a n t : ℕ} (ea : a ≡ m) (en : n ≡ ring_size st)
-      (et : t ≡ latest_at n) where
+  module _ (h : i < m) (s : bit selection i ≡ true) {w t : ℕ} (ew : w ≡ 8 * m) (et : t ≡ latest_at (ring_size st)) where
     module _ (e : cat i ≡ 2) where
-      pub entries-room : c + length (used_rows (eight st t a i)) ≤ k
-      entries-room = rw (← condition-rows st i ea en et cat e) (flat-room v.put h s)
+      pub entries-room : c + length (used_rows (eight st t w i)) ≤ k
+      entries-room = rw (← condition-rows st m i ew et cat e) (flat-room v.put h s)
 
-      pub entries-more : {d : ℕ} {b : List ℕ} → d ≡ c + length (used_rows (eight st t a i))
-          → b ≡ rows_at l c (k + 2 * c) (used_rows (eight st t a i)) → Written cat m st selection k o b d (i + 1)
+      pub entries-more : {d : ℕ} {b : List ℕ} → d ≡ c + length (used_rows (eight st t w i))
+          → b ≡ rows_at l c (k + 2 * c) (used_rows (eight st t w i)) → Written cat m st selection k o b d (i + 1)
       entries-more ed eb =
-          let r = condition-rows st i ea en et cat e in
+          let r = condition-rows st m i ew et cat e in
           record { put = rw (ed, ← r) (flat-more v.put h s (rw r eb)) }
 
     module _ (e : cat i ≡ 2 → ⊥) where
@@ -324,11 +322,11 @@ module _ {cat : ℕ → ℕ} {m : ℕ} {st : List ℕ} {selection k : ℕ} {o l 
       pub first-room : c < k
       first-room = omega (arith, flat-room v.put h s, one)
 
-      pub first_more : {b : List ℕ} → b ≡ rows_at l c (k + 2 * c) (table_rows st t (8 * a) 1 (8 * i))
+      pub first_more : {b : List ℕ} → b ≡ rows_at l c (k + 2 * c) (table_rows st t w 1 (8 * i))
           → Written cat m st selection k o b (c + 1) (i + 1)
       first_more {b} eb =
           let r : b ≡ rows_at l c (k + 2 * c) (latest_rows cat (ring_size st) m st i) =
-          rw (plain_rows_lem st i ea en et cat e) eb in
+          rw (plain_rows_lem st m i ew et cat e) eb in
           record { put = rw one at (flat-more v.put h s r) }
 
 -- ---- one row of each
@@ -354,10 +352,10 @@ module _ {m : ℕ} {st : List ℕ} {selection k : ℕ} {o l : List ℕ} {c i : �
     pub firsts-room : c < k
     firsts-room = omega (arith, flat-room v.put h s)
 
-    pub firsts_more : {n t : ℕ} → n ≡ ring_size st → t ≡ latest_at n → {b : List ℕ}
-        → b ≡ rows_at l c (k + 2 * c) (table_rows st t (8 * m) 1 (8 * i)) → Firsts m st selection k o b (c + 1) (i + 1)
+    pub firsts_more : {w t : ℕ} → w ≡ 8 * m → t ≡ latest_at (ring_size st) → {b : List ℕ}
+        → b ≡ rows_at l c (k + 2 * c) (table_rows st t w 1 (8 * i)) → Firsts m st selection k o b (c + 1) (i + 1)
     unfolding table_rows
-    firsts_more en et eb = record { put = flat-more v.put h s (rw (et, en) at eb) }
+    firsts_more ew et eb = record { put = flat-more v.put h s (rw (et, ew) at eb) }
 
 -- where each selected item has one row, it is its first entry
 used-one : (r : List ℕ) (rs : List (List ℕ)) → length (used_rows (r ∷ rs)) ≡ 1 → used_rows (r ∷ rs) ≡ r ∷ []

@@ -19,11 +19,11 @@ pub fn extra(source: Modelled<'_>, selection: u64) -> Option<u64>
 {
     let words = source.store.slice();
     let m = source.model.items();
-    let t = source.store.latest_at();
+    let latest = source.store.latest();
     let mut extra: u64 = 0;
     for i in 0..m {
         if selection::has(selection, i) && source.model.category(i) == spec::CONDITION {
-            let entries = Entries::of(words, spec::ENTRIES * m, t, spec::ENTRIES * i);
+            let entries = Entries::of(words, latest, i);
             let n = entries::count(&entries, i).filter(|n| *n != 0)?;
             extra += n - 1;
         }
@@ -68,12 +68,11 @@ fn write_firsts(st: &Store<'_>, selection: u64, k: u64, out: &mut [u64])
 {
     let words = st.slice();
     let m = st.items();
-    let w = spec::ENTRIES * m;
-    let t = st.latest_at();
+    let latest = st.latest();
     let mut c: u64 = 0;
     for i in 0..m {
         if selection::has(selection, i) {
-            write_first(&Entries::of(words, w, t, spec::ENTRIES * i), c, k, out);
+            write_first(&Entries::of(words, latest, i), c, k, out);
             c += 1;
         }
     }
@@ -87,12 +86,11 @@ fn write_each(source: Modelled<'_>, selection: u64, k: u64, out: &mut [u64])
 {
     let words = source.store.slice();
     let m = source.model.items();
-    let w = spec::ENTRIES * m;
-    let t = source.store.latest_at();
+    let latest = source.store.latest();
     let mut c: u64 = 0;
     for i in 0..m {
         if selection::has(selection, i) {
-            let entries = Entries::of(words, w, t, spec::ENTRIES * i);
+            let entries = Entries::of(words, latest, i);
             if source.model.category(i) == spec::CONDITION {
                 c = write_entries(&entries, c, k, out);
             } else {

@@ -19,11 +19,11 @@ use Rattle.short_way.specs.Found.{found, observed_by}
 use Rattle.short_way.proofs.Laws.{by-found}
 
 module _ (cat : ℕ → ℕ) (n m : ℕ) (st : List ℕ) (item word : ℕ) where
-  -- a condition item's entries, by the numbers that the accessors gave
-  pub found-entries : {r : Result Judged Refusal} (k t : ℕ) → k ≡ m → t ≡ latest_at n → cat item ≡ 2
-      → r ≡ judged item (table_rows st t (8 * k) 8 (8 * item)) word → r ≡ found cat n m st item word
+  -- a condition item's entries, in the latest table
+  pub found-entries : {r : Result Judged Refusal} (w t : ℕ) → w ≡ 8 * m → t ≡ latest_at n → cat item ≡ 2
+      → r ≡ judged item (table_rows st t w 8 (8 * item)) word → r ≡ found cat n m st item word
   unfolding found judged latest_ok repeats_at crowded_at
-  found-entries k t ek et c e = rw (e, et, ek, eq-eqb (cat item) 2 c)
+  found-entries w t ew et c e = rw (e, et, ew, eq-eqb (cat item) 2 c)
 
   -- what is new has a latest in its form
   pub new-latest : Ok New ≡ found cat n m st item word → latest_ok cat n m st item ≡ true

@@ -57,9 +57,8 @@ fn judge_latest(
         return Ok(Judged::New);
     }
     let m = model.items();
-    let t = observations::latest_at(observations::ring_size(observations, m));
-    let k = spec::ENTRIES * item;
-    let entries = Entries::of(observations, spec::ENTRIES * m, t, k);
+    let n = observations::ring_size(observations, m);
+    let entries = Entries::of(observations, observations::latest_table(n, m), item);
     judging::judge(&entries, item, word)
 }
 

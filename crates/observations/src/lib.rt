@@ -57,6 +57,37 @@ pub fn checkpoint_at(n: u64, m: u64) -> u64
     latest_at(n) + TABLE_WORDS * m
 }
 
+// A table of the store: the word that it begins at, and how many rows it has.
+#[derive(Clone, Copy)]
+pub struct Table {
+    pub at: u64,
+    pub rows: u64,
+}
+
+// The latest table of a store of n observations and m items.
+pub fn latest_table(n: u64, m: u64) -> Table
+    requires { (n ≤ max_ring) × (m ≤ max_items) }
+    ensures at { result.at ≡ latest_at n }
+    ensures rows { result.rows ≡ 8 * m }
+{
+    Table {
+        at: latest_at(n),
+        rows: spec::ENTRIES * m,
+    }
+}
+
+// The checkpoint table, which has as many rows.
+pub fn checkpoint_table(n: u64, m: u64) -> Table
+    requires { (n ≤ max_ring) × (m ≤ max_items) }
+    ensures at { result.at ≡ checkpoint_at n m }
+    ensures rows { result.rows ≡ 8 * m }
+{
+    Table {
+        at: checkpoint_at(n, m),
+        ..latest_table(n, m)
+    }
+}
+
 // What the head says, over words: those who write a store hold them alone, and their clause is Head. No type holds it
 // there: a struct around a `&mut` needs a clause in each function that the reference is still the same. `Store`'s
 // methods are these.
@@ -115,7 +146,7 @@ pub fn first(st: &[u64], m: u64) -> u64
     let n = ring_size(st, m);
     let b = base(st, m);
     let next = last(st, m) + 1;
-    if b + n <= next { next - n } else { b }
+    b.max(next.saturating_sub(n))
 }
 
 // The ring place of number s, for a ring of n entries and the first number b.
@@ -160,16 +191,17 @@ pub fn ring_row(st: &[u64], n: u64, p: u64, number: u64) -> Row
     }
 }
 
-// Row k of the table of w rows that begins at word t.
+// Row k of a table.
 #[tactic(auto, unfolding(spec::specs::Words::row))]
-pub fn row_at(st: &[u64], w: u64, t: u64, k: u64) -> Row
-    requires { (k < w) × (t + 3 * w ≤ length st.now) }
-    ensures { row st.now t w k 3 ≡ result.number ∷ result.time ∷ result.packed ∷ [] }
+pub fn row_at(st: &[u64], table: Table, k: u64) -> Row
+    requires { (k < table.rows) × (table.at + 3 * table.rows ≤ length st.now) }
+    ensures { row st.now table.at table.rows k 3 ≡ result.number ∷ result.time ∷ result.packed ∷ [] }
 {
+    let Table { at, rows } = table;
     Row {
-        number: st[(t + k) as usize],
-        time: st[(t + w + k) as usize],
-        packed: st[(t + w + w + k) as usize],
+        number: st[(at + k) as usize],
+        time: st[(at + rows + k) as usize],
+        packed: st[(at + rows + rows + k) as usize],
     }
 }
 
@@ -179,13 +211,8 @@ pub fn latest_word(st: &[u64], m: u64, item: u64) -> u64
     requires m_le_max_items { (m ≤ max_items) × (item < m) }
     ensures { result ≡ get_or (item_row st.now (latest_at (ring_size st.now)) m item) 2 0 }
 {
-    let latest = row_at(
-        st,
-        spec::ENTRIES * m,
-        latest_at(ring_size(st, m)),
-        spec::ENTRIES * item,
-    );
-    latest.packed
+    let latest = latest_table(ring_size(st, m), m);
+    row_at(st, latest, spec::ENTRIES * item).packed
 }
 
 // Place p of a ring of n entries takes a time and a packed word.
@@ -200,15 +227,16 @@ pub fn put_ring(st: &mut [u64], n: u64, p: u64, time: u64, word: u64)
     st[word_at as usize] = word;
 }
 
-// Row k of the table of w rows that begins at word t takes an observation.
+// Row k of a table takes an observation.
 #[tactic(auto, unfolding(spec::specs::Words::put))]
-pub fn put_row(st: &mut [u64], w: u64, t: u64, k: u64, row: Row)
-    requires { (k < w) × (t + 3 * w ≤ length st.old) }
-    ensures { st.new ≡ put st.old t w k (row.number ∷ row.time ∷ row.packed ∷ []) }
+pub fn put_row(st: &mut [u64], table: Table, k: u64, row: Row)
+    requires { (k < table.rows) × (table.at + 3 * table.rows ≤ length st.old) }
+    ensures { st.new ≡ put st.old table.at table.rows k (row.number ∷ row.time ∷ row.packed ∷ []) }
 {
-    st[(t + k) as usize] = row.number;
-    st[(t + w + k) as usize] = row.time;
-    st[(t + w + w + k) as usize] = row.packed;
+    let Table { at, rows } = table;
+    st[(at + k) as usize] = row.number;
+    st[(at + rows + k) as usize] = row.time;
+    st[(at + rows + rows + k) as usize] = row.packed;
 }
 
 // The newest number becomes s.

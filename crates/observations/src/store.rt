@@ -10,7 +10,7 @@ ghost use Rattle.history.specs.Calls.{first};
 ghost use Rattle.observations.specs.Headed.{Headed};
 ghost use Rattle.observations.specs.Ring.{ring_word};
 
-use super::{ITEM_COUNT_AT, RING_AT, Row, head_ok};
+use super::{ITEM_COUNT_AT, RING_AT, Row, Table, head_ok};
 use spec::Refusal;
 use std::marker::Model;
 
@@ -104,18 +104,20 @@ impl<'a> Store<'a> {
         &self.words[at as usize..(at + k) as usize]
     }
 
-    // Where the latest table begins.
-    pub fn latest_at(&self) -> u64
-        ensures { result ≡ latest_at (ring_size self.now) }
+    // The latest table.
+    pub fn latest(&self) -> Table
+        ensures at { result.at ≡ latest_at (ring_size self.now) }
+        ensures rows { result.rows ≡ 8 * item_count self.now }
     {
-        super::latest_at(self.ring_size())
+        super::latest_table(self.ring_size(), self.items())
     }
 
-    // Where the checkpoint table begins.
-    pub fn checkpoint_at(&self) -> u64
-        ensures { result ≡ checkpoint_at (ring_size self.now) (item_count self.now) }
+    // The checkpoint table.
+    pub fn checkpoint(&self) -> Table
+        ensures at { result.at ≡ checkpoint_at (ring_size self.now) (item_count self.now) }
+        ensures rows { result.rows ≡ 8 * item_count self.now }
     {
-        super::checkpoint_at(self.ring_size(), self.items())
+        super::checkpoint_table(self.ring_size(), self.items())
     }
 
     // An item's entry j in the checkpoint table.
@@ -125,9 +127,8 @@ impl<'a> Store<'a> {
             row self.now t (8 * item_count self.now) (8 * item + j) 3
             ≡ result.number ∷ result.time ∷ result.packed ∷ [] }
     {
-        let t = self.checkpoint_at();
-        let k = spec::ENTRIES * item + j;
-        super::row_at(self.words, spec::ENTRIES * self.items(), t, k)
+        let checkpoint = self.checkpoint();
+        super::row_at(self.words, checkpoint, spec::ENTRIES * item + j)
     }
 }
 

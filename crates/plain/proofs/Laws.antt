@@ -27,12 +27,12 @@ use Rattle.spec.proofs.Steps.{step-length-word}
 use Rattle.observations.specs.Ring.{ring_time, ring_word}
 use Rattle.plain.specs.Short.{InRing, overwritable, put_number}
 
--- ---- a table takes an observation of an item without conditions; k is the number of items that the code has
+-- ---- a table takes an observation of an item without conditions; w is the number of its rows
 
-pub newest-row : (cat : ℕ → ℕ) (st : List ℕ) (t m k item : ℕ) → k ≡ m → (r e : List ℕ) → cat item ≢ 2
-    → e ≡ put st t (8 * k) (8 * item) r → e ≡ set_newest cat st t m item r
+pub newest-row : (cat : ℕ → ℕ) (st : List ℕ) (t m w item : ℕ) → w ≡ 8 * m → (r e : List ℕ) → cat item ≢ 2
+    → e ≡ put st t w (8 * item) r → e ≡ set_newest cat st t m item r
 unfolding put_rows
-newest-row cat st t m k item em r e c q = rw (ne_eqb (cat item) 2 c, ← em) q
+newest-row cat st t m w item ew r e c q = rw (ne_eqb (cat item) 2 c, ← ew) q
 
 -- ---- the entry about to be overwritten
 
@@ -63,12 +63,12 @@ module _ (cat : ℕ → ℕ) (n m b s p w : ℕ) (st : List ℕ) (hp : p ≡ pla
     evicted e t ht q = rw (le-leb _ _ u, q, ht, hi, hw, hp)
 
     -- as its one row, where its item has no conditions
-    pub plain-evicted : (e : List ℕ) (time k t : ℕ) → i < m → cat i ≢ 2 → k ≡ m → t ≡ checkpoint_at n k
-        → time ≡ ring_time st n p → e ≡ put st t (8 * k) (8 * i) ((s - n) ∷ time ∷ w ∷ [])
+    pub plain-evicted : (e : List ℕ) (time rows t : ℕ) → i < m → cat i ≢ 2 → rows ≡ 8 * m → t ≡ checkpoint_at n m
+        → time ≡ ring_time st n p → e ≡ put st t rows (8 * i) ((s - n) ∷ time ∷ w ∷ [])
         → (evict_ok cat n m b s st ≡ true) × (e ≡ evict cat n m b s st)
-    plain-evicted e time k t l c ek et ht q = (
+    plain-evicted e time rows t l c er et ht q = (
       by_word u ∙ sym (over_plain cat n m st w i hi l c),
-      evicted e time ht (newest-row cat st (checkpoint_at n m) m m i refl _ e c (rw (et, ek) at q)),
+      evicted e time ht (newest-row cat st (checkpoint_at n m) m rows i er _ e c (rw et at q)),
     )
 
 pub not-evicted : (cat : ℕ → ℕ) (n m b s : ℕ) (st : List ℕ) → s - b < n → st ≡ evict cat n m b s st

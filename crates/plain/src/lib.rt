@@ -20,9 +20,8 @@ pub fn put_number(st: &mut [u64], n: u64, m: u64, p: u64, item: u64, row: Row)
     ensures { st.new ≡ put_number n m p item row.number row.time row.packed st.old }
 {
     observations::put_ring(st, n, p, row.time, row.packed);
-    let latest = observations::latest_at(n);
-    let k = spec::ENTRIES * item;
-    observations::put_row(st, spec::ENTRIES * m, latest, k, row);
+    let latest = observations::latest_table(n, m);
+    observations::put_row(st, latest, spec::ENTRIES * item, row);
     observations::set_last(st, row.number);
 }
 
@@ -49,9 +48,8 @@ fn evict_plain(model: &Words<'_>, st: &mut [u64], n: u64, b: u64, s: u64) -> Opt
     if model.category(item) == spec::CONDITION {
         return None;
     }
-    let t = observations::checkpoint_at(n, m);
-    let k = spec::ENTRIES * item;
-    observations::put_row(st, spec::ENTRIES * m, t, k, evicted);
+    let checkpoint = observations::checkpoint_table(n, m);
+    observations::put_row(st, checkpoint, spec::ENTRIES * item, evicted);
     Some(())
 }
 

@@ -36,10 +36,10 @@ module _ (cat : ℕ → ℕ) (n m : ℕ) (st : List ℕ) (word i : ℕ) (hi : i 
   unfolding overwritable
   over_none h = rw (← hi, le-ltb i m h)
 
-  pub over-entries : i < m → {r : Bool} (k t : ℕ) → k ≡ m → t ≡ checkpoint_at n k → cat i ≡ 2
-      → r ≡ takes_one i (table_rows st t (8 * k) 8 (8 * i)) word → r ≡ overwritable cat n m st word
+  pub over-entries : i < m → {r : Bool} (w t : ℕ) → w ≡ 8 * m → t ≡ checkpoint_at n m → cat i ≡ 2
+      → r ≡ takes_one i (table_rows st t w 8 (8 * i)) word → r ≡ overwritable cat n m st word
   unfolding overwritable takes_one
-  over-entries l k t ek et h e = rw (e, et, ek, ← hi, lt-ltb i m l, eq-eqb (cat i) 2 h)
+  over-entries l w t ew et h e = rw (e, et, ew, ← hi, lt-ltb i m l, eq-eqb (cat i) 2 h)
 
 -- ---- the room for a number
 

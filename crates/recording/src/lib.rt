@@ -29,8 +29,7 @@ fn may_overwrite(model: &Words<'_>, st: &[u64], n: u64, word: u64) -> bool
     if model.category(item) != spec::CONDITION {
         return true;
     }
-    let t = observations::checkpoint_at(n, m);
-    let entries = Entries::of(st, spec::ENTRIES * m, t, spec::ENTRIES * item);
+    let entries = Entries::of(st, observations::checkpoint_table(n, m), item);
     stepping::takes_one(&entries, item, word)
 }
 

@@ -40,10 +40,7 @@ fn begin_item(st: &Store<'_>, i: u64, marks: &mut [u64; ENTRY_SLOTS]) -> Option<
     ensures marks_after { let t = checkpoint_at (ring_size st.now) (item_count st.now) in
         is_some result ≡ true → marks.new ≡ marks_of i 1 (item_rows st.now t (item_count st.now) i) }
 {
-    let words = st.slice();
-    let w = spec::ENTRIES * st.items();
-    let t = st.checkpoint_at();
-    let entries = Entries::of(words, w, t, spec::ENTRIES * i);
+    let entries = Entries::of(st.slice(), st.checkpoint(), i);
     entries::fill(&entries, i, marks)?;
     Some(())
 }

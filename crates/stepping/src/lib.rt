@@ -6,11 +6,12 @@ ghost use Rattle.std.specs.Prelude.{◌≡◌, true, [], ◌∷◌, ◌++◌, �
 ghost use Rattle.spec.specs.Blocks.{table_rows, put_rows, padded};
 ghost use Rattle.spec.specs.Entries.{used_rows, step, form_ok};
 ghost use Rattle.changes.specs.Changes.{changed, ChangeFits};
-ghost use Rattle.entries.specs.Forms.{Table};
+ghost use Rattle.entries.specs.Forms.{EightRows};
 ghost use Rattle.stepping.specs.Taking.{takes_one};
 
 use changes::Change;
 use entries::Entries;
+use observations::Table;
 use spec::{ENTRY_SLOTS, Row};
 
 // Whether item own's eight entries have their written form and take one more observation without a ninth.
@@ -36,20 +37,21 @@ fn change_front(words: &mut [u64], change: Change, x: u64)
     eights::apply(eight, change, x);
 }
 
-// The step of item own's eight entries by an observation, in place: the rows from row k on of the table of w rows that
-// begins at word t. By numbers: a struct around a `&mut` would need a clause that the reference is still the same.
-pub fn step(st: &mut [u64], w: u64, t: u64, k: u64, own: u64, row: Row)
-    requires table { Table w t k (length st.old) }
-    requires own_bound { (own < 2 ^ 24) × (form_ok own 0 (table_rows st.old t w 8 k) ≡ true) }
-    ensures { let es = used_rows (table_rows st.old t w 8 k) in
-        st.new ≡ put_rows st.old t w k (padded 8 (step own es (row.number ∷ row.time ∷ row.packed ∷ []))) }
+// The step of item own's eight entries by an observation, in place: the rows from row k on of a table. The words go
+// beside it: a struct around a `&mut` would need a clause that the reference is still the same.
+pub fn step(st: &mut [u64], table: Table, k: u64, own: u64, row: Row)
+    requires table { EightRows table.rows table.at k (length st.old) }
+    requires own_bound { (own < 2 ^ 24) × (form_ok own 0 (table_rows st.old table.at table.rows 8 k) ≡ true) }
+    ensures { let es = used_rows (table_rows st.old table.at table.rows 8 k) in
+        let new = padded 8 (step own es (row.number ∷ row.time ∷ row.packed ∷ [])) in
+        st.new ≡ put_rows st.old table.at table.rows k new }
 {
     let mut marks = [0u64; ENTRY_SLOTS];
-    entries::fill(&Entries::of(st, w, t, k), own, &mut marks);
+    entries::fill(&Entries::from_row(st, table, k), own, &mut marks);
     let change = changes::change_for(&marks, own, row.packed);
-    let numbers = (t + k) as usize;
-    let times = numbers + (w as usize);
-    let words = times + (w as usize);
+    let numbers = (table.at + k) as usize;
+    let times = numbers + (table.rows as usize);
+    let words = times + (table.rows as usize);
     change_front(&mut st[numbers..numbers + ENTRY_SLOTS], change, row.number);
     change_front(&mut st[times..times + ENTRY_SLOTS], change, row.time);
     change_front(&mut st[words..words + ENTRY_SLOTS], change, row.packed);

@@ -1,6 +1,6 @@
-use Prim.Native.Nat.{ℕ, ◌<◌}
+use Prim.Native.Nat.{ℕ, ◌*◌, ◌<◌}
 use Rattle.std.proofs.Common.{rules, tests}
-use mathlib.Core.Path.{◌≡◌, refl, sym, ◌∙◌}
+use mathlib.Core.Path.{◌≡◌, sym, ◌∙◌}
 use mathlib.Core.Bool.{true}
 use mathlib.Core.List.{List}
 use native.Mathlib.Omega.{arith}
@@ -15,10 +15,9 @@ use Rattle.latest.proofs.extra.Goals as goal
 use Rattle.latest.proofs.extra.Goals.{then-has+then-category-eq-CONDITION+in_ok-n, else-has}
 use Rattle.latest.proofs.extra.Goals.{else-has-via-then-has+else-category-eq-CONDITION, else-has-via-else-has}
 
-turn : {cat : ℕ → ℕ} {m : ℕ} {st : List ℕ} {selection x i a n t : ℕ} → Beyond cat m st selection x i → i < m
-    → bit selection i ≡ true → cat i ≡ 2 → a ≡ m → n ≡ ring_size st → t ≡ latest_at n
-    → Turn cat m st selection x i a n t
-turn v h s k a n t = record { now = v; below = h; selected = s; condition = k; many = a; ring = n; table = t }
+turn : {cat : ℕ → ℕ} {m : ℕ} {st : List ℕ} {selection x i w t : ℕ} → Beyond cat m st selection x i → i < m
+    → bit selection i ≡ true → cat i ≡ 2 → w ≡ 8 * m → t ≡ latest_at (ring_size st) → Turn cat m st selection x i w t
+turn v h s k r a = record { now = v; below = h; selected = s; condition = k; rows = r; at = a }
 
 pub loop-i-init : goal.loop-i-init
 loop-i-init c =
@@ -29,10 +28,10 @@ of-entries-requires c =
     let h : c.loop-i.i < items c.args.source.model.now = omega arith in
     let v =
     turn c.loop-i.invariant h (told c.has.ensures c.if-has.true)
-    (told c.category.ensures c.if-category-eq-CONDITION.true) c.items-m.ensures.0 refl
-    c.latest_at-t.ensures in
+    (told c.category.ensures c.if-category-eq-CONDITION.true) (rw c.args.source.agree at c.latest-latest.ensures.rows)
+    c.latest-latest.ensures.at in
     rw c.slice-words.ensures.value
-    (latest-table _ _ (rw c.args.source.agree at c.slice-words.ensures.head.head) v.many v.ring v.table v.below)
+    (latest-table _ _ (rw c.args.source.agree at c.slice-words.ensures.head.head) v.rows v.at v.below)
 
 pub count-requires : goal.count-requires
 count-requires c =
@@ -44,8 +43,8 @@ returns-in_err-n c =
     let h : c.loop-i.i < items c.args.source.model.now = omega arith in
     let v =
     turn c.loop-i.invariant h (told c.has.ensures c.if-has.true)
-    (told c.category.ensures c.if-category-eq-CONDITION.true) c.items-m.ensures.0 refl
-    c.latest_at-t.ensures in
+    (told c.category.ensures c.if-category-eq-CONDITION.true) (rw c.args.source.agree at c.latest-latest.ensures.rows)
+    c.latest-latest.ensures.at in
     let k = kept-none c.count.result c.filter.result _ c.filter.ensures (λ x b q. search (rules, tests)) c.in_err-n.was in
     rw c.from_residual.ensures
     (beyond-unused v (rw (c.of-entries.ensures, c.slice-words.ensures.value) at c.count.ensures) k)
@@ -55,8 +54,8 @@ overflow_add-extra c =
     let h : c.loop-i.i < items c.args.source.model.now = omega arith in
     let v =
     turn c.loop-i.invariant h (told c.has.ensures c.if-has.true)
-    (told c.category.ensures c.if-category-eq-CONDITION.true) c.items-m.ensures.0 refl
-    c.latest_at-t.ensures in
+    (told c.category.ensures c.if-category-eq-CONDITION.true) (rw c.args.source.agree at c.latest-latest.ensures.rows)
+    c.latest-latest.ensures.at in
     let k = kept-some c.count.result c.filter.result _ c.filter.ensures (λ x b q. search (rules, tests)) c.in_ok-n.was in
     let more = beyond-more v (sym k.0 ∙ rw (c.of-entries.ensures, c.slice-words.ensures.value) at c.count.ensures) k.1 in
     omega (arith, beyond-few more (omega (arith, c.items-m.ensures)))
@@ -68,8 +67,8 @@ loop-i-preserved c =
       | then-has+then-category-eq-CONDITION+in_ok-n w ↦
           let v =
           turn c.loop-i.invariant h (told c.has.ensures w.if-has.true)
-          (told w.category.ensures w.if-category-eq-CONDITION.true) c.items-m.ensures.0 refl
-          c.latest_at-t.ensures in
+          (told w.category.ensures w.if-category-eq-CONDITION.true) (rw c.args.source.agree at c.latest-latest.ensures.rows)
+          c.latest-latest.ensures.at in
           let k = kept-some w.count.result w.filter.result _ w.filter.ensures (λ x b q. search (rules, tests)) w.in_ok-n.was in
           rw w.extra-is
           (beyond-more v (sym k.0 ∙ rw (w.of-entries.ensures, c.slice-words.ensures.value) at w.count.ensures) k.1)

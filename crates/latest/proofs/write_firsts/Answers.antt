@@ -1,4 +1,3 @@
-use mathlib.Core.Path.{refl}
 use native.Mathlib.Omega.{arith}
 use Rattle.spec.proofs.Words.{told}
 use Rattle.latest.proofs.Laws.{latest-table, firsts-start, firsts-out, firsts-room, firsts_more}
@@ -14,7 +13,7 @@ pub of-requires : goal.of-requires
 of-requires c =
     let h = rw c.items-m.ensures.0 at c.loop-i-test.true in
     rw c.slice-words.ensures.value
-    (latest-table _ _ c.slice-words.ensures.head.head c.items-m.ensures.0 refl c.latest_at-t.ensures h)
+    (latest-table _ _ c.slice-words.ensures.head.head c.latest-latest.ensures.rows c.latest-latest.ensures.at h)
 
 pub write_first-requires : goal.write_first-requires
 write_first-requires c =
@@ -31,8 +30,8 @@ loop-i-preserved c =
     elim c.if-has.branch [
       | then-has w ↦
           rw (w.out-is, w.c-is)
-          (firsts_more v h (told c.has.ensures w.if-has.true) refl c.latest_at-t.ensures
-          (rw (w.of.ensures, c.slice-words.ensures.value, c.items-m.ensures.0, first-of) at w.write_first.ensures))
+          (firsts_more v h (told c.has.ensures w.if-has.true) c.latest-latest.ensures.rows c.latest-latest.ensures.at
+          (rw (w.of.ensures, c.slice-words.ensures.value, first-of) at w.write_first.ensures))
       | else-has w ↦ rw (w.out-is, w.c-is) (firsts-out v h (told c.has.ensures w.if-has.false))
     ]
 

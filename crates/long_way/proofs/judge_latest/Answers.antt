@@ -10,6 +10,8 @@ returns-then-cat-ne-CONDITION c =
 
 pub returns : goal.returns
 returns c =
-    found-entries (category c.args.model.now) _ _ _ _ _ _ _ c.items-m.ensures.0
-    (rw c.ring_size.ensures.is at c.latest_at-t.ensures) (told c.requires.item_bound.1 c.if-cat-ne-CONDITION.false)
+    let table = c.latest_table.ensures in
+    found-entries (category c.args.model.now) _ _ _ _ _ _ _ (rw c.items-m.ensures.0 at table.rows)
+    (rw c.ring_size-n.ensures.is at table.at)
+    (told c.requires.item_bound.1 c.if-cat-ne-CONDITION.false)
     (rw c.of-entries.ensures at c.judge.ensures)

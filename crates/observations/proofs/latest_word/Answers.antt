@@ -3,4 +3,5 @@ use Rattle.observations.proofs.latest_word.Goals as goal
 
 pub returns : goal.returns
 returns c =
-    rw (← c.ring_size.ensures.is, ← c.latest_at.ensures, c.row_at-latest.ensures)
+    let t = c.latest_table-latest.ensures in
+    rw (← c.ring_size.ensures.is, ← t.at, ← t.rows, c.row_at.ensures)

@@ -5,4 +5,5 @@ use Rattle.plain.proofs.put_number.Goals as goal
 pub returns : goal.returns
 unfolding put_number
 returns c =
-    rw (c.set_last.ensures, c.put_row.ensures, c.latest_at-latest.ensures, c.put_ring.ensures)
+    let latest = c.latest_table-latest.ensures in
+    rw (c.set_last.ensures, c.put_row.ensures, latest.at, latest.rows, c.put_ring.ensures)

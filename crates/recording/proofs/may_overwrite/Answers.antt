@@ -17,5 +17,7 @@ returns-then-category-ne-CONDITION c =
 
 pub returns : goal.returns
 returns c =
-    over-entries _ _ _ _ _ _ c.item_of-item.ensures (omega arith) _ _ c.items-m.ensures.0
-    c.checkpoint_at-t.ensures (told c.category.ensures c.if-category-ne-CONDITION.false) (rw c.of-entries.ensures at c.takes_one.ensures)
+    let table = c.checkpoint_table.ensures in
+    over-entries _ _ _ _ _ _ c.item_of-item.ensures (omega arith) _ _ (rw c.items-m.ensures.0 at table.rows)
+    (rw c.items-m.ensures.0 at table.at)
+    (told c.category.ensures c.if-category-ne-CONDITION.false) (rw c.of-entries.ensures at c.takes_one.ensures)

@@ -13,4 +13,4 @@ returns c =
     let b = eight-changed _ _ change.result _ fits (omega arith) c.change_front-2.ensures in
     let d = eight-changed _ _ change.result _ fits (omega arith) c.change_front-3.ensures in
     step-put _ _ _ _ c.requires.table.inside c.requires.table.room change.result fits _ _ _ _ form
-    ((rw c.of.ensures at c.fill.ensures.marks_after) form) change.ensures.value a b d
+    ((rw c.from_row.ensures at c.fill.ensures.marks_after) form) change.ensures.value a b d
