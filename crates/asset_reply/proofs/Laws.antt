@@ -5,8 +5,8 @@ use mathlib.Core.Bool.{Bool, true, false}
 use mathlib.Core.List.{List, [], ◌∷◌, ◌++◌}
 use native.Mathlib.Numerals.{add-one}
 use native.Mathlib.Omega.{arith}
-use lib.ListN.{length, get_or, set, take, drop, length-set, length-drop, drop_of_length-le}
-use lib.Seq.{sets, drop-cons}
+use lib.ListN.{length, get_or, set, take, drop, length-set, length-append, length-drop, drop_of_length-le}
+use lib.Seq.{sets, drop-cons, append_snoc}
 use Rattle.spec.specs.Assets.{max_assets, capacity, used, length_at, length_ok}
 use Rattle.asset_reply.specs.Cells.{Cells}
 use Rattle.spec.specs.Reply.{refuse, numbers, lengths, written, asset_words, asset_reply}
@@ -60,9 +60,6 @@ pub record Writing (bs cells : List ℕ) (k : ℕ) (o l : List ℕ) (i : ℕ) : 
   pub all : sets (sets o 0 (numbers (cell_rows bs cells))) k (lengths (cell_rows bs cells))
       ≡ sets (sets l i (numbers (cell_rows bs (drop i cells)))) (k + i) (lengths (cell_rows bs (drop i cells)))
 
-pub writing-none : (bs cells : List ℕ) (k : ℕ) (o : List ℕ) → Writing bs cells k o o 0
-writing-none bs cells k o = let z : k + 0 ≡ k = omega arith in record { below = omega arith; size = refl; all = rw z }
-
 module _ {bs cells o l : List ℕ} {k i : ℕ} (w : Writing bs cells k o l i) (many : length cells ≡ k) where
   pub writing_more : i < k → (c n : ℕ) → get_or cells i 0 ≡ c → n ≡ length_at bs c
       → Writing bs cells k o (set (set l i c) (k + i) n) (i + 1)
@@ -89,15 +86,15 @@ module _ {bs cells o l : List ℕ} {k i : ℕ} (w : Writing bs cells k o l i) (m
   unfolding numbers lengths cell_rows
   writing-end h = sym (w.all ∙ rw (no_cell cells many i h))
 
--- ---- the reply of k cells: r says whether their lengths are right
+-- ---- the reply of k cells whose lengths are right
 
 module _ (bs : List ℕ) {reply x : List ℕ} {k u a : ℕ} {t : Bool} (w : Fitted reply (2 * k) (k ∷ u ∷ a ∷ 0 ∷ []) t x)
-    (iu : u ≡ used bs) (ia : a ≡ capacity bs) (cells : List ℕ) {r : Bool} (many : length cells ≡ k)
-    (e : r ≡ all_cells (λ i. length_ok (length_at bs i)) cells) (right : r ≡ true) where
+    (iu : u ≡ used bs) (ia : a ≡ capacity bs) (cells : List ℕ) (many : length cells ≡ k)
+    (right : all_cells (λ i. length_ok (length_at bs i)) cells ≡ true) where
   in_words : (let rows = cell_rows bs cells in
       cells_reply bs cells reply ≡ written k (k ∷ u ∷ a ∷ 0 ∷ (numbers rows ++ lengths rows)) reply)
   unfolding cells_reply asset_reply asset_words
-  in_words = rw (← e, right, ← iu, ← ia, length-rows bs cells, many)
+  in_words = rw (right, ← iu, ← ia, length-rows bs cells, many)
 
   row_count : k ≡ length (numbers (cell_rows bs cells))
   row_count = sym (length-numbers (cell_rows bs cells) ∙ length-rows bs cells ∙ many)
@@ -118,11 +115,10 @@ module _ (bs : List ℕ) {reply x : List ℕ} {k u a : ℕ} {t : Bool} (w : Fitt
       let rows = cell_rows bs cells in
       in_words ∙ whole w (numbers rows) (lengths rows) row_words row_count fits y ey
 
-pub cells-wrong : (bs cells reply : List ℕ) (r : Bool) → r ≡ all_cells (λ i. length_ok (length_at bs i)) cells
-    → r ≡ false
+pub cells-wrong : (bs cells reply : List ℕ) → all_cells (λ i. length_ok (length_at bs i)) cells ≡ false
     → cells_reply bs cells reply ≡ refuse Store reply
 unfolding cells_reply
-cells-wrong bs cells reply r e f = rw (← e, f)
+cells-wrong bs cells reply f = rw f
 
 -- ---- u - 1, .. 0
 
@@ -131,11 +127,20 @@ unfolding down_from
 length-down zero = refl
 length-down (suc n) = ap suc (length-down n)
 
-pub down-at : (n i : ℕ) → i < n → get_or (down_from n) i 0 ≡ n - 1 - i
+down-at : (n i : ℕ) → i < n → get_or (down_from n) i 0 ≡ n - 1 - i
 unfolding down_from
 down-at zero i h = absurd (omega arith)
 down-at (suc n) zero h = omega arith
 down-at (suc n) (suc i) h = omega (arith, down-at n i (omega arith))
+
+-- one more is listed
+pub down-more : (xs : List ℕ) (i : ℕ) → 0 < i → (xs ++ (i - 1) ∷ []) ++ down_from (i - 1) ≡ xs ++ down_from i
+unfolding down_from
+down-more xs zero h = absurd (omega arith)
+down-more xs (suc i) h = let q : suc i - 1 ≡ i = omega arith in rw q (append_snoc xs i (down_from i))
+
+pub down-room : (xs : List ℕ) (i n : ℕ) → xs ++ down_from i ≡ down_from n → length xs + i ≡ n
+down-room xs i n e = omega (arith, ap length e, length-append xs (down_from i), length-down i, length-down n)
 
 pub newest-cells : (bs : List ℕ) (u : ℕ) → u ≤ capacity bs → capacity bs ≤ max_assets → Cells bs (down_from u)
 newest-cells bs u h m =

@@ -2,13 +2,14 @@
 use Prim.Native.Nat.{ℕ, zero, suc, ◌+◌, ◌-◌, ◌*◌, ◌/◌, ◌%◌, ◌≤◌, ◌<◌}
 use mathlib.Core.Path.{◌≡◌, refl, sym, ap, ◌∙◌}
 use mathlib.Core.Bool.{Bool, true, false, ◌&&◌, not, cond, false≢true}
-use mathlib.Core.List.{List, [], ◌∷◌, append-nil}
+use mathlib.Core.List.{List, [], ◌∷◌, ◌++◌}
 use native.Mathlib.Omega.{arith}
 use borrow.Author.Tests.{le-leb, leb-true, ltb-true, lt-ltb, le-ltb, eq-eqb, ne_eqb}
 use Rattle.spec.proofs.Found.{found-is, found-not}
 use lib.Dec.{leb, ltb, eqb}
-use lib.ListN.{length, set, take, drop, replicate, length-replicate, length-drop, drop_of_length-le}
-use lib.Seq.{sets, sets-eq, drop-drop, take_all, length-take-le}
+use lib.ListN.{length, set, take, drop, replicate, length-drop}
+use Rattle.std.proofs.lemmas.List.{drop-replicate}
+use lib.Seq.{drop-drop, take_all, length-take-le}
 use Rattle.spec.specs.Bytes.{same}
 use Rattle.spec.specs.Assets.{max_assets, id_bytes, cell_bytes, asset_bytes, max_body, capacity, used, ids_at}
 use Rattle.spec.specs.Assets.{bodies_at}
@@ -16,7 +17,7 @@ use Rattle.spec.specs.Assets.{store_bytes}
 use Rattle.spec.specs.Assets.{AssetHead, asset_head_ok, start_assets, id_ok, length_ok, cell, id_cell, body_cell, find}
 use Rattle.spec.specs.Assets.{length_at, body_place}
 use Rattle.spec.specs.Assets.{renew, used_after, out_for, cell_for, store_cells}
-use Rattle.spec.proofs.Assets.{id-max, given-up-max}
+use Rattle.spec.proofs.Assets.{given-up-max}
 use Rattle.assets.specs.Cells.{with_asset}
 use Rattle.std.specs.Prelude.{Option, Some, None, Result, Ok, Err, MatchResult}
 use Rattle.std.specs.Result.{result_ok}
@@ -39,18 +40,9 @@ head-last bs a e b c d n f = rw (f, ← e, le-leb _ _ b, le-leb _ _ c, le-leb _ 
 
 -- ---- start
 
-pub start_is : (bs l : List ℕ) (a : ℕ) → length bs ≡ store_bytes a → l ≡ sets bs 0 (replicate (length bs) 0)
-    → set l 0 a ≡ start_assets a
+pub start_is : (bs : List ℕ) (n a : ℕ) → n ≡ store_bytes a → bs ≡ replicate n 0 → set bs 0 a ≡ start_assets a
 unfolding start_assets
-start_is bs l a h e =
-    let n = length-replicate {A = ℕ} (length bs) 0 in
-    let k : length bs ≤ 0 + length (replicate {A = ℕ} (length bs) 0) = omega arith in
-    let z : l ≡ replicate (length bs) 0 =
-    e
-    ∙ sets-eq (replicate (length bs) 0) bs 0 (omega arith)
-    ∙ rw (drop_of_length-le bs k) (append-nil (replicate (length bs) 0)) in
-    let q : length bs ≡ suc (suc (a * asset_bytes)) = omega arith in
-    rw (z, q)
+start_is bs n a h e = let q : n ≡ suc (suc (a * asset_bytes)) = omega arith in rw (e, q)
 
 -- ---- bodies
 
@@ -60,18 +52,9 @@ length-bytes n h = let high : n / 256 % 256 ≡ n / 256 = omega arith in rw high
 
 -- ---- find
 
-zeros-left : (w n : ℕ) → drop {A = ℕ} n (replicate w 0) ≡ replicate (w - n) 0
-zeros-left w zero = let q : w - 0 ≡ w = omega arith in rw q
-zeros-left zero (suc n) = let q : 0 - suc n ≡ 0 = omega arith in rw q
-zeros-left (suc w) (suc n) = let q : suc w - suc n ≡ w - n = omega arith in rw q (zeros-left w n)
-
 -- the id, written over the front of zeros
-key_of : (id key : List ℕ) → length id ≤ id_bytes → key ≡ sets (replicate id_bytes 0) 0 id → key ≡ id_cell id
-key_of id key h e =
-    let q : 0 + length id ≡ length id = omega arith in
-    e
-    ∙ sets-eq id (replicate id_bytes 0) 0 (omega (arith, length-replicate {A = ℕ} id_bytes 0))
-    ∙ rw (q, zeros-left id_bytes (length id))
+pub key-is : (id front : List ℕ) → front ≡ id → front ++ drop (length id) (replicate id_bytes 0) ≡ id_cell id
+key-is id front e = rw (e, drop-replicate {X = ℕ} (length id) id_bytes 0)
 
 -- a test of the first u chunks
 first-on : (p q : ℕ → Bool) → ((i : ℕ) → p (suc i) ≡ q i) → (n i : ℕ) → first_where p n (suc i) ≡ suc (first_where q n i)
@@ -106,14 +89,14 @@ first-chunk q w (suc k) (suc u) xs h =
     go false a b e = omega arith
 
 -- the id cells are the first chunks behind the head, and each is compared with the id's own cell
-pub find-is : (bs id key rest : List ℕ) (k : ℕ) → id_ok id ≡ true → key ≡ sets (replicate id_bytes 0) 0 id
+pub find-is : (bs id key rest : List ℕ) (k : ℕ) → id_ok id ≡ true → key ≡ id_cell id
     → rest ≡ drop ids_at bs → used bs ≤ k
     → position_or_len (λ c. same c key) (take (used bs) (first_chunks id_bytes k rest)) ≡ find bs id
 unfolding find
 find-is bs id key rest k h e d l =
     let is : (i : ℕ) → same (take id_bytes (drop (id_bytes * i) rest)) key ≡ same (cell id_bytes ids_at i bs) (id_cell id) =
     λ i.
-    rw (key_of id key (id-max id h) e, d, drop-drop (id_bytes * i) ids_at bs)
+    rw (e, d, drop-drop (id_bytes * i) ids_at bs)
     (ap (λ (j : ℕ). same (take id_bytes (drop j bs)) (id_cell id)) (omega arith)) in
     first-chunk (λ c. same c key) id_bytes k (used bs) rest l
     ∙ first-same _ (λ i. same (cell id_bytes ids_at i bs) (id_cell id)) is (used bs) 0
@@ -121,7 +104,7 @@ find-is bs id key rest k h e d l =
 
 -- what the library's search over the cells gives
 pub found-cell : (bs id key rest : List ℕ) (ids cells : List (List ℕ)) (r : Option ℕ) → id_ok id ≡ true
-    → key ≡ sets (replicate id_bytes 0) 0 id → rest ≡ take (length bs - ids_at) (drop ids_at bs)
+    → key ≡ id_cell id → rest ≡ take (length bs - ids_at) (drop ids_at bs)
     → ids ≡ first_chunks id_bytes (length rest / id_bytes) rest → length ids ≡ length rest / id_bytes
     → cells ≡ take (used bs) ids → AssetHead bs
     → r ≡ (let n = position_or_len (λ c. same c key) cells in cond (ltb n (length cells)) (Some n) None)

@@ -70,7 +70,7 @@ pub fn asset_ok(id: &[u8], body: &[u8]) -> bool
     id_ok(id) && length_ok(body.len() as u64)
 }
 
-// The assets of a store with a right head, or refusal 2. Why no trait has this: model::checked.
+// The assets of a store with a right head, or refusal Store. Why no trait has this: model::checked.
 pub fn checked<'a>(bs: &'a [u8]) -> Result<Assets<'a>, Refusal>
     ensures { MatchResult result
         (λ s. (s ≡ bs.entry.now) × (spec.asset_head_ok bs.entry.now ≡ true))
@@ -96,8 +96,7 @@ pub fn start(bs: &mut [u8], a: u64)
     requires bs_len { length bs.old ≡ spec.store_bytes a }
     ensures { bs.new ≡ spec.start_assets a }
 {
-    let n = bs.len();
-    cells::clear(bs, 0, n);
+    bs.fill(0);
     bs[CAPACITY_AT] = a as u8;
 }
 

@@ -59,14 +59,14 @@ impl<'a> Assets<'a> {
             return None;
         }
         let mut key = [0u8; ID_BYTES];
-        cells::write(&mut key, 0, id);
+        key[..id.len()].copy_from_slice(id);
         let (ids, _) = bytes[IDS_AT..].as_chunks::<ID_BYTES>();
         // not by `used`: read in place, the byte costs the callers less
         let used = usize::from(bytes[USED_AT]);
-        let i = ids[..used]
+        ids[..used]
             .iter()
-            .position(|cell| cells::same_bytes(cell, &key))?;
-        Some(i as u64)
+            .position(|cell| cells::same_bytes(cell, &key))
+            .map(|i| i as u64)
     }
 
     // Where the body cells begin.

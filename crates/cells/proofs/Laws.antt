@@ -9,9 +9,9 @@ use mathlib.Core.Bool.{Bool, true, ◌&&◌, and_assoc, and-true}
 use lib.Dec.{eqb}
 use lib.ListN.{length, get_or, set, take, drop, replicate, length-set, length-append, length-drop, length-replicate}
 use lib.ListN.{drop_of_length-le}
-use lib.Seq.{sets, sets-eq, drop-cons, drop-set-lt, get_or-drop, get_or-take, drop-drop, length-take-le}
+use lib.Seq.{paste, sets, sets-eq, length-sets, drop-cons, drop-set-lt, get_or-drop, get_or-take, drop-drop, length-take-le}
 use borrow.Rule.Slice.PartMut.{put_mid}
-use Rattle.std.proofs.lemmas.List.Edits.{paste_all}
+use Rattle.std.proofs.lemmas.List.Edits.{paste_all, paste-paste}
 use Rattle.std.proofs.lemmas.Slice.{put_mid-paste}
 use Rattle.spec.specs.Bytes.{same, pad}
 use Rattle.spec.specs.Assets.{renew}
@@ -42,16 +42,12 @@ module _ {s t : List ℕ} {fine : Bool} {xs ys : List ℕ} (r : Comparing s t fi
 
 -- ---- writing
 
--- a part that was written over, as the bytes set there
-pub part-set : (a k : ℕ) (o v w : List ℕ) → v ≡ w → k ≡ length w → a + length w ≤ length o
-    → put_mid a k o v ≡ sets o a w
-part-set a k o v w e f h =
-    put_mid-paste a k o v w k e refl f
-    ∙ (paste_all o a w k f ∙ (sym (append_assoc (take a o) w _) ∙ rw f (sym (sets-eq w o a h))))
-
--- the n bytes from a on
-pub part_length : (a n : ℕ) (o : List ℕ) → a + n ≤ length o → length (take n (drop a o)) ≡ n
-part_length a n o h = length-take-le n (drop a o) (omega (arith, length-drop a o))
+-- w copied over the bytes from a on
+pasted : (a n : ℕ) (o w : List ℕ) → n ≡ length w → a + n ≤ length o → paste o a w n ≡ sets o a w
+pasted a n o w e h =
+    paste_all o a w n e
+    ∙ sym (append_assoc (take a o) w (drop (a + n) o))
+    ∙ rw e (sym (sets-eq w o a (omega arith)))
 
 -- ---- padded cells
 
@@ -61,41 +57,54 @@ padded-length w s h =
 
 -- ---- cells renewed
 
--- two runs, one behind the other, are one
-pub sets-append : (l x y : List ℕ) (i : ℕ) → sets (sets l i x) (i + length x) y ≡ sets l i (x ++ y)
-sets-append l [] y i = rw (add-zero i)
-sets-append l (a ∷ x) y i =
-    let q : i + suc (length x) ≡ suc i + length x = omega arith in
-    rw q (sets-append (set l i a) x y (suc i))
-
--- the moved bytes, then the new cell in three runs
-pub renew-runs : (at w moved : ℕ) (head s o l₁ l₂ l₃ l₄ : List ℕ) → at + w + moved ≤ length o
+-- the moved bytes, then the new cell in three parts: v₁, v₂ and v₃ are what each comes back as
+pub renew-runs : (at w moved : ℕ) (head s o l v₁ v₂ v₃ : List ℕ) → at + w + moved ≤ length o
     → length head + length s ≤ w
-    → l₁ ≡ sets o at (take moved (drop (at + w) o))
-    → l₂ ≡ sets l₁ (at + moved) head
-    → l₃ ≡ sets l₂ (at + moved + length head) s
-    → l₄ ≡ sets l₃ (at + moved + length head + length s) (replicate (w - length head - length s) 0)
-    → l₄ ≡ sets o at (take moved (drop (at + w) o) ++ pad w (head ++ s))
-renew-runs at w moved head s o l₁ l₂ l₃ l₄ hb hs e₁ e₂ e₃ e₄ =
+    → l ≡ sets o at (take moved (drop (at + w) o))
+    → v₁ ≡ head
+    → v₂ ≡ s
+    → v₃ ≡ replicate (w - length head - length s) 0
+    → (let last = at + moved in
+    let body = last + length head in
+    let rest = body + length s in
+    put_mid rest (last + w - rest) (put_mid body (rest - body) (put_mid last (body - last) l v₁) v₂) v₃)
+    ≡ sets o at (take moved (drop (at + w) o) ++ pad w (head ++ s))
+renew-runs at w moved head s o l v₁ v₂ v₃ hb hs e₁ f₁ f₂ f₃ =
     let m = take moved (drop (at + w) o) in
-    let lm : length m ≡ moved = part_length (at + w) moved o (omega arith) in
-    let z : w - length head - length s ≡ w - length (head ++ s) = omega (arith, length-append head s) in
-    let q : at + moved + length head + length s ≡ at + moved + length (head ++ s) =
-    omega (arith, length-append head s) in
-    let k : at + moved ≡ at + length m = omega arith in
-    e₄
-    ∙ rw (
-      e₃,
-      e₂,
-      z,
-      q,
-      sets-append l₁ head s (at + moved),
-      sets-append l₁ (head ++ s)
-          (replicate (w - length (head ++ s)) 0) (at + moved),
-      e₁,
-      k,
-    )
-    (sets-append o m (pad w (head ++ s)) at)
+    let lm : length m ≡ moved = length-take-le moved (drop (at + w) o) (omega (arith, length-drop (at + w) o)) in
+    let n = length head + length s in
+    let left = w - length head - length s in
+    let zeros : List ℕ = replicate left 0 in
+    let lz : length zeros ≡ left = length-replicate left 0 in
+    let la : length (head ++ s) ≡ n = length-append head s in
+    let lc : length ((head ++ s) ++ zeros) ≡ w = omega (arith, length-append (head ++ s) zeros) in
+    let ll : length l ≡ length o = ap length e₁ ∙ length-sets o at m in
+    let last = at + moved in
+    let body = last + length head in
+    let rest = body + length s in
+    let q : rest ≡ last + n = omega arith in
+    let c₁ : l ≡ paste o at m moved = e₁ ∙ sym (pasted at moved o m (sym lm) (omega arith)) in
+    let c₂ : put_mid last (body - last) l v₁ ≡ paste l last head (length head) =
+    put_mid-paste last (body - last) l v₁ head (length head) f₁ (omega arith) refl in
+    let c₃ : put_mid body (rest - body) (paste l last head (length head)) v₂ ≡ paste l last (head ++ s) n =
+    put_mid-paste body (rest - body) _ v₂ s (length s) f₂ (omega arith) refl
+    ∙ paste-paste l last head s (length head) (length s) refl refl (omega arith) in
+    let c₄ : put_mid rest (last + w - rest) (paste l last (head ++ s) n) v₃
+    ≡ paste l last ((head ++ s) ++ zeros) (n + left) =
+    put_mid-paste rest (last + w - rest) _ v₃ zeros left f₃ (omega arith) (sym lz)
+    ∙ ap (λ (k : ℕ). paste (paste l last (head ++ s) n) k zeros left) q
+    ∙ paste-paste l last (head ++ s) zeros n left (sym la) (sym lz) (omega arith) in
+    let c₅ : paste (paste o at m moved) last ((head ++ s) ++ zeros) (n + left)
+    ≡ paste o at (m ++ ((head ++ s) ++ zeros)) (moved + (n + left)) =
+    paste-paste o at m ((head ++ s) ++ zeros) moved (n + left) (sym lm) (omega arith) (omega arith) in
+    let z : left ≡ w - length (head ++ s) = omega arith in
+    let k : moved + (n + left) ≡ length (m ++ ((head ++ s) ++ zeros)) =
+    omega (arith, length-append m ((head ++ s) ++ zeros)) in
+    rw (c₂, c₃, c₄)
+    (ap (λ (x : List ℕ). paste x last ((head ++ s) ++ zeros) (n + left)) c₁
+    ∙ c₅
+    ∙ pasted at (moved + (n + left)) o (m ++ ((head ++ s) ++ zeros)) k (omega arith)
+    ∙ ap (λ (i : ℕ). sets o at (m ++ ((head ++ s) ++ replicate i 0))) z)
 
 -- where the cells begin, without the base: cell n - 1 is the last, and behind `out` stand n - 1 - out more
 pub record Places (w out n : ℕ) : Type 0 where
@@ -119,7 +128,8 @@ renew-is w b out n c o h hb hc =
     let p = places w out n h in
     let at = b + out * w in
     let moved = take ((n - 1 - out) * w) (drop (at + w) o) in
-    let lm : length moved ≡ (n - 1 - out) * w = part_length (at + w) ((n - 1 - out) * w) o (omega arith) in
+    let lm : length moved ≡ (n - 1 - out) * w =
+    length-take-le ((n - 1 - out) * w) (drop (at + w) o) (omega (arith, length-drop (at + w) o)) in
     let l = length-append moved c in
     let t : at + length (moved ++ c) ≡ b + n * w = omega arith in
     let v : at + w ≡ b + suc out * w = omega (arith, suc-mul out w) in

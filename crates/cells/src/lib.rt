@@ -1,4 +1,4 @@
-// Cells of bytes inside a store, of any width: compared, written, cleared, moved down, renewed.
+// Cells of bytes inside a store, of any width: compared, moved down, renewed.
 #![tactic(auto)]
 
 ghost use Rattle.std.specs.Prelude.{◌≡◌, ◌++◌, suc, ◌+◌, ◌*◌, ◌<◌, ◌≤◌, length, take, drop, replicate};
@@ -17,22 +17,6 @@ pub fn same_bytes(a: &[u8], b: &[u8]) -> bool
         fine &= x == y;
     }
     fine
-}
-
-// The bytes of s stand from `at` on.
-pub fn write(bs: &mut [u8], at: usize, s: &[u8])
-    requires { at + length s.now ≤ length bs.old }
-    ensures { bs.new ≡ sets bs.old at s.now }
-{
-    bs[at..at + s.len()].copy_from_slice(s);
-}
-
-// n zeros stand from `at` on.
-pub fn clear(bs: &mut [u8], at: usize, n: usize)
-    requires { at + n ≤ length bs.old }
-    ensures { bs.new ≡ sets bs.old at (replicate n 0) }
-{
-    bs[at..at + n].fill(0);
 }
 
 // The n bytes that stood `gap` further on stand from `at` on. No copy_within: with it, an asset in place of the oldest
@@ -55,15 +39,17 @@ fn renew_at(bs: &mut [u8], at: usize, w: usize, moved: usize, head: &[u8], s: &[
         (take moved (drop (at + w) bs.old) ++ pad w (head.now ++ s.now)) }
 {
     let last = at + moved;
-    let left = w - head.len() - s.len();
+    let body = last + head.len();
+    let rest = body + s.len();
     move_down(bs, at, w, moved);
-    write(bs, last, head);
-    write(bs, last + head.len(), s);
-    clear(bs, last + head.len() + s.len(), left);
+    bs[last..body].copy_from_slice(head);
+    bs[body..rest].copy_from_slice(s);
+    bs[rest..last + w].fill(0);
 }
 
 // Of n cells of w bytes from b on, cell `out` is given up, those behind it move down whole, and the last one becomes
-// `head` and `s`, zero padded to its end.
+// `head` and `s`, zero padded to its end. A width in the type is no plainer: as_chunks_mut asks that it isn't 0, and
+// tells nothing of what the bytes end as.
 pub fn renew_cells(bs: &mut [u8], w: usize, b: usize, out: usize, n: usize, head: &[u8], s: &[u8])
     requires out_lt_n { out < n }
     requires w_in_bounds { b + n * w ≤ length bs.old }

@@ -1,16 +1,17 @@
 -- Laws of the model check over plain variables: each branch of a function is one of them.
-use Prim.Native.Nat.{ℕ, suc, ◌+◌, ◌-◌, ◌≤◌, ◌<◌}
-use mathlib.Core.Path.{◌≡◌, refl, sym, ◌∙◌}
+use Prim.Native.Nat.{ℕ, zero, suc, ◌+◌, ◌-◌, ◌≤◌}
+use mathlib.Core.Path.{◌≡◌, refl, ap, ◌∙◌}
 use mathlib.Core.Bool.{Bool, true, false, cond, ◌&&◌, not}
 use mathlib.Core.List.{List, [], ◌∷◌}
 use native.Mathlib.Numerals.{add-one}
 use native.Mathlib.Omega.{arith}
 use lib.Dec.{leb, ltb, eqb}
-use borrow.Author.Tests.{ltb-false}
+use borrow.Author.Tests.{ltb-false, lt-ltb, le-ltb}
 use lib.ListN.{length}
-use Rattle.std.specs.List.{position_or_len}
+use Rattle.std.specs.List.{position_or_len, list_all, find, range_with_len}
 use Rattle.std.specs.Prelude.{Option, Some, None}
-use Rattle.std.specs.Option.{unwrap_or}
+use Rattle.std.specs.Option.{option_map, unwrap_or}
+use Rattle.spec.specs.Found.{found_below}
 use Rattle.std.proofs.lemmas.List.Sums.{prefix_len-le-length}
 use Rattle.spec.specs.Words.{every, first_where, count_below}
 use Rattle.spec.specs.Bytes.{name_byte}
@@ -49,22 +50,51 @@ letters-found s r n e f = let z : n ≡ letters s = f ∙ rw (e, letters-is s) (
     go true h = refl
     go false h = omega (arith, most, ltb-false (letters s) (length s) h)
 
--- ---- the loops over components and items
+-- ---- the numbers from s on, as the library goes over them and as the definitions do
+
+range-every : (p : ℕ → Bool) (n s : ℕ) → list_all p (range_with_len s n) ≡ every p n s
+unfolding every
+range-every p zero s = refl
+range-every p (suc n) s = rw (add-one s) (ap (λ (t : Bool). p s && t) (range-every p n (suc s)))
+
+range-first : (p : ℕ → Bool) (n s : ℕ) → find p (range_with_len s n) ≡ found_below (s + n) (first_where p n s)
+unfolding first_where
+range-first p zero s = let z : s + 0 ≡ s = omega arith in rw (z, le-ltb s s (omega arith))
+range-first p (suc n) s =
+    let z : suc s + n ≡ s + suc n = omega arith in
+    rw (add-one s, range-first p n (suc s), z) (go (p s))
+  where
+    go : (t : Bool) → cond t (Some s) (found_below (s + suc n) (first_where p n (suc s)))
+        ≡ found_below (s + suc n) (cond t s (first_where p n (suc s)))
+    go true = rw (lt-ltb s (s + suc n) (omega arith))
+    go false = refl
+
+-- ---- components and items
+
+pub components-all : (model : List ℕ) (names c : ℕ) (r : Bool) → c ≡ components model
+    → r ≡ list_all (λ i. component_ok names i (component_word model i)) (range_with_len 0 c)
+    → r ≡ components_ok model names
+unfolding components_ok
+components-all model names c r ec e =
+    e ∙ range-every (λ i. component_ok names i (component_word model i)) c 0 ∙ rw ec
+
+pub change-found : (model : List ℕ) (m : ℕ) (r : Option ℕ) → m ≡ items model
+    → option_map (λ x. x) r ≡ find (is_change model) (range_with_len 0 m)
+    → r ≡ found_below (items model) (change_item model)
+unfolding change_item
+change-found model m r em e =
+    let z : 0 + items model ≡ items model = omega arith in
+    same r ∙ e ∙ range-first (is_change model) m 0 ∙ rw (em, z)
+  where
+    same : (o : Option ℕ) → o ≡ option_map (λ x. x) o
+    same None = refl
+    same (Some x) = refl
 
 module _ (model : List ℕ) (names c : ℕ) (ec : c ≡ components model) where
-  pub components-start : components_ok model names
-      ≡ every (λ k. component_ok names k (component_word model k)) (c - 0) 0
-  unfolding components_ok
-  components-start = let q : c - 0 ≡ components model = omega arith in rw q
-
   pub items-start : (m : ℕ) → m ≡ items model
       → items_ok model names ≡ every (λ k. item_ok (components model) names (item_word model k)) (m - 0) 0
   unfolding items_ok
   items-start m em = let q : m - 0 ≡ items model = omega arith in rw q
-
-  pub component-at : (i x : ℕ) (t u : Bool) → t ≡ component_ok names i x → x ≡ component_word model i → t ≡ u
-      → component_ok names i (component_word model i) ≡ u
-  component-at i x t u e q z = rw (← q, ← e, z)
 
   pub item-at : (j x : ℕ) (t u : Bool) → t ≡ item_ok c names x → x ≡ item_word model j → t ≡ u
       → item_ok (components model) names (item_word model j) ≡ u
@@ -73,11 +103,6 @@ module _ (model : List ℕ) (names c : ℕ) (ec : c ≡ components model) where
 pub change-more : (model : List ℕ) (j k x r : ℕ) → x ≡ item_word model j → k ≡ count_below (is_change model) j
     → r ≡ cond (eqb (category_of x) asset_change) 1 0 → k + r ≡ count_below (is_change model) (j + 1)
 change-more model j k x r ex ek er = rw (count-step (is_change model) j, ek, er, ex)
-
-pub change-start : (model : List ℕ) (m : ℕ) → m ≡ items model
-    → change_item model ≡ first_where (is_change model) (m - 0) 0
-unfolding change_item
-change-start model m em = let q : m - 0 ≡ items model = omega arith in rw q
 
 -- the end of the items' loop, and a word in it that is none
 module _ (model : List ℕ) (names : ℕ) where

@@ -51,12 +51,7 @@ fn one_if_change(word: u64) -> u64
 pub fn components_ok(model: &Words<'_>, names: u64) -> bool
     ensures { result ≡ components_ok model.now names }
 {
-    for i in 0..model.components() {
-        if !component_ok(names, i, model.component_word(i)) {
-            return false;
-        }
-    }
-    true
+    (0..model.components()).all(|i| component_ok(names, i, model.component_word(i)))
 }
 
 // Whether every data item's word is one, and at most one of them of an asset change item.
@@ -65,6 +60,7 @@ pub fn items_ok(model: &Words<'_>, names: u64) -> bool
 {
     let c = model.components();
     let mut changes = 0;
+    // No all: it would want a second pass in each call, since the change items are counted on the way.
     for j in 0..model.items() {
         let word = model.item_word(j);
         if !item_ok(c, names, word) {

@@ -101,7 +101,7 @@ pub fn model_ok(model: &[u32], names: &[u8]) -> bool
     checks::components_ok(&words, count) && checks::items_ok(&words, count)
 }
 
-// A model and its names that keep the rules, or refusal 1. No trait over this and what observations and assets have of
+// A model and its names that keep the rules, or refusal Model. No trait over this and what observations and assets have of
 // the name: each has other arguments, another test and another refusal, and they share one `if`.
 pub fn checked<'a>(model: &'a [u32], names: &'a [u8]) -> Result<Named<'a>, Refusal>
     ensures { MatchResult result

@@ -95,11 +95,6 @@ impl<'a> Words<'a> {
     pub fn change_item(&self) -> Option<u64>
         ensures { (result ≡ found_below (items self.now) (change_item self.now)) × (items self.now ≤ max_items) }
     {
-        for j in 0..self.items() {
-            if self.category(j) == ASSET_CHANGE {
-                return Some(j);
-            }
-        }
-        None
+        (0..self.items()).find(|j| self.category(*j) == ASSET_CHANGE)
     }
 }

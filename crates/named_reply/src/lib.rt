@@ -13,7 +13,7 @@ use arrayvec::ArrayVec;
 use assets::Assets;
 use spec::{ASSET_SLOTS, Answer, Refusal};
 
-// The cell of an id, or 13.
+// The cell of an id, or refusal AssetNotFound.
 fn cell_of(assets: &Assets, id: &[u8]) -> Result<u64, Refusal>
     ensures { MatchResult result
         (λ i. (i ≡ find assets.now id.now) × (i < used assets.now) × (used assets.now ≤ capacity assets.now))
@@ -22,8 +22,8 @@ fn cell_of(assets: &Assets, id: &[u8]) -> Result<u64, Refusal>
     assets.find(id).ok_or(Refusal::AssetNotFound)
 }
 
-// The cells of the ids joined by ';', in their order, or 13 by the first that isn't stored. No id is empty, so a text
-// has at most 128.
+// The cells of the ids joined by ';', in their order, or refusal AssetNotFound by the first that isn't stored. No id is
+// empty, so a text has at most 128.
 fn find_all(
     assets: &Assets,
     ids: &[u8],
@@ -41,7 +41,8 @@ fn find_all(
     Ok(())
 }
 
-// The reply of the assets whose ids the text has, joined by ';': 13 by any of them, then 2 by a cell's length.
+// The reply of the assets whose ids the text has, joined by ';': refusal AssetNotFound by any of them, then Store by a
+// cell's length.
 pub fn reply_named(assets: &Assets, ids: &[u8], reply: &mut [u64]) -> Answer
     requires ids_length { length ids.now ≤ longest_text }
     requires ids_value { id_texts (split 59 ids.now) ≡ true }

@@ -3,4 +3,4 @@ use Rattle.asset_reply.proofs.Laws.{Writing}
 use Rattle.asset_reply.proofs.write_cells.Given as goal
 
 abbrev pub invariant-loop-i : goal.invariant-loop-i
-invariant-loop-i g l = Writing l.assets (g.C.Cells.list l.cells) l.k l.initial.out l.out l.i
+invariant-loop-i l = Writing l.assets l.cells l.k l.initial.out l.out l.i

@@ -1,9 +1,8 @@
 -- Zeros everywhere, then A.
-use native.Mathlib.Omega.{arith}
+use borrow.Author.Rules.{rules}
 use Rattle.assets.proofs.Laws.{start_is}
 use Rattle.assets.proofs.start.Goals as goal
 
 pub returns : goal.returns
 returns c =
-    start_is c.args.bs.now _
-    c.args.a (omega arith) c.clear.ensures
+    start_is _ _ c.args.a c.requires.bs_len (search rules)

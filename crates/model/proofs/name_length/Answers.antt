@@ -1,6 +1,5 @@
 -- The length is the place that the library looks for, or that of the whole cell.
 use Rattle.std.proofs.Common.{rules, tests}
-use mathlib.Core.Path.{◌≡◌, ◌∙◌}
 use mathlib.Core.Bool.{not}
 use Rattle.std.proofs.lemmas.Iterator.{YieldsList-from_slice}
 use Rattle.std.proofs.lemmas.Iterator.Search.{position_from_yields_List}

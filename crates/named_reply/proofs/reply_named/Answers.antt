@@ -1,3 +1,5 @@
+use mathlib.Core.Path.{◌≡◌}
+use borrow.Author.Rules.{rules}
 use Rattle.std.proofs.lemmas.Result.{err_from_is_err_and}
 use Rattle.reply.proofs.Laws.{both, passed}
 use Rattle.named_reply.proofs.Laws.{named-missing, named-found}
@@ -11,9 +13,11 @@ returns-in_err-find_all c =
 
 pub reply_cells-requires : goal.reply_cells-requires
 reply_cells-requires c =
-    c.in_ok-find_all.ensures.0
+    let e : c.deref.result.now ≡ c.find_all.new.found.items = search rules in
+    rw e c.in_ok-find_all.ensures.0
 
 pub returns : goal.returns
 returns c =
     let t = c.in_ok-find_all.ensures in
-    passed _ _ (named-found _ _ c.args.reply.now _ t.1.0 t.1.1) c.reply_cells.ensures
+    let e : c.deref.result.now ≡ c.find_all.new.found.items = search rules in
+    passed _ _ (named-found _ _ c.args.reply.now _ t.1.0 t.1.1) (rw e at c.reply_cells.ensures)

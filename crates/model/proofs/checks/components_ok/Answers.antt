@@ -1,23 +1,14 @@
-use Rattle.model.proofs.Laws.{components-start, component-at}
-use Rattle.spec.proofs.Words.{every-no, every-yes, every-end}
-use native.Mathlib.Omega.{arith}
+-- The library's test of all numbers below n is the definition's.
+use Rattle.std.proofs.Common.{refl, rules, tests, arith}
+use Rattle.std.proofs.lemmas.Iterator.{YieldsList-from_range}
+use Rattle.std.proofs.lemmas.Iterator.Search.{all_from_yields_List}
+use Rattle.spec.specs.Model.{component_word, component_ok}
+use Rattle.model.proofs.Laws.{components-all}
 use Rattle.model.proofs.checks.components_ok.Goals as goal
-
-pub loop-i-init : goal.loop-i-init
-loop-i-init c = components-start c.args.model.now _ _ c.components-i-end.ensures.0
-
-pub returns-then-not-component_ok : goal.returns-then-not-component_ok
-returns-then-not-component_ok c =
-    every-no _ _ _ _ c.loop-i.invariant (omega arith)
-    (component-at c.args.model.now _ _ c.components-i-end.ensures.0 _ _ _ _ c.component_ok.ensures
-    c.component_word.ensures c.if-not-component_ok.true)
-
-pub loop-i-preserved : goal.loop-i-preserved
-loop-i-preserved c =
-    every-yes _ _ _ _ c.loop-i.invariant (omega arith)
-    (component-at c.args.model.now _ _ c.components-i-end.ensures.0 _ _ _ _ c.component_ok.ensures
-    c.component_word.ensures c.if-not-component_ok.false)
 
 pub returns : goal.returns
 returns c =
-    every-end _ _ _ _ c.loop-i.invariant (omega arith)
+    let model = c.args.model.now in
+    components-all model c.args.names c.components.result _ c.components.ensures.0
+    (all_from_yields_List (λ i. component_ok c.args.names i (component_word model i)) _ _ c.all.result c.all.ensures.ran
+    (YieldsList-from_range 0 _ c.components.result refl (omega arith)) (λ x b q k. search (rules, tests)))

@@ -1,12 +1,13 @@
 -- The library's position, of the cells compared with the id's own.
-use Rattle.std.proofs.Common.{refl, rules, tests, take, ◌∙◌, sym, arith}
+use Rattle.std.proofs.Common.{refl, rules, tests, take, drop, replicate, length, ◌++◌, ◌≡◌, ◌∙◌, arith}
 use Rattle.std.proofs.lemmas.Iterator.{YieldsList-from_slice}
 use Rattle.std.proofs.lemmas.Iterator.Search.{position_from_yields_List}
 use Rattle.spec.proofs.Words.{told}
 use Rattle.spec.proofs.Found.{found-none}
 use Rattle.spec.specs.Bytes.{same}
+use Rattle.spec.specs.Assets.{id_bytes}
 use Rattle.spec.proofs.Assets.{id-max}
-use Rattle.assets.proofs.Laws.{found-cell, no-id}
+use Rattle.assets.proofs.Laws.{key-is, found-cell, no-id}
 use Rattle.assets.proofs.stored.Assets.find.Goals as goal
 
 pub returns-then-not-id_ok-clause-value : goal.returns-then-not-id_ok-clause-value
@@ -14,8 +15,18 @@ returns-then-not-id_ok-clause-value c =
     let e = no-id c.args.self.now c.args.id.now _ refl (told c.id_ok.ensures c.if-not-id_ok.true) in
     found-none _ (omega arith)
 
-pub write-requires : goal.write-requires
-write-requires c =
+pub slice_bounds-key-end : goal.slice_bounds-key-end
+slice_bounds-key-end c =
+    let h = id-max _ (told c.id_ok.ensures c.if-not-id_ok.false) in
+    omega arith
+
+pub slice_bounds-copy_from_slice-end : goal.slice_bounds-copy_from_slice-end
+slice_bounds-copy_from_slice-end c =
+    let h = id-max _ (told c.id_ok.ensures c.if-not-id_ok.false) in
+    search rules
+
+pub copy_from_slice-requires : goal.copy_from_slice-requires
+copy_from_slice-requires c =
     let h = id-max _ (told c.id_ok.ensures c.if-not-id_ok.false) in
     search rules
 
@@ -23,22 +34,13 @@ pub returns-clause-value : goal.returns-clause-value
 returns-clause-value c =
     let bs = c.self.inside.bytes.now in
     let ids = c.as_chunks.result.0.now in
+    let key = c.copy_from_slice.new.self ++ drop (length c.args.id.now) (replicate id_bytes 0) in
     let p =
-    position_from_yields_List {all = take c.from-used.result ids} (λ x. same x c.write.new.bs) _ _ c.position.result
+    position_from_yields_List {all = take c.from-used.result ids} (λ x. same x key) _ _ c.position.result
     c.position.ensures.ran (YieldsList-from_slice _ c.iter.ensures.rest) (λ x b q k. search (rules, tests)) in
     let f =
-    found-cell bs c.args.id.now c.write.new.bs _ ids _ c.position.result (told c.id_ok.ensures c.if-not-id_ok.false)
-    c.write.ensures refl c.as_chunks.ensures.front c.as_chunks.ensures.front_len (rw c.from-used.ensures) c.self.invariant p in
-    sym c.in_ok-i.was ∙ rw (← c.self.view_is) f
-
-pub returns-in_err-i-clause-value : goal.returns-in_err-i-clause-value
-returns-in_err-i-clause-value c =
-    let bs = c.self.inside.bytes.now in
-    let ids = c.as_chunks.result.0.now in
-    let p =
-    position_from_yields_List {all = take c.from-used.result ids} (λ x. same x c.write.new.bs) _ _ c.position.result
-    c.position.ensures.ran (YieldsList-from_slice _ c.iter.ensures.rest) (λ x b q k. search (rules, tests)) in
-    let f =
-    found-cell bs c.args.id.now c.write.new.bs _ ids _ c.position.result (told c.id_ok.ensures c.if-not-id_ok.false)
-    c.write.ensures refl c.as_chunks.ensures.front c.as_chunks.ensures.front_len (rw c.from-used.ensures) c.self.invariant p in
-    c.from_residual.ensures ∙ sym c.in_err-i.was ∙ rw (← c.self.view_is) f
+    found-cell bs c.args.id.now key _ ids _ c.position.result (told c.id_ok.ensures c.if-not-id_ok.false)
+    (key-is _ _ c.copy_from_slice.ensures.after) refl c.as_chunks.ensures.front c.as_chunks.ensures.front_len
+    (rw c.from-used.ensures) c.self.invariant p in
+    let m : c.map.result ≡ c.position.result = search rules in
+    m ∙ rw (← c.self.view_is) f

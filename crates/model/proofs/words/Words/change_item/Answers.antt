@@ -1,24 +1,16 @@
-use borrow.Author.Tests.{eq-eqb, ne_eqb}
-use Rattle.model.proofs.Laws.{change-start}
-use Rattle.spec.proofs.Words.{first_on}
-use Rattle.spec.proofs.Found.{found_here, found_nowhere}
-use native.Mathlib.Omega.{arith}
-use mathlib.Core.Path.{sym, ◌∙◌}
+-- The library's first number below n with the category is the definition's.
+use Rattle.std.proofs.Common.{refl, rules, tests, arith}
+use Rattle.std.proofs.lemmas.Iterator.{YieldsList-from_range}
+use Rattle.std.proofs.lemmas.Iterator.Search.{find_from_yields_List}
+use Rattle.spec.specs.Model.{is_change}
+use Rattle.model.proofs.Laws.{change-found}
 use Rattle.model.proofs.words.Words.change_item.Goals as goal
-
-pub loop-j-init : goal.loop-j-init
-loop-j-init c = change-start c.args.self.now _ c.items-j-end.ensures.0
-
-pub returns-then-category-eq-ASSET_CHANGE : goal.returns-then-category-eq-ASSET_CHANGE
-returns-then-category-eq-ASSET_CHANGE c =
-    let e = eq-eqb _ _ (sym c.category.ensures ∙ c.if-category-eq-ASSET_CHANGE.true) in
-    (rw (← c.items-j-end.ensures.0) (found_here _ _ _ _ c.loop-j.invariant (omega arith) e), omega arith)
-
-pub loop-j-preserved : goal.loop-j-preserved
-loop-j-preserved c =
-    let n = ne_eqb _ _ (λ e. c.if-category-eq-ASSET_CHANGE.false (c.category.ensures ∙ e)) in
-    first_on _ _ _ _ c.loop-j.invariant (omega arith) n
 
 pub returns : goal.returns
 returns c =
-    (rw (← c.items-j-end.ensures.0) (found_nowhere _ _ _ _ c.loop-j.invariant (omega arith)), omega arith)
+    let model = c.args.self.now in (
+      change-found model c.items.result c.find.result c.items.ensures.0
+          (find_from_yields_List (is_change model) _ _ c.find.result c.find.ensures.ran
+          (YieldsList-from_range 0 _ c.items.result refl (omega arith)) (λ x b q k. search (rules, tests))),
+      omega arith,
+    )
