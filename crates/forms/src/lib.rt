@@ -18,7 +18,8 @@ pub fn numeral(s: &[u8]) -> Option<u64>
     number_of(s, 10, 9999999999)
 }
 
-// A number without a point.
+// A number without a point. This and the next two take the sign, and give no pair of whole part and thousandths, since
+// their definitions do: else each contract would say how a form is made of the pair.
 fn whole_form(minus: bool, w: &[u8]) -> Option<Form>
     ensures { result ≡ whole_form minus w.now }
 {

@@ -1,7 +1,7 @@
 // The value of an adapter line, by its form and the category of its item.
 #![tactic(auto)]
 
-ghost use Rattle.std.specs.Prelude.{◌≡◌, ◌+◌, ◌*◌, unwrap_or};
+ghost use Rattle.std.specs.Prelude.{◌≡◌, ◌+◌, ◌*◌, false, unwrap_or};
 ghost use Rattle.spec.specs.Value.{no_value};
 ghost use Rattle.lines.specs.Lines.{sample_for, event_for, state_for, value_for};
 
@@ -18,13 +18,10 @@ fn sample(minus: bool, n: u64) -> Option<Value>
     Some(Value::Sample(x))
 }
 
-// A whole number as an event; a sign or a point is none's.
-fn event(minus: bool, point: bool, n: u64) -> Option<Value>
-    ensures { unwrap_or result no_value ≡ event_for minus point n }
+// A whole number as an event.
+fn event(n: u64) -> Option<Value>
+    ensures { unwrap_or result no_value ≡ event_for false false n }
 {
-    if minus || point {
-        return None;
-    }
     let code = u32::try_from(n).ok()?;
     Some(Value::Event(code))
 }
@@ -48,7 +45,13 @@ pub fn value_for(category: u64, form: Form) -> Option<Value>
             let n = whole.checked_mul(1000)?.checked_add(part.unwrap_or(0))?;
             sample(minus, n)
         }
-        Form::Decimal { minus, whole, part } => event(minus, part.is_some(), whole),
+        Form::Decimal {
+            minus: false,
+            whole,
+            part: None,
+        } => event(whole),
+        // a sign or a point is no event's
+        Form::Decimal { .. } => None,
         Form::State(level, code) => state(level, code),
     }
 }

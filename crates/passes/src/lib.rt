@@ -2,8 +2,9 @@
 // without a wrap. The place of the pass's first number is FIRST_PLACE.
 #![tactic(auto)]
 
-ghost use Rattle.std.specs.Prelude.{◌≡◌, is_some, ◌-◌, ◌≤◌};
-ghost use Rattle.history.specs.Observations.{ring_size, item_count, base};
+ghost use Rattle.std.specs.Prelude.{◌≡◌, is_some, ◌≤◌};
+ghost use Rattle.history.specs.Observations.{item_count};
+ghost use Rattle.rows.specs.Rows.{RingRange};
 ghost use Rattle.picks.specs.Pass.{Part, Passed};
 ghost use Rattle.passes.specs.Passes.{Skipped};
 
@@ -17,7 +18,7 @@ use spec::ITEM_SLOTS;
 // The numbers of a run to the newest places, while their items are of the model and not in `steps`; the first that
 // isn't, or the run's end. Most rings have few others, and a test for them is all that this costs.
 fn plain_run(st: &Store<'_>, steps: u64, f: u64, run: Run, seen: &mut [u64; ITEM_SLOTS]) -> u64
-    requires { Part st.now f run.from run.to run.place }
+    requires { Part st.now f run }
     ensures bounds { (run.from ≤ result) × (result ≤ run.to) }
     ensures skipped { Skipped steps (item_count st.now) st.now f run.to run.from result seen.old seen.new }
 {
@@ -46,7 +47,7 @@ fn pass_run(
     picks: &mut [u8; PICK_SLOTS],
     marks: &mut Marks,
 ) -> Option<()>
-    requires { Part st.now f run.from run.to run.place }
+    requires { Part st.now f run }
     ensures { let st = st.entry.now in
         Passed steps (item_count st) st f run.from run.to marks.old marks.new seen.old seen.new (is_some result) }
 {
@@ -74,7 +75,7 @@ pub fn pass(
     seen: &mut [u64; ITEM_SLOTS],
     marks: &mut Marks,
 ) -> Option<()>
-    requires { (base st.now ≤ f) × ((f ≤ e) × (e - f ≤ ring_size st.now)) }
+    requires { RingRange st.now f e }
     ensures { let st = st.entry.now in
         Passed steps (item_count st) st f f e marks.old marks.new seen.old seen.new (is_some result) }
 {

@@ -26,6 +26,7 @@ pub fn path_form(path: &[u8]) -> Option<PathForm<'_>>
     ensures names_fit { NamesFit result (length path.now) }
 {
     let names = path.strip_prefix(b"//")?;
+    // find has the definitions' word, and the second part keeps its '/', so it is no split_once
     let Some(end) = scan::find(names, b'/', b'/') else {
         return Some(PathForm::Subtree(names));
     };

@@ -6,7 +6,8 @@ use Rattle.spec.specs.Value.{item_of}
 use Rattle.history.specs.Observations.{ring_size, base, entry}
 use Rattle.marks.specs.Marks.{mark_of, key_of, eight_of}
 use Rattle.changes.specs.Changes.{change_for, changed, is_full}
-use Rattle.rows.specs.Rows.{Unwrapped}
+use Rattle.rows.specs.Rows.{InRing}
+use Rattle.rows.specs.declared.Run.{Run}
 
 -- a condition item's eight behind an entry of its own at a place, by its packed word
 abbrev pub stepped_eight : ℕ → ℕ → ℕ → List ℕ → List ℕ
@@ -34,7 +35,7 @@ word_of st s = get_or (entry (ring_size st) (base st) st s) 1 0
 abbrev pub number_stepped : ℕ → List ℕ → ℕ → ℕ → List (List ℕ) → List (List ℕ)
 number_stepped steps st f s l = stepped steps (item_of (word_of st s)) (s - f + 9) (word_of st s) l
 
--- behind k numbers from s on; refusal 2: each has an item of the model and is no ninth entry
+-- behind k numbers from s on; refused as Store unless each has an item of the model and is no ninth entry
 unfoldable pub pass_marks : ℕ → List ℕ → ℕ → ℕ → ℕ → List (List ℕ) → List (List ℕ)
 pass_marks steps st f zero s l = l
 pass_marks steps st f (suc k) s l = pass_marks steps st f k (suc s) (number_stepped steps st f s l)
@@ -51,12 +52,12 @@ unfoldable pub seen_from : List ℕ → ℕ → ℕ → ℕ → List ℕ → Lis
 seen_from st f zero s w = w
 seen_from st f (suc k) s w = seen_from st f k (suc s) (set w (item_of (word_of st s)) (s - f + 9))
 
--- the numbers from s up to e of a pass that begins with f: they stand in the ring from place p on, without a wrap
-pub record Part (st : List ℕ) (f s e p : ℕ) : Type 0 where
-  pub ordered : s ≤ e
-  pub run : Unwrapped (ring_size st) (base st) e s p
-  pub from : f ≤ s
-  pub near : e - f ≤ ring_size st
+-- a run of a pass that begins with f
+pub record Part (st : List ℕ) (f : ℕ) (r : Run) : Type 0 where
+  pub ordered : r.from ≤ r.to
+  pub run : InRing st r
+  pub from : f ≤ r.from
+  pub near : r.to - f ≤ ring_size st
 
 -- t says whether they pass; if they do, the marks l and the newest places w are l' and w' behind them
 pub record Passed (steps m : ℕ) (st : List ℕ) (f s e : ℕ) (l l' : List (List ℕ)) (w w' : List ℕ) (t : Bool) : Type 0 where

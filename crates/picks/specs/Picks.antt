@@ -3,6 +3,7 @@ use Rattle.std.specs.Prelude.{ℕ, zero, suc, ◌+◌, ◌-◌, ◌<◌, ◌≡�
 use Rattle.spec.specs.Words.{bit}
 use Rattle.spec.specs.Value.{item_of}
 use Rattle.history.specs.Observations.{ring_size, base, place}
+use Rattle.rows.specs.declared.Run.{Run}
 use Rattle.picks.specs.Pass.{stepped_at, fits, word_of, seen_from}
 
 -- as many as are looked through at a time: a pick is below it, and it is none itself
@@ -23,18 +24,18 @@ listed (x ∷ xs) =
     let js = listed xs in
     cond (eqb x block) [] (x ∷ js)
 
--- of the numbers from s up to e: those picked stand in ps, and the newest places w are w' behind all
-pub record Gathered (steps : ℕ) (st : List ℕ) (f s e : ℕ) (w w' ps : List ℕ) : Type 0 where
-  pub seen : w' ≡ seen_from st f (e - s) s w
-  pub picks : listed ps ≡ picked steps st s (e - s) 0
+-- of a run's numbers: those picked stand in ps, and the newest places w are w' behind all
+pub record Gathered (steps : ℕ) (st : List ℕ) (f : ℕ) (r : Run) (w w' ps : List ℕ) : Type 0 where
+  pub seen : w' ≡ seen_from st f (r.to - r.from) r.from w
+  pub picks : listed ps ≡ picked steps st r.from (r.to - r.from) 0
   pub ended : length (listed ps) < length ps
 
--- the number that is j from s on has an item of the model, and stands in the ring, where s is at place p
-pub record Pick (m : ℕ) (st : List ℕ) (f s p j : ℕ) : Type 0 where
-  pub at : p + j ≡ place (ring_size st) (base st) (s + j)
-  pub inside : p + j < ring_size st
-  pub near : s + j - f < ring_size st
-  pub item : item_of (word_of st (s + j)) < m
+-- the number that is j from a run's first on has an item of the model, and stands in the ring j places on
+pub record Pick (m : ℕ) (st : List ℕ) (f : ℕ) (r : Run) (j : ℕ) : Type 0 where
+  pub at : r.place + j ≡ place (ring_size st) (base st) (r.from + j)
+  pub inside : r.place + j < ring_size st
+  pub near : r.from + j - f < ring_size st
+  pub item : item_of (word_of st (r.from + j)) < m
 
 -- every one of them has P
 abbrev pub Each : (ℕ → Type 0) → List ℕ → Type 0

@@ -1,7 +1,7 @@
 // A block of the ring, in the pass of current with at: each item's newest place, and the entries of condition items,
 // picked out and stepped to their items' marks. `Part` stays a clause: it ties a run to the store and to the pass's
 // first number, so no type of the run alone can hold it. Nor is a struct of the pass's store, steps and first number
-// any plainer: each clause would name its three parts.
+// any plainer: each clause would name its three parts. `Passed` takes two numbers: those of a whole pass are no run.
 #![tactic(auto)]
 
 ghost use Rattle.std.specs.Prelude.{◌≡◌, true, is_some, not, ◌-◌, ◌^◌, ◌<◌, ◌≤◌, length};
@@ -23,7 +23,7 @@ use spec::ITEM_SLOTS;
 pub const BLOCK: u64 = 255;
 
 // Room for a block's picks and their end.
-pub const PICK_SLOTS: usize = 256;
+pub const PICK_SLOTS: usize = BLOCK as usize + 1;
 
 // A block of numbers to the newest places; those of condition items to the picks, by their distance from its first.
 // None where an item isn't the model's. No branch is told by the item, which no predictor could tell.
@@ -35,11 +35,11 @@ fn gather(
     seen: &mut [u64; ITEM_SLOTS],
     picks: &mut [u8; PICK_SLOTS],
 ) -> Option<()>
-    requires part { Part st.now f run.from run.to run.place }
+    requires part { Part st.now f run }
     requires short { run.to - run.from ≤ block }
     ensures value { is_some result ≡ items_ok (item_count st.now) st.now run.from run.to }
     ensures gathered { is_some result ≡ true →
-        Gathered steps st.now f run.from run.to seen.old seen.new picks.new }
+        Gathered steps st.now f run seen.old seen.new picks.new }
 {
     // behind it the head is known
     let _ = st.slice();
@@ -55,7 +55,7 @@ fn gather(
         seen[i as usize] = begin + far as u64;
         // below BLOCK
         picks[count as usize] = far as u8;
-        count += selection::bit_of(steps, i);
+        count += u64::from(selection::has(steps, i));
     }
     picks[count as usize] = BLOCK as u8;
     Some(())
@@ -87,7 +87,7 @@ fn step_picks(
     marks: &mut Marks,
 ) -> Option<()>
     requires f_le_from { (f ≤ run.from) × (length (listed picks.now) < length picks.now) }
-    requires each { Each (Pick (item_count st.now) st.now f run.from run.place) (listed picks.now) }
+    requires each { Each (Pick (item_count st.now) st.now f run) (listed picks.now) }
     ensures value { is_some result ≡ pick_ok st.now f run.from (listed picks.now) marks.old }
     ensures marks_after { is_some result ≡ true →
         marks.new ≡ pick_marks st.now f run.from (listed picks.now) marks.old }
@@ -117,7 +117,7 @@ pub fn step_block(
     picks: &mut [u8; PICK_SLOTS],
     marks: &mut Marks,
 ) -> Option<()>
-    requires part { Part st.now f run.from run.to run.place }
+    requires part { Part st.now f run }
     requires short { run.to - run.from ≤ block }
     ensures { let st = st.entry.now in
         Passed steps (item_count st) st f run.from run.to marks.old marks.new seen.old seen.new (is_some result) }

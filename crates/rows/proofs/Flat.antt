@@ -9,6 +9,7 @@ use lib.ListN.{length, set, length-set, length-append}
 use Rattle.spec.specs.Blocks.{flat_rows}
 use Rattle.spec.specs.Reply.{numbers, pairs}
 use Rattle.rows.specs.Rows.{rows_at, rows_into}
+use Rattle.rows.proofs.Ranges.{one-more}
 use Rattle.rows.proofs.Writing.{rows_more, rows_append, length-rows}
 
 -- ---- a list's rows, one at a time: `left` of rs are to be written yet, the next one to word c; the first went to d
@@ -50,17 +51,14 @@ module _ {rs : List (List ℕ)} {k d : ℕ} {o l : List ℕ} {c : ℕ} {left : L
 
 -- ---- the numbers from i on, of m: one more, or none
 
-split-m : (i m : ℕ) → i < m → m - i ≡ suc (m - (i + 1))
-split-m i m h = omega arith
-
 module _ (p : ℕ → Bool) (v : ℕ → List (List ℕ)) (i m : ℕ) where
   pub flat_in : i < m → p i ≡ true → flat_rows p v (m - i) i ≡ v i ++ flat_rows p v (m - (i + 1)) (i + 1)
   unfolding flat_rows
-  flat_in h t = rw (split-m i m h, add-one i, t)
+  flat_in h t = rw (one-more i m h, add-one i, t)
 
   pub flat_out : i < m → p i ≡ false → flat_rows p v (m - i) i ≡ flat_rows p v (m - (i + 1)) (i + 1)
   unfolding flat_rows
-  flat_out h t = rw (split-m i m h, add-one i, t)
+  flat_out h t = rw (one-more i m h, add-one i, t)
 
   pub flat-none : m ≤ i → flat_rows p v (m - i) i ≡ []
   unfolding flat_rows

@@ -4,6 +4,7 @@ use mathlib.Core.Path.{◌≡◌, refl, sym, ap, ◌∙◌}
 use mathlib.Core.Bool.{Bool, true, false, cond, ◌&&◌}
 use mathlib.Core.List.{List, [], ◌∷◌, ◌++◌}
 use Rattle.std.specs.Prelude.{Some, None}
+use Rattle.std.specs.Int.{from_bool}
 use native.Mathlib.Omega.{arith}
 use lib.Dec.{ltb}
 use lib.ListN.{length, set, length-append}
@@ -12,7 +13,6 @@ use Rattle.spec.specs.Words.{bit, row}
 use Rattle.spec.specs.Value.{item_of}
 use Rattle.history.specs.Observations.{ring_size, base, place, item_at, numbered, ring_ok, sample_rows}
 use Rattle.spec.proofs.Words.{and_left, and_right, every-step, every-end}
-use Rattle.selection.proofs.Laws.{bit-yes, bit-no}
 use Rattle.observations.specs.Ring.{ring_time, ring_word}
 use Rattle.rows.specs.Rows.{items_ok, sampled, counted, rows_at, rows_into, Unwrapped}
 use Rattle.rows.proofs.Ranges.{every-split, rows_in, rows_out, rows_end, rows_split, rows_few, run-next}
@@ -64,17 +64,18 @@ module _ (st : List ℕ) (m s e q : ℕ) (h : s < e) (i : q ≡ place (ring_size
       every-step (known m st) s e h
       ∙ ap (λ (x : ℕ). ltb x m && items_ok m st (s + 1) e) (item-is st s q i)
 
-  -- a bit as a number adds a row or none
-  pub bit-step : (selection x : ℕ) → (x ≡ cond (bit selection (item_of (word_at st q))) 1 0) × (x ≤ 1)
-      → length (sampled st selection s e) ≡ x + length (sampled st selection (s + 1) e)
+  -- one more number adds a row or none
+  pub test_step : (selection : ℕ) (b : Bool) → b ≡ bit selection (item_of (word_at st q))
+      → length (sampled st selection s e) ≡ from_bool b + length (sampled st selection (s + 1) e)
   unfolding sample_rows
-  bit-step selection zero b =
-      let t = bit-no b (λ y. omega arith) in
-      omega (arith, ap length (rows_out (picked st selection) (numbered_in st) s e h (rw (item-is st s q i) t)))
-  bit-step selection (suc zero) b =
-      let t = bit-yes b refl in
-      omega (arith, ap length (rows_in (picked st selection) (numbered_in st) s e h (rw (item-is st s q i) t)))
-  bit-step selection (suc (suc x)) b = absurd (omega (arith, b.1))
+  test_step selection false b =
+      omega (arith, ap length (rows_out (picked st selection) (numbered_in st) s e h (rw (item-is st s q i) (sym b))))
+  test_step selection true b =
+      omega (arith, ap length (rows_in (picked st selection) (numbered_in st) s e h (rw (item-is st s q i) (sym b))))
+
+pub one-at-most : (b : Bool) → from_bool b ≤ 1
+one-at-most true = omega arith
+one-at-most false = omega arith
 
 -- c of the rows are counted, and the next number is s at place q
 pub record Counting (st : List ℕ) (m selection f e c s q : ℕ) : Type 0 where
@@ -96,15 +97,15 @@ module _ {st : List ℕ} {m selection f e c s q : ℕ} (v : Counting st m select
     unfolding counted
     counting-broken g = rw (v.ok, ok_step st m s e q h (v.run.is h), ← counting-item, le-ltb _ _ g)
 
-    pub counting_more : {x : ℕ} → i < m → (x ≡ cond (bit selection i) 1 0) × (x ≤ 1)
-        → Counting st m selection f e (c + x) (s + 1) (q + 1)
-    counting_more {x} g b =
-        let k = bit-step st m s e q h (v.run.is h) selection x (rw (← counting-item) b) in
+    pub counting_more : {b : Bool} → i < m → b ≡ bit selection i
+        → Counting st m selection f e (c + from_bool b) (s + 1) (q + 1)
+    counting_more {b} g t =
+        let k = test_step st m s e q h (v.run.is h) selection b (rw (← counting-item) t) in
         record {
           run = run-next v.run h;
           ok = v.ok ∙ rw (ok_step st m s e q h (v.run.is h), ← counting-item, lt-ltb _ _ g);
           rows = omega (arith, v.rows, k);
-          few = omega (arith, v.few, b.1);
+          few = omega (arith, v.few, one-at-most b);
         }
 
   pub counting-end : e ≤ s → Some c ≡ counted m st selection f e

@@ -2,7 +2,7 @@
 use Prim.Native.Nat.{ℕ, zero, suc, ◌+◌, ◌-◌, ◌%◌, ◌≤◌, ◌<◌}
 use Rattle.std.specs.Prelude.{min}
 use mathlib.Core.Path.{◌≡◌, refl, sym, ap, ◌∙◌}
-use mathlib.Core.Bool.{Bool, true, false, cond, ◌&&◌}
+use mathlib.Core.Bool.{Bool, true, false, cond, ◌&&◌, and_assoc}
 use mathlib.Core.List.{List, [], ◌∷◌, ◌++◌}
 use native.Mathlib.Nat.{suc-mod, mod_self, mod-eq_of_lt, mod-add-mod}
 use native.Mathlib.Numerals.{add-one}
@@ -12,14 +12,10 @@ use Rattle.spec.specs.Words.{every, pick_rows}
 use Rattle.history.specs.Observations.{place}
 use Rattle.rows.specs.Rows.{Unwrapped, TwoRuns}
 
-and_assoc : (a b c : Bool) → a && (b && c) ≡ (a && b) && c
-and_assoc true b c = refl
-and_assoc false b c = refl
-
 -- ---- the numbers from s up to e: one more, none, and two parts
 
-split-k : (s e : ℕ) → s < e → e - s ≡ suc (e - (s + 1))
-split-k s e h = omega arith
+pub one-more : (s e : ℕ) → s < e → e - s ≡ suc (e - (s + 1))
+one-more s e h = omega arith
 
 module _ (p : ℕ → Bool) where
   every-add : (a b s : ℕ) → every p (a + b) s ≡ every p a s && every p b (s + a)
@@ -28,7 +24,7 @@ module _ (p : ℕ → Bool) where
   every-add (suc a) b s =
       let q : suc a + b ≡ suc (a + b) = omega arith in
       let r : suc s + a ≡ s + suc a = omega arith in
-      rw (q, every-add a b (suc s), r) (and_assoc (p s) (every p a (suc s)) (every p b (s + suc a)))
+      rw (q, every-add a b (suc s), r) (sym (and_assoc (p s) (every p a (suc s)) (every p b (s + suc a))))
 
   pub every-split : (f g e : ℕ) → f ≤ g → g ≤ e → every p (e - f) f ≡ every p (g - f) f && every p (e - g) g
   every-split f g e h1 h2 =
@@ -51,11 +47,11 @@ module _ (p : ℕ → Bool) (v : ℕ → List ℕ) where
 
   pub rows_in : (s e : ℕ) → s < e → p s ≡ true → pick_rows p v (e - s) s ≡ v s ∷ pick_rows p v (e - (s + 1)) (s + 1)
   unfolding pick_rows
-  rows_in s e h t = rw (split-k s e h, add-one s, t)
+  rows_in s e h t = rw (one-more s e h, add-one s, t)
 
   pub rows_out : (s e : ℕ) → s < e → p s ≡ false → pick_rows p v (e - s) s ≡ pick_rows p v (e - (s + 1)) (s + 1)
   unfolding pick_rows
-  rows_out s e h t = rw (split-k s e h, add-one s, t)
+  rows_out s e h t = rw (one-more s e h, add-one s, t)
 
   pub rows_end : (s e : ℕ) → e ≤ s → pick_rows p v (e - s) s ≡ []
   unfolding pick_rows

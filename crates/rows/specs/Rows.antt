@@ -5,7 +5,7 @@ use Rattle.history.specs.Observations.{ring_size, base, ring_ok, sample_rows}
 use Rattle.spec.specs.Reply.{numbers, pairs}
 use Rattle.rows.specs.declared.Run.{Run}
 
--- of the numbers from f up to e: refusal 2's test that each has an item of the model, and the rows of those that are
+-- of the numbers from f up to e: Store's test that each has an item of the model, and the rows of those that are
 -- selected
 abbrev pub items_ok : ℕ → List ℕ → ℕ → ℕ → Bool
 items_ok m st f e = ring_ok (ring_size st) m (base st) st (e - f) f
@@ -30,6 +30,14 @@ pub record Unwrapped (N B e s q : ℕ) : Type 0 where
   pub low : B ≤ s
   pub is : s < e → q ≡ (s - B) % N
   pub room : q + (e - s) ≤ N
+
+-- those of a run do in the ring of st
+abbrev pub InRing : List ℕ → Run → Type 0
+InRing st r = Unwrapped (ring_size st) (base st) r.to r.from r.place
+
+-- the numbers from f up to e are at most a ring of them, and none is below the base
+abbrev pub RingRange : List ℕ → ℕ → ℕ → Type 0
+RingRange st f e = (base st ≤ f) × ((f ≤ e) × (e - f ≤ ring_size st))
 
 -- the numbers from f up to e in two runs: up to the ring's end at most, then from place 0 on
 pub record TwoRuns (N B f e : ℕ) (a b : Run) : Type 0 where

@@ -3,8 +3,8 @@
 #![tactic(auto)]
 
 ghost use Rattle.std.specs.Prelude.{◌≡◌, true, ◌+◌, ◌-◌, ◌*◌, ◌<◌, ◌≤◌, length, set};
-ghost use Rattle.history.specs.Observations.{max_ring, ring_size, item_count, base};
-ghost use Rattle.rows.specs.Rows.{items_ok, sampled, counted, rows_at, rows_into, Unwrapped, TwoRuns};
+ghost use Rattle.history.specs.Observations.{max_ring, item_count};
+ghost use Rattle.rows.specs.Rows.{items_ok, sampled, counted, rows_at, rows_into, InRing, RingRange, TwoRuns};
 
 use observations::{Row, Store};
 
@@ -59,7 +59,7 @@ pub fn runs(n: u64, b: u64, f: u64, e: u64) -> (Run, Run)
 
 // One run of count_rows.
 fn count_run(st: &Store<'_>, selection: u64, run: Run) -> Option<u64>
-    requires run { Unwrapped (ring_size st.now) (base st.now) run.to run.from run.place }
+    requires run { InRing st.now run }
     requires ordered { run.from ≤ run.to }
     ensures { result ≡ counted (item_count st.now) st.now selection run.from run.to }
 {
@@ -70,14 +70,14 @@ fn count_run(st: &Store<'_>, selection: u64, run: Run) -> Option<u64>
         if m <= i {
             return None;
         }
-        count += selection::bit_of(selection, i);
+        count += u64::from(selection::has(selection, i));
     }
     Some(count)
 }
 
 // How many of the numbers from f up to e have a row; None where one of them has no item of the model.
 pub fn count_rows(st: &Store<'_>, selection: u64, f: u64, e: u64) -> Option<u64>
-    requires st_bound { (base st.now ≤ f) × ((f ≤ e) × (e - f ≤ ring_size st.now)) }
+    requires st_bound { RingRange st.now f e }
     ensures { result ≡ counted (item_count st.now) st.now selection f e }
 {
     let (front, back) = runs(st.ring_size(), st.base(), f, e);
@@ -101,7 +101,7 @@ pub fn write_row(out: &mut [u64], c: u64, a: u64, row: Row)
 // done, k and out in a struct as writer::Output is, which grows at one place: k is fixed before, and rows_at is over
 // the whole buffer in two places at once, numbers and pairs.
 fn write_run(st: &Store<'_>, selection: u64, run: Run, done: u64, k: u64, out: &mut [u64]) -> u64
-    requires run { Unwrapped (ring_size st.now) (base st.now) run.to run.from run.place }
+    requires run { InRing st.now run }
     requires e_value { items_ok (item_count st.now) st.now run.from run.to ≡ true }
     requires e_bound { (done + length (sampled st.now selection run.from run.to) ≤ k) × (3 * k ≤ length out.old) }
     ensures value { result ≡ done + length (sampled st.now selection run.from run.to) }
@@ -130,7 +130,7 @@ fn write_run(st: &Store<'_>, selection: u64, run: Run, done: u64, k: u64, out: &
 // The rows of the numbers from f up to e, which are k: k numbers, then k pairs of time and packed word. So no slice of
 // rows has the form of `out`, and its room stays a clause.
 pub fn write_rows(st: &Store<'_>, selection: u64, f: u64, e: u64, k: u64, out: &mut [u64])
-    requires st_bound { (base st.now ≤ f) × ((f ≤ e) × (e - f ≤ ring_size st.now)) }
+    requires st_bound { RingRange st.now f e }
     requires e_value { items_ok (item_count st.now) st.now f e ≡ true }
     requires k_value { (k ≡ length (sampled st.now selection f e)) × (3 * k ≤ length out.old) }
     ensures { out.new ≡ rows_into out.old k (sampled st.now selection f e) }

@@ -1,18 +1,16 @@
 -- Laws of what a path selects, as the code goes: names, the components under a type, the items, the forms.
-use Prim.Native.Nat.{ℕ, suc, ◌+◌, ◌-◌, ◌*◌, ◌^◌, ◌<◌, ◌≤◌}
+use Prim.Native.Nat.{ℕ, ◌≤◌}
 use mathlib.Core.Path.{◌≡◌, refl, sym, ap, ◌∙◌}
-use mathlib.Core.Bool.{Bool, true, false, cond, not, ◌&&◌, and-true, and-false}
+use mathlib.Core.Bool.{Bool, true, false, not, ◌&&◌, and-true, and-false}
 use mathlib.Core.List.{List, [], ◌∷◌}
-use native.Mathlib.Nat.{mul-le-mul_right, two-pow-succ}
 use native.Mathlib.Omega.{arith}
-use borrow.Author.Tests.{eqb-true, eqb-false, eq-eqb, ne_eqb, not-true, not-false}
+use borrow.Author.Tests.{eqb-true, eqb-false, not-true, not-false}
 use lib.Dec.{eqb}
 use lib.ListN.{length, take}
-use lib.Pow.{pow_mono}
 use lib.Seq.{length-take-le}
 use Rattle.spec.specs.Words.{any_below, bit, set_of}
 use Rattle.spec.specs.Bytes.{name_byte, same}
-use Rattle.spec.specs.Model.{letters, name_cell, max_items, components, items}
+use Rattle.spec.specs.Model.{letters, name_cell, components, items}
 use Rattle.spec.specs.Model.{item_word, component_of}
 use Rattle.spec.specs.Path.{Form, subtree, typed, other_form, form_of, is_named, has_type, under, in_subtree, in_typed}
 use Rattle.spec.specs.Path.{select_subtree, select_typed, select_form, select}
@@ -77,35 +75,6 @@ pub chosen_is : (model names : List ℕ) (set : ℕ) (o : Option (List ℕ)) (j 
 unfolding chosen
 chosen_is model names set o j w b ew eb = rw (eb, ew)
 
--- ---- the items, from the last one down
-
--- number n of a set goes over to those above it, r
-set-top : (p : ℕ → Bool) (n r : ℕ) → 2 ^ suc n * r + set_of p (suc n) ≡ 2 ^ n * (2 * r + cond (p n) 1 0) + set_of p n
-unfolding set_of
-set-top p n r = rw (two-pow-succ n) (go (p n))
-  where
-    go : (t : Bool)
-        → (2 ^ n + 2 ^ n) * r + cond t (2 ^ n + set_of p n) (set_of p n) ≡ 2 ^ n * (2 * r + cond t 1 0) + set_of p n
-    go true = omega arith
-    go false = omega arith
-
--- a turn of the loop: r has the numbers from n on, moved down by n
-module _ (p : ℕ → Bool) (m n r : ℕ) (rest : set_of p m ≡ 2 ^ n * r + set_of p n) where
-  pub set_room : m ≤ max_items → 0 < n → 2 * r + 1 < 2 ^ max_items
-  set_room h more =
-      let d : 2 * r ≤ 2 ^ n * r = mul-le-mul_right r (pow_mono {i = 1} {j = n} more) in
-      omega (arith, set-lt p m, pow_mono {i = m} {j = max_items} h)
-
-  pub set-down : 0 < n → (q : ℕ) (t : Bool) → t ≡ p (n - 1) → q ≡ 2 * r + cond t 1 0
-      → set_of p m ≡ 2 ^ (n - 1) * q + set_of p (n - 1)
-  set-down more q t e g =
-      let s : n ≡ suc (n - 1) = omega arith in
-      rest ∙ ap (λ (x : ℕ). 2 ^ x * r + set_of p x) s ∙ set-top p (n - 1) r ∙ rw (g, e)
-
-  pub set-whole : n ≤ 0 → r ≡ set_of p m
-  unfolding set_of
-  set-whole none = let z : n ≡ 0 = omega arith in omega (arith, rw z at rest)
-
 -- ---- the selections
 pub given-is : (o : Option (Bor (List ℕ))) → is_some (type_given o) ≡ is_some o
 given-is (Some y) = refl
@@ -127,18 +96,18 @@ module _ (model names t : List ℕ) (set : ℕ) (e : set ≡ under model names t
   any-from : not (any_below (has_type model names t) (components model)) ≡ eqb set 0
   any-from = rw e (sym (under-zero model names t (components model)))
 
-  none : set ≡ 0 → any_below (has_type model names t) (components model) ≡ false
-  none z = not-true _ (any-from ∙ eq-eqb set 0 z)
+  none : eqb set 0 ≡ true → any_below (has_type model names t) (components model) ≡ false
+  none z = not-true _ (any-from ∙ z)
 
-  some_one : (set ≡ 0 → ⊥) → any_below (has_type model names t) (components model) ≡ true
-  some_one z = not-false _ (any-from ∙ ne_eqb set 0 z)
+  some_one : eqb set 0 ≡ false → any_below (has_type model names t) (components model) ≡ true
+  some_one z = not-false _ (any-from ∙ z)
 
-  pub type-unknown : (o : Option (List ℕ)) → set ≡ 0 → None ≡ by_names model names t o
+  pub type-unknown : (o : Option (List ℕ)) → eqb set 0 ≡ true → None ≡ by_names model names t o
   unfolding select_typed select_subtree
   type-unknown (Some y) z = rw (none z)
   type-unknown None z = rw (none z)
 
-  module _ (z : set ≡ 0 → ⊥) (q : ℕ) where
+  module _ (z : eqb set 0 ≡ false) (q : ℕ) where
     subtree-items : q ≡ set_of (chosen model names set None) (items model) → Some q ≡ by_names model names t None
     unfolding select_subtree
     subtree-items eq =
@@ -147,11 +116,11 @@ module _ (model names t : List ℕ) (set : ℕ) (e : set ≡ under model names t
 
     -- no item of the type: refused
     pub none-typed : (o : Option (List ℕ)) → q ≡ set_of (chosen model names set o) (items model)
-        → is_some o ≡ true → q ≡ 0 → None ≡ by_names model names t o
+        → is_some o ≡ true → eqb q 0 ≡ true → None ≡ by_names model names t o
     unfolding select_typed
     none-typed (Some y) eq s n =
         let g : q ≡ set_of (in_typed model names t y) (items model) = rw (chosen-typed y) at eq in
-        rw (some_one z, ← g, eq-eqb q 0 n)
+        rw (some_one z, ← g, n)
     none-typed None eq s n = cc
 
     pub not-typed : (o : Option (List ℕ)) → q ≡ set_of (chosen model names set o) (items model)
@@ -160,11 +129,11 @@ module _ (model names t : List ℕ) (set : ℕ) (e : set ≡ under model names t
     not-typed None eq s = subtree-items eq
 
     pub some-items : (o : Option (List ℕ)) → q ≡ set_of (chosen model names set o) (items model)
-        → (q ≡ 0 → ⊥) → Some q ≡ by_names model names t o
+        → eqb q 0 ≡ false → Some q ≡ by_names model names t o
     unfolding select_typed
     some-items (Some y) eq n =
         let g : q ≡ set_of (in_typed model names t y) (items model) = rw (chosen-typed y) at eq in
-        rw (some_one z, ← g, ne_eqb q 0 n)
+        rw (some_one z, ← g, n)
     some-items None eq n = subtree-items eq
 
 -- ---- the forms

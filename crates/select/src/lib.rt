@@ -34,7 +34,7 @@ fn joins(names: &[u8], word: u64, t: &[u8], set: u64) -> bool
 fn under_type(model: &Named<'_>, t: &[u8]) -> u64
     ensures { result ≡ under model.now.words model.now.names.now t.now (components model.now.words) }
 {
-    let mut set: u64 = 0;
+    let mut set = selection::NONE;
     for i in 0..model.words.components() {
         let word = model.words.component_word(i);
         set = selection::with_if(joins(model.names, word, t, set), set, i);
@@ -57,15 +57,14 @@ fn takes(names: &[u8], word: u64, set: u64, y: Option<&[u8]>) -> bool
 }
 
 // The items of the components in the set; where a type is given, only those of item type y.
-// From the last item down, each step only moves the selection up by one.
 fn items_of(model: &Named<'_>, set: u64, y: Option<&[u8]>) -> u64
     ensures { result ≡ set_of (chosen model.now.words model.now.names.now set (type_given y.entry))
         (items model.now.words) }
 {
-    let mut selection: u64 = 0;
-    for j in (0..model.words.items()).rev() {
+    let mut selection = selection::NONE;
+    for j in 0..model.words.items() {
         let word = model.words.item_word(j);
-        selection = selection::moved_up(takes(model.names, word, set, y), selection);
+        selection = selection::with_if(takes(model.names, word, set, y), selection, j);
     }
     selection
 }
@@ -75,11 +74,11 @@ fn select_names(model: &Named<'_>, t: &[u8], y: Option<&[u8]>) -> Option<u64>
     ensures { result ≡ by_names model.now.words model.now.names.now t.now (type_given y.entry) }
 {
     let set = under_type(model, t);
-    if set == 0 {
+    if selection::is_empty(set) {
         return None;
     }
     let selection = items_of(model, set, y);
-    if y.is_some() && selection == 0 {
+    if y.is_some() && selection::is_empty(selection) {
         return None;
     }
     Some(selection)

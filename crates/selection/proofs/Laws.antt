@@ -1,4 +1,4 @@
--- Laws of a bit as a number, and of the set of all items.
+-- Laws of the set of all items.
 use Prim.Native.Nat.{ℕ, zero, suc, ◌-◌, ◌+◌, ◌/◌, ◌%◌, ◌^◌, ◌<◌, ◌≤◌}
 use mathlib.Core.Path.{◌≡◌, refl, sym, ap, ◌∙◌}
 use mathlib.Core.Bool.{Bool, true, false, cond}
@@ -11,29 +11,6 @@ use Rattle.spec.specs.Words.{bit, set_of}
 use Rattle.spec.specs.Model.{max_items}
 use Rattle.spec.specs.Path.{any_item}
 use Rattle.spec.proofs.Bits.{set_all}
-
--- ---- a bit as a number
-
--- one digit, as the number that it is
-digit : (d : ℕ) → d < 2 → (d ≡ cond (eqb d 1) 1 0) × (d ≤ 1)
-digit zero h = (refl, omega arith)
-digit (suc zero) h = (refl, omega arith)
-digit (suc (suc d)) h = absurd (omega arith)
-
-pub bit-number : (s i x : ℕ) → x ≡ s / 2 ^ i % 2 → (x ≡ cond (bit s i) 1 0) × (x ≤ 1)
-bit-number s i x e = rw e (digit (s / 2 ^ i % 2) (mod-lt (s / 2 ^ i) {m = 2} (omega arith)))
-
-pub number-test : (b : Bool) (x : ℕ) → x ≡ cond b 1 0 → eqb x 1 ≡ b
-number-test true x e = rw e
-number-test false x e = rw e
-
--- what a test of the number says of the item
-module _ {t : Bool} {x : ℕ} (b : (x ≡ cond t 1 0) × (x ≤ 1)) where
-  pub bit-yes : x ≡ 1 → t ≡ true
-  bit-yes e = sym (number-test t x b.0) ∙ rw e
-
-  pub bit-no : (x ≡ 1 → ⊥) → t ≡ false
-  bit-no e = sym (number-test t x b.0) ∙ ne_eqb x 1 e
 
 -- ---- all items
 

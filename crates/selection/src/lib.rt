@@ -1,7 +1,9 @@
-// Selections: sets of items, one bit each. Their form is known here alone: others test, add, move, count, or take all.
+// Selections: sets of items, one bit each. Their form is known here alone: others test, add, count, or take none or all.
+// A set is a number, and no type of its own: the definitions' sets are numbers, 2 ^ i + set with i in it, so that each
+// clause would take the number out of the type again, and what is asked of one, no item from m on, ties it to a model.
 #![tactic(auto)]
 
-ghost use Rattle.std.specs.Prelude.{◌≡◌, cond, ◌+◌, ◌*◌, ◌^◌, ◌<◌, ◌≤◌};
+ghost use Rattle.std.specs.Prelude.{◌≡◌, cond, eqb, ◌+◌, ◌*◌, ◌^◌, ◌<◌, ◌≤◌};
 ghost use Rattle.std.specs.Int.Count.{ones};
 ghost use Rattle.spec.specs.Words.{bit, set_of};
 ghost use Rattle.spec.specs.Model.{max_items};
@@ -10,12 +12,14 @@ ghost use Rattle.spec.specs.Path.{any_item};
 // A bit for each item that a model can have.
 const EVERY: u64 = u64::MAX;
 
-// 1 where item i is in the selection, else 0: loops add these up.
-pub fn bit_of(selection: u64, i: u64) -> u64
-    requires { i < max_items }
-    ensures { (result ≡ cond (bit selection i) 1 0) × (result ≤ 1) }
+// The set without items.
+pub const NONE: u64 = 0;
+
+// Whether no item is in the set.
+pub fn is_empty(set: u64) -> bool
+    ensures { result ≡ eqb set 0 }
 {
-    (selection >> i) & 1
+    set == NONE
 }
 
 // Whether item i is in the selection. Loops over a selection's items ask it of each number: tried on snapshots::begin
@@ -25,7 +29,7 @@ pub fn has(selection: u64, i: u64) -> bool
     requires { i < max_items }
     ensures { result ≡ bit selection i }
 {
-    bit_of(selection, i) == 1
+    (selection >> i) & 1 == 1
 }
 
 // The set, with i where `taken` says so; i is above all in the set.

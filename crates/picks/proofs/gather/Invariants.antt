@@ -5,5 +5,5 @@ use Rattle.picks.proofs.gather.Given as goal
 
 abbrev pub invariant-loop-far : goal.invariant-loop-far
 invariant-loop-far l =
-    Gathering l.steps (item_count l.st) l.st l.f l.fn.run.from l.fn.run.to l.initial.seen l.seen l.picks l.count
+    Gathering l.steps (item_count l.st) l.st l.f l.fn.run l.initial.seen l.seen l.picks l.count
     (l.fn.run.from + l.far) (l.fn.run.place + l.far)

@@ -7,17 +7,17 @@ use Rattle.picks.proofs.step_block.Goals as goal
 pub returns-in_err-gather : goal.returns-in_err-gather
 returns-in_err-gather c =
     rw c.from_residual.ensures
-    (block-broken c.args.steps (item_count c.args.st.now) c.args.st.now c.args.f c.args.run.from c.args.run.to
+    (block-broken c.args.steps (item_count c.args.st.now) c.args.st.now c.args.f c.args.run
     c.args.marks.now c.gather.ensures.value (ap is_some c.in_err-gather.was))
 
 pub step_picks-requires-clause-each : goal.step_picks-requires-clause-each
 step_picks-requires-clause-each c =
     let y = ap is_some c.in_ok-gather.was in
-    block-picks c.args.steps (item_count c.args.st.now) c.args.st.now c.args.f c.args.run.from c.args.run.to c.gather.ensures.value y
+    block-picks c.args.steps (item_count c.args.st.now) c.args.st.now c.args.f c.args.run c.gather.ensures.value y
     (c.gather.ensures.gathered y) c.requires.part
 
 pub returns : goal.returns
 returns c =
     let y = ap is_some c.in_ok-gather.was in
-    block-passed c.args.steps (item_count c.args.st.now) c.args.st.now c.args.f c.args.run.from c.args.run.to c.gather.ensures.value y
+    block-passed c.args.steps (item_count c.args.st.now) c.args.st.now c.args.f c.args.run c.gather.ensures.value y
     (c.gather.ensures.gathered y) c.args.marks.now c.step_picks.ensures.value c.step_picks.ensures.marks_after

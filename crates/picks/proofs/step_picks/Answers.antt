@@ -8,7 +8,7 @@ use Rattle.picks.proofs.step_picks.Goals as goal
 
 pub loop-pick-init : goal.loop-pick-init
 loop-pick-init c =
-    stepping-start _ _ _ _ _ _ _ c.requires.f_le_from.1 c.requires.each
+    stepping-start _ _ _ _ _ _ c.requires.f_le_from.1 c.requires.each
 
 pub overflow_add-run : goal.overflow_add-run
 overflow_add-run c =
