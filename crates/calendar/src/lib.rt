@@ -58,10 +58,7 @@ fn time_of(d: Date) -> u64
 pub fn checked_time(d: Date) -> Option<u64>
     ensures { result ≡ cond (real_date d) (Some (time_of d)) None }
 {
-    if !real_date(d) {
-        return None;
-    }
-    Some(time_of(d))
+    real_date(d).then(|| time_of(d))
 }
 
 // The date of a time.

@@ -1,7 +1,7 @@
 -- A cell is a name, then zeros, exactly where its bytes are of a name or 0 and the zeros stand last.
 use Prim.Native.Nat.{ℕ, zero, suc, ◌+◌, ◌-◌, ◌*◌, ◌/◌, ◌%◌, ◌≤◌, ◌<◌}
 use mathlib.Core.Path.{◌≡◌, refl, sym, ap, ◌∙◌}
-use mathlib.Core.Bool.{Bool, true, false, ◌&&◌, not, or-true, false≢true, and_assoc}
+use mathlib.Core.Bool.{Bool, true, false, ◌&&◌, not, or-true, false≢true}
 use mathlib.Core.List.{List, [], ◌∷◌}
 use native.Mathlib.Nat.{div-add-mod, mod-lt}
 use native.Mathlib.Numerals.{add-one}
@@ -103,27 +103,18 @@ module _ (p : ℕ → Bool) (at n from m : ℕ) (first : at ≤ from) (no_gap : 
           let k = ltb-false i (at + n) q in
           every-at p m from i (and_right (every p n at) _ e) (omega arith) g
 
-pub rounds-start : (s : List ℕ) → cell_bytes s ≡ true && bytes_at s 0 (length s - 0)
+-- the n whole blocks from the start on, and the last block, leave no byte out
+pub in_blocks : (s : List ℕ) (n : ℕ) → block ≤ length s → n ≡ length s / block
+    → cell_bytes s ≡ bytes_at s 0 (block * n) && bytes_at s (length s - block) (block * 1)
 unfolding cell_bytes bytes_at
-rounds-start s = let q : length s - 0 ≡ length s = omega arith in rw q
-
--- a round: t is what the n blocks from at on gave
-module _ (s : List ℕ) (at n : ℕ) (kept t : Bool) (rest : cell_bytes s ≡ kept && bytes_at s at (length s - at))
-    (seen : t ≡ bytes_at s at (block * n)) where
-  pub last-round : at + block * n ≡ length s → cell_bytes s ≡ kept && t
-  last-round e = let q : length s - at ≡ block * n = omega arith in rest ∙ rw (q, seen)
-
-  -- bytes are left, at most a block: the last block has them
-  pub next-round : 1 ≤ n → at + block * n < length s → length s ≤ at + block * n + block
-      → cell_bytes s ≡ (kept && t) && bytes_at s (length s - block) (length s - (length s - block))
-  unfolding bytes_at
-  next-round h g k =
-      let p : ℕ → Bool = λ i. cell_byte (get_or s i 0) in
-      let from = length s - block in
-      let q : from + block - at ≡ length s - at = omega arith in
-      let w : length s - from ≡ block = omega arith in
-      let r = two_runs p at (block * n) from block (omega arith) (omega arith) (omega arith) in
-      rest ∙ rw (← q, r, ← seen, w) (sym (and_assoc kept t _))
+in_blocks s n h e =
+    let l = length s in
+    let p : ℕ → Bool = λ i. cell_byte (get_or s i 0) in
+    let d = div-add-mod l block in
+    let r : l % block < block = mod-lt l (omega arith) in
+    let q : l ≡ l - block + block * 1 - 0 = omega arith in
+    ap (λ (k : ℕ). every p k 0) q
+    ∙ two_runs p 0 (block * n) (l - block) (block * 1) (omega arith) (omega (arith, e)) (omega (arith, e))
 
 -- ---- bytes
 

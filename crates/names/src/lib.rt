@@ -16,7 +16,8 @@ fn cell_byte(x: u8) -> bool
     scan::name_byte(x) | (x == 0)
 }
 
-// Whether each byte of the n blocks from `at` on may stand in a cell.
+// Whether each byte of the n blocks from `at` on may stand in a cell. Its code stands once for both its calls.
+#[inline(never)]
 fn blocks_ok(s: &[u8], at: usize, n: usize) -> bool
     requires { at + block * n ≤ length s.now }
     ensures { result ≡ bytes_at s.now at (block * n) }
@@ -36,8 +37,8 @@ fn few_ok(s: &[u8]) -> bool
 }
 
 // Whether every byte may stand in a cell. It goes by whole blocks, so that no bytes want a loop of their own: where
-// some are left, the slice's last block is looked at too. At most two rounds
-// of one loop, so that its code stands once.
+// some are left behind them, the slice's last block has them.
+#[tactic(auto, using(crate::proofs::CellLaws::in_blocks))]
 fn cell_bytes(s: &[u8]) -> bool
     ensures { result ≡ cell_bytes s.now }
 {
@@ -45,19 +46,7 @@ fn cell_bytes(s: &[u8]) -> bool
     if l < BLOCK {
         return few_ok(s);
     }
-    let mut n = l / BLOCK;
-    let mut at = 0;
-    let mut fine = true;
-    while 0 < n {
-        fine &= blocks_ok(s, at, n);
-        if at + BLOCK * n < l {
-            at = l - BLOCK;
-            n = 1;
-        } else {
-            n = 0;
-        }
-    }
-    fine
+    blocks_ok(s, 0, l / BLOCK) & blocks_ok(s, l - BLOCK, 1)
 }
 
 // Whether b may stand behind a: behind a 0 only 0.

@@ -60,8 +60,5 @@ fn date_in(s: &[u8]) -> Date
 pub fn read_date(s: &[u8]) -> Option<Date>
     ensures { result ≡ cond (formed stamp_form s.now) (Some (date_in s.now)) None }
 {
-    if !stamp_formed(s) {
-        return None;
-    }
-    Some(date_in(s))
+    stamp_formed(s).then(|| date_in(s))
 }
