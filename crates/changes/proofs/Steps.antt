@@ -7,6 +7,7 @@ use mathlib.Core.List.{List, [], ◌∷◌, ◌++◌, map, map-append}
 use lib.Dec.{leb, ltb, eqb}
 use lib.ListN.{length, get_or, set, length-append, length-drop, length-set}
 use lib.Seq.{set_out, length-take-le}
+use Rattle.std.proofs.lemmas.List.{map-set}
 use borrow.Author.Tests.{leb-true, leb-false, eqb-true, eqb-false, le-ltb, le-leb, lt-leb}
 use borrow.Author.Tests.{not-true, not-false}
 use Rattle.spec.specs.Entries.{active, active_as, normal, code_field, packed, any_entry, has_code, any_active}
@@ -26,11 +27,6 @@ use Rattle.changes.specs.declared.Change.TheVariants.{Put, Alone, Out, Stay, Ful
 use Rattle.changes.proofs.Laws.{raised-cases, cleared-none, cleared-unused, cleared-last, cleared-out}
 
 -- ---- a change of each word is the change of the words
-
-map-set : {A B : Type 0} (f : A → B) (l : List A) (j : ℕ) (x : A) → map f (set l j x) ≡ set (map f l) j (f x)
-map-set f [] j x = refl
-map-set f (y ∷ l) zero x = refl
-map-set f (y ∷ l) (suc j) x = ap (λ t. f y ∷ t) (map-set f l j x)
 
 map-without : {A B : Type 0} (f : A → B) (z : A) (j : ℕ) (l : List A)
     → map f (without z j l) ≡ without (f z) j (map f l)
@@ -307,24 +303,3 @@ module _ (own : ℕ) (es : List (List ℕ)) (ms : List ℕ) (r : List ℕ)
       (λ q. m)
       (λ h q. marked-cleared own (code_in r) es ms m h)
       n
-
-is-full : (c : Change) → is_full c ≡ true → c ≡ Full
-is-full (Put j) h = absurd (false≢true h)
-is-full Alone h = absurd (false≢true h)
-is-full (Out j) h = absurd (false≢true h)
-is-full Stay h = absurd (false≢true h)
-is-full Full h = refl
-
--- Full is exactly a ninth
-module _ (own : ℕ) (es : List (List ℕ)) (ms : List ℕ) (r : List ℕ)
-    (f : Formed own es) (m : Marked own es ms) (l : length ms ≡ 8) where
-  pub full-ninth : change_for own ms (packed r) ≡ Full → 8 < length (step own es r)
-  full-ninth h =
-      leb-false (length (step own es r)) 8 (not-true _ (sym (change-full own es ms r f m l) ∙ ap is_full h))
-
-  pub ninth-full : 8 < length (step own es r) → change_for own ms (packed r) ≡ Full
-  ninth-full h = is-full _ (change-full own es ms r f m l ∙ rw (lt-leb (length (step own es r)) 8 h))
-
-  -- eight at most
-  pub eight-fit : is_full (change_for own ms (packed r)) ≡ false → length (step own es r) ≤ 8
-  eight-fit h = leb-true (length (step own es r)) 8 (not-false _ (sym (change-full own es ms r f m l) ∙ h))

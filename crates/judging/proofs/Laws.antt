@@ -86,7 +86,7 @@ module _ {own : ℕ} {rs : List (List ℕ)} {marks : List ℕ} {n : ℕ} (by : F
   some : 1 ≤ length es
   some = omega (arith, by.many, used)
 
-  -- Same, 19 or neither, by the used rows
+  -- Same, Crowded or neither, by the used rows
   judged-by : {same full : Bool} → repeats_in own es word ≡ same → crowded own es word ≡ full
       → judged own rs word ≡ cond same (Ok Repeated) (cond full (Err Crowded) (Ok New))
   unfolding judged

@@ -23,7 +23,7 @@ cleared_judged ms key =
     let j = place_of key ms in
     cond (eqb j 8) Repeated (repeated_if (eqb (get_or ms j 0) 0))
 
--- what observe finds in an item's latest rows, of a packed word: 2, Same, 19, or none of them
+-- what observe finds in an item's latest rows, of a packed word: Store, Same, Crowded, or none of them
 unfoldable pub judged : ℕ → List (List ℕ) → ℕ → Result Judged Refusal
 judged own rs word =
     cond (form_ok own 1 rs)

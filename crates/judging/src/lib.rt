@@ -1,4 +1,4 @@
-// What observe finds in a condition item's latest entries: 2, Same, 19, or none of them.
+// What observe finds in a condition item's latest entries: the refusal Store or Crowded, Same, or none of them.
 #![tactic(auto)]
 
 ghost use Rattle.std.specs.Prelude.{◌≡◌, ◌^◌, ◌<◌, length};

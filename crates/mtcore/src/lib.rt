@@ -40,6 +40,23 @@ fn outcome_of(answer: Answer) -> Outcome
     Outcome { number, count }
 }
 
+// The place's start and length; no From either.
+fn part_of(place: Option<Span>) -> Part
+    ensures start_value { result.start ≡ place_start place }
+    ensures length_value { result.length ≡ place_length place }
+{
+    match place {
+        Some(Span { start, len }) => Part {
+            start: start as u64,
+            length: len as u64,
+        },
+        None => Part {
+            start: 0,
+            length: 0,
+        },
+    }
+}
+
 // Both stores anew: agent's start.
 #[unsafe(no_mangle)]
 pub extern "C" fn mtcore_start(
@@ -205,14 +222,5 @@ pub extern "C" fn mtcore_body(assets: &[u8], id: &[u8]) -> Part
         ≡ calls.body assets.now id.now) }
 {
     let place = assets::body_place(assets, id);
-    match place {
-        Some(Span { start, len }) => Part {
-            start: start as u64,
-            length: len as u64,
-        },
-        None => Part {
-            start: 0,
-            length: 0,
-        },
-    }
+    part_of(place)
 }

@@ -1,18 +1,17 @@
 -- One law to each way out of observing an item.
-use Prim.Native.Nat.{ℕ, ◌+◌, ◌*◌, ◌^◌, ◌≤◌, ◌<◌}
+use Prim.Native.Nat.{ℕ, ◌≤◌, ◌<◌}
 use mathlib.Core.Path.{◌≡◌, refl}
 use mathlib.Core.Bool.{Bool, true, false, cond}
 use mathlib.Core.List.{List}
 use native.Mathlib.Omega.{arith}
 use borrow.Author.Tests.{lt-ltb, le-ltb}
 use Rattle.spec.specs.Model.{items, category}
-use Rattle.spec.specs.Value.{takes, pack, decode}
+use Rattle.spec.specs.Value.{takes, pack}
 use Rattle.history.specs.Observations.{ring_size, latest_ok, repeats_at, crowded_at}
 use Rattle.history.specs.Calls.{not_observed, observe_item}
 use Rattle.spec.specs.declared.Value.{Value}
 use Rattle.spec.specs.declared.Refusal.TheVariants.{Item, Kind}
 use Rattle.spec.proofs.Words.{told, by-test}
-use Rattle.spec.proofs.Packing.{taken-word-lt, word_back, decode-fits}
 use Rattle.std.specs.Prelude.{Some, None}
 use Rattle.short_way.specs.Found.{found, observed_by}
 use Rattle.observing.specs.Taken.{taken}
@@ -47,16 +46,6 @@ module _ (model st : List ℕ) (item time : ℕ) (v : Value) (m : ℕ) (em : m �
         (λ d. rw (a, b, d))
         (λ d. rw (a, b, d))))
         (λ a. rw a))
-
--- ---- a word that an item takes
-
-module _ (k word : ℕ) {t : Bool} (e : t ≡ takes k (decode word)) (f : t ≡ true) where
-  pub word_fits : word < 2 ^ 40
-  word_fits =
-      omega (arith, word_back k word (told e f), taken-word-lt k (decode word) (told e f) (decode-fits word))
-
-  pub word-packed : (item w : ℕ) → w ≡ item * 2 ^ 40 + word → w ≡ pack item (decode word)
-  word-packed item w g = rw (word_back k word (told e f)) g
 
 -- ---- a value by what is made of it
 

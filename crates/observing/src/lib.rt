@@ -2,10 +2,8 @@
 // latest, or are recorded.
 #![tactic(auto)]
 
-ghost use Rattle.std.specs.Prelude.{◌≡◌, ℕ, ◌<◌, ◌^◌, Option};
-ghost use Rattle.spec.specs.Value.{decode};
-ghost use Rattle.spec.specs.declared.Value.{Value};
-ghost use Rattle.spec.specs.Model.{items, category};
+ghost use Rattle.std.specs.Prelude.{◌≡◌, ◌<◌, ◌^◌};
+ghost use Rattle.spec.specs.Model.{items};
 ghost use Rattle.history.specs.Observations.{Head};
 ghost use Rattle.history.specs.Calls.{time_or, observe_item};
 ghost use Rattle.observing.specs.Taken.{taken};
@@ -33,48 +31,8 @@ fn taken(category: u64, item: u64, value: Value) -> Option<u64>
     Some(value::pack(item, value))
 }
 
-// The same of a value's word, which is not taken apart.
-fn taken_word(category: u64, item: u64, word: u64) -> Option<u64>
-    requires { item < 2 ^ 24 }
-    ensures { result ≡ taken category item (decode word) }
-{
-    if !value::takes_word(category, word) {
-        return None;
-    }
-    Some(value::pack_word(item, word))
-}
-
-// An observation of an item, its packed word told by its category: refused, Same where it repeats the item's latest, or
-// recorded. Each caller has an instance of its own, which the compiler joins into it: the walk over a batch needs that.
-// Item, time and value stand apart: each caller would join them only for them to be taken apart here.
-fn observe_with<F: FnOnce(u64) -> Option<u64>>(
-    model: &Words<'_>,
-    observations: &mut [u64],
-    item: u64,
-    time: u64,
-    packed: F,
-) -> ObserveAnswer
-    requires head { Head (items model.now) observations.old }
-    requires callable { item < 2 ^ 24 → F.pre packed (category model.now item) }
-    ensures { let model = model.entry.now in
-        let st = observations.old in
-        (v : Value) → ((r : Option ℕ) → item < items model → F.post packed (category model item) r →
-        r ≡ taken (category model item) item v) →
-        let x = observe_item model st item time v in
-        (result ≡ x.answer) × (observations.new ≡ x.observations) }
-{
-    if model.items() <= item {
-        return Err(Refusal::Item);
-    }
-    let category = model.category(item);
-    let word = packed(category).ok_or(Refusal::Kind)?;
-    match observe_short(model, observations, category, item, time, word) {
-        Some(noted) => Ok(noted),
-        None => observe_long(model, observations, category, item, time, word),
-    }
-}
-
-// An observation of an item by its value.
+// An observation of an item: refused, Same where it repeats the item's latest, or recorded. Item, time and value stand
+// apart: each caller would join them only for them to be taken apart here.
 pub fn observe_item(
     model: &Words<'_>,
     observations: &mut [u64],
@@ -86,32 +44,13 @@ pub fn observe_item(
     ensures { let x = observe_item model.now observations.old item time value in
         (result ≡ x.answer) × (observations.new ≡ x.observations) }
 {
-    observe_with(
-        model,
-        observations,
-        item,
-        time,
-        |category| taken(category, item, value),
-    )
-}
-
-// The same by a value's word.
-pub fn observe_word(
-    model: &Words<'_>,
-    observations: &mut [u64],
-    item: u64,
-    time: u64,
-    word: u64,
-) -> ObserveAnswer
-    requires head { Head (items model.now) observations.old }
-    ensures { let x = observe_item model.now observations.old item time (decode word) in
-        (result ≡ x.answer) × (observations.new ≡ x.observations) }
-{
-    observe_with(
-        model,
-        observations,
-        item,
-        time,
-        |category| taken_word(category, item, word),
-    )
+    if model.items() <= item {
+        return Err(Refusal::Item);
+    }
+    let category = model.category(item);
+    let word = taken(category, item, value).ok_or(Refusal::Kind)?;
+    match observe_short(model, observations, category, item, time, word) {
+        Some(noted) => Ok(noted),
+        None => observe_long(model, observations, category, item, time, word),
+    }
 }

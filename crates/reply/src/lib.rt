@@ -15,7 +15,8 @@ pub const SIZES: usize = 4;
 
 pub const ROW_WORDS: usize = 3;
 
-// The sizes of a reply, or refusal 15 where w words don't fit behind them. The most words are a full ring's rows.
+// The sizes of a reply, or the refusal Space where w words don't fit behind them. The most words are a full ring's
+// rows.
 pub fn fit_sizes(reply: &mut [u64], w: u64, sizes: [u64; SIZES]) -> Result<(), Refusal>
     requires { w ≤ 3 * max_ring }
     ensures fitted { Fitted reply.old w sizes (is_ok result) reply.new }

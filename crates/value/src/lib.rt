@@ -135,27 +135,3 @@ pub fn decode(word: u64) -> Value
         _ => NO_VALUE,
     }
 }
-
-// Whether an item of the category takes the value of a word: takes of decode, by the word alone.
-pub fn takes_word(category: u64, word: u64) -> bool
-    ensures { result ≡ takes category (decode word) }
-{
-    let kind = word / KIND;
-    if category <= spec::EVENT {
-        // samples and events have their kinds in the order of their categories
-        return kind == category + SAMPLE_KIND || word == 0;
-    }
-    if category == spec::CONDITION {
-        let front = word / LEVEL;
-        return word == 0 || (NORMAL <= front && front <= FAULT);
-    }
-    category == spec::DISCRETE && (kind == EVENT_KIND || word == 0)
-}
-
-// The packed word of an item and the word of a value: any item below 2^24 fits.
-pub fn pack_word(item: u64, word: u64) -> u64
-    requires { (item < 2 ^ 24) × (word < 2 ^ 40) }
-    ensures { result ≡ item * 2 ^ 40 + word }
-{
-    item * ITEM + word
-}
