@@ -21,10 +21,10 @@ use Rattle.marks.specs.Marks.{mark_of, key_of}
 use Rattle.marks.specs.Marked.{Marked}
 use Rattle.marks.proofs.Keys.{key-small, mark-some, mark-key}
 use Rattle.marks.proofs.Places.{marked-zeros}
-use Rattle.entries.specs.Forms.{may_follow, marks_of, filled}
-use Rattle.std.specs.Prelude.{Option, Some, None, is_some}
+use Rattle.entries.specs.Forms.{may_follow, marks_of, FilledBy, filled}
+use Rattle.std.specs.Prelude.{None}
 use Rattle.entries.proofs.Marks.{length-marks, marks-of}
-use Rattle.entries.proofs.Laws.{follows, fill_rest, rest_all, follows-marked, filled-used, some-filled}
+use Rattle.entries.proofs.Laws.{follows, fill_rest, rest_all, follows-marked, filled-used}
 
 -- ---- marks
 
@@ -80,15 +80,19 @@ filling-start own rows e =
     record { used = omega arith; few = omega arith; made = e; given = λ e. tt; rest = rest_all own rows }
 
 module _ {own : ℕ} {rows : List (List ℕ)} {marks : List ℕ} {n j : ℕ} (v : Filling own rows marks n j) where
-  pub filling-end : length rows ≡ 8 → 8 ≤ j
-      → (Some n ≡ filled own rows) × (form_ok own 0 rows ≡ true → marks ≡ marks_of own 1 rows)
+  pub filling-end : length rows ≡ 8 → 8 ≤ j → FilledBy own rows marks n
   unfolding fill_rest
   filling-end size h =
       let e : j ≡ 8 = omega (arith, v.few) in
-      let l : length (take n rows) ≡ n = length-take-le n rows (omega (arith, v.used, v.few)) in (
-        sym (v.rest ∙ rw (drop_of_length-le rows {i = j} (omega arith), l)),
-        λ f. v.made ∙ rw (take_all j rows (omega arith), e, append-nil (marks_of own 1 rows)),
-      )
+      let l : length (take n rows) ≡ n = length-take-le n rows (omega (arith, v.used, v.few)) in
+      let x : (form_ok own 0 rows ≡ true) × (n ≡ length (used_rows rows)) =
+      filled-used own rows (sym (v.rest ∙ rw (drop_of_length-le rows {i = j} (omega arith), l))) in
+      record {
+        size = size;
+        form = x.0;
+        many = x.1;
+        is = v.made ∙ rw (take_all j rows (omega arith), e, append-nil (marks_of own 1 rows));
+      }
 
 -- a turn: row j is read
 pub record Reading (own : ℕ) (rows : List (List ℕ)) (marks : List ℕ) (n j number time word : ℕ) : Type 0 where
@@ -235,26 +239,6 @@ pub rows-many : (st : List ℕ) (t w n k : ℕ) → length (table_rows st t w n 
 unfolding table_rows
 rows-many st t w zero k = refl
 rows-many st t w (suc n) k = ap suc (rows-many st t w n (suc k))
-
-pub record FilledBy (own : ℕ) (rs : List (List ℕ)) (marks : List ℕ) (n : ℕ) : Type 0 where
-  pub size : length rs ≡ 8
-  pub form : form_ok own 0 rs ≡ true
-  pub many : n ≡ length (used_rows rs)
-  pub is : marks ≡ marks_of own 1 rs
-
-pub filled-by : (own : ℕ) (rs : List (List ℕ)) {marks : List ℕ} {n : ℕ} → length rs ≡ 8 → Some n ≡ filled own rs
-    → (form_ok own 0 rs ≡ true → marks ≡ marks_of own 1 rs) → FilledBy own rs marks n
-filled-by own rs size e f =
-    let x = filled-used own rs e in
-    record { size = size; form = x.0; many = x.1; is = f x.0 }
-
--- the same where the number is not asked for
-pub formed-by : (own : ℕ) (rs : List (List ℕ)) {found : Option ℕ} {marks : List ℕ} → length rs ≡ 8 → found ≡ filled own rs
-    → (form_ok own 0 rs ≡ true → marks ≡ marks_of own 1 rs) → is_some found ≡ true
-    → FilledBy own rs marks (length (used_rows rs))
-formed-by own rs size e f s =
-    let x : form_ok own 0 rs ≡ true = sym (ap is_some e ∙ some-filled own rs) ∙ s in
-    record { size = size; form = x; many = refl; is = f x }
 
 module _ {own : ℕ} {rs : List (List ℕ)} {marks : List ℕ} {n : ℕ} (by : FilledBy own rs marks n) where
   pub by-marked : Marked own (used_rows rs) marks

@@ -16,8 +16,8 @@ use Rattle.marks.specs.Marks.{key_in, key_of, place_of, found_at}
 use Rattle.marks.specs.Marked.{Marked}
 use Rattle.marks.proofs.Keys.{key-active, key-idle}
 use Rattle.marks.proofs.Places.{place-has, place_none}
-use Rattle.entries.specs.Forms.{may_follow, filled}
-use Rattle.std.specs.Prelude.{Option, Some, None, MatchOption, is_some, nat_lt}
+use Rattle.entries.specs.Forms.{may_follow, FilledBy, filled}
+use Rattle.std.specs.Prelude.{Option, Some, None, MatchOption, nat_lt}
 
 -- ---- one more entry
 
@@ -250,10 +250,11 @@ module _ (own : ℕ) (rs : List (List ℕ)) where
       (λ f. (f, cc (rw f at e)))
       (λ f. let z : ◌≡◌ {A = ℕ} 0 1 = cc (rw f at e) in absurd (omega arith))
 
-  pub some-filled : is_some (filled own rs) ≡ form_ok own 0 rs
+  -- and back
+  pub broken-filled : form_ok own 0 rs ≡ false → None ≡ filled own rs
   unfolding filled
-  some-filled = by-test (form_ok own 0 rs) (λ f. rw f) (λ f. rw f)
+  broken-filled f = rw f
 
-  -- then nothing is asked of the marks
-  pub broken : {A : Type 0} → None ≡ filled own rs → form_ok own 0 rs ≡ true → A
-  broken e t = absurd (true≢false (sym t ∙ filled-broken e))
+  pub used-filled : {marks : List ℕ} {n : ℕ} → FilledBy own rs marks n → Some n ≡ filled own rs
+  unfolding filled
+  used-filled by = rw (by.form, by.many)

@@ -1,5 +1,5 @@
 -- What the functions over an item's eight entries give, by the rows that stand in its table.
-use Rattle.std.specs.Prelude.{ℕ, suc, ◌+◌, ◌*◌, ◌≤◌, Bool, cond, ◌&&◌, ◌||◌, not, List, [], ◌∷◌, eqb, length, get_or, Option, Some, None}
+use Rattle.std.specs.Prelude.{ℕ, suc, ◌+◌, ◌*◌, ◌≤◌, ◌≡◌, Bool, true, cond, ◌&&◌, ◌||◌, not, List, [], ◌∷◌, eqb, length, get_or, Option, Some, None}
 use Rattle.spec.specs.Entries.{packed, used_rows, form_ok}
 use Rattle.marks.specs.Marks.{mark_of, key_in, key_of, place_of}
 
@@ -19,6 +19,13 @@ marks_of own place [] = []
 marks_of own place (r ∷ rs) =
     let ms = marks_of own (suc place) rs in
     cond (eqb (get_or r 0 0) 0) 0 (mark_of place (key_of own (packed r))) ∷ ms
+
+-- eight rows in their written form, their marks, and how many are used
+pub record FilledBy (own : ℕ) (rs : List (List ℕ)) (marks : List ℕ) (n : ℕ) : Type 0 where
+  pub size : length rs ≡ 8
+  pub form : form_ok own 0 rs ≡ true
+  pub many : n ≡ length (used_rows rs)
+  pub is : marks ≡ marks_of own 1 rs
 
 -- how many rows are used, where they have their written form
 unfoldable pub filled : ℕ → List (List ℕ) → Option ℕ

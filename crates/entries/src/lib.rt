@@ -2,9 +2,9 @@
 // and how many are used.
 #![tactic(auto)]
 
-ghost use Rattle.std.specs.Prelude.{◌≡◌, true, ◌^◌, ◌<◌, length, replicate, drop};
+ghost use Rattle.std.specs.Prelude.{◌≡◌, false, ◌^◌, ◌<◌, MatchOption, drop};
 ghost use Rattle.spec.specs.Entries.{form_ok, each_row, zero_row};
-ghost use Rattle.entries.specs.Forms.{may_follow, marks_of, filled};
+ghost use Rattle.entries.specs.Forms.{may_follow, FilledBy, filled};
 
 mod table;
 
@@ -24,16 +24,21 @@ fn may_follow(marks: &[u64; ENTRY_SLOTS], n: u64, key: u64) -> bool
             && marks::find(marks, key).is_some_and(|place| place as u64 == n)
 }
 
-// The marks of item own's eight entries to eight words, which are 0: the entries from 1 on with their keys. How many
-// are used, where they have their written form; 0 is no refusal, since a checkpoint may have none, and who needs one
-// filters it out.
-pub fn fill(entries: &Entries<'_>, own: u64, marks: &mut [u64; ENTRY_SLOTS]) -> Option<u64>
+// Eight entries in their written form: how many are used, and the marks of all, from place 1 on with their keys.
+#[derive(Clone, Copy)]
+pub struct Filled {
+    pub used: u64,
+    pub marks: [u64; ENTRY_SLOTS],
+}
+
+// Item own's eight entries as marks, where they have their written form; none used is no refusal, since a checkpoint
+// may have none, and who needs one filters it out.
+pub fn fill(entries: &Entries<'_>, own: u64) -> Option<Filled>
     requires own_bound { own < 2 ^ 24 }
-    requires unmarked { marks.old ≡ replicate 8 0 }
-    ensures value { result ≡ filled own entries.now }
-    ensures marks_after { form_ok own 0 entries.now ≡ true → marks.new ≡ marks_of own 1 entries.now }
-    ensures eight { length entries.now ≡ 8 }
+    ensures { MatchOption result (form_ok own 0 entries.now ≡ false)
+        (λ f. FilledBy own entries.now f.marks f.used) }
 {
+    let mut marks = [0u64; ENTRY_SLOTS];
     let mut n: u64 = 0;
     for j in 0..entries.len() {
         let row = entries.row(j);
@@ -43,14 +48,14 @@ pub fn fill(entries: &Entries<'_>, own: u64, marks: &mut [u64; ENTRY_SLOTS]) -> 
             }
         } else {
             let key = marks::key_of(own, row.packed);
-            if n != j || !may_follow(marks, n, key) {
+            if n != j || !may_follow(&marks, n, key) {
                 return None;
             }
             marks[j as usize] = marks::mark_of(j + 1, key);
             n += 1;
         }
     }
-    Some(n)
+    Some(Filled { used: n, marks })
 }
 
 // Whether the entries behind the first are zeros: all words joined, and one test. A test in each turn, with a way out,
@@ -76,6 +81,6 @@ pub fn count(entries: &Entries<'_>, own: u64) -> Option<u64>
     if first.number != 0 && rest_unused(entries) {
         return Some(1);
     }
-    let mut marks = [0u64; ENTRY_SLOTS];
-    fill(entries, own, &mut marks)
+    let filled = fill(entries, own)?;
+    Some(filled.used)
 }

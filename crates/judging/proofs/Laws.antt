@@ -18,13 +18,14 @@ use Rattle.marks.proofs.Repeats.{normal-none, normal-free, normal-there, all-act
 use Rattle.judging.specs.Findings.{repeated_if, raised_judged, cleared_judged, judged}
 use Rattle.judging.specs.declared.Judged.{Judged}
 use Rattle.judging.specs.declared.Judged.TheVariants.{Repeated, New}
-use Rattle.std.specs.Prelude.{Ok, Err, Option, Some, None}
+use Rattle.std.specs.Prelude.{Ok, Err, Option, Some, None, MatchOption}
 use mathlib.Core.Logic.{◌⊎◌, inl, inr}
 use Rattle.spec.specs.declared.Refusal.TheVariants.{Store, Crowded}
-use Rattle.entries.proofs.Filling.{FilledBy, by-marked, by-eight, by-formed}
+use Rattle.entries.specs.declared.Filled.{Filled}
+use Rattle.entries.proofs.Kept.{Kept, kept-some}
+use Rattle.entries.proofs.Filling.{by-marked, by-eight, by-formed}
 use Rattle.entries.proofs.Marks.{used-at}
-use Rattle.entries.proofs.Laws.{filled-broken, filled-used}
-use Rattle.entries.specs.Forms.{filled}
+use Rattle.entries.specs.Forms.{FilledBy}
 
 -- ---- a branch each
 
@@ -55,6 +56,16 @@ module _ (ms : List ℕ) (key : ℕ) {j : ℕ} (e : j ≡ place_of key ms) where
 
 -- ---- the branches are what is found
 
+-- what fill gives
+abbrev pub Fills : ℕ → List (List ℕ) → Option Filled → Type 0
+Fills own rs o = MatchOption o (form_ok own 0 rs ≡ false) (λ f. FilledBy own rs f.marks f.used)
+
+-- and what a filter has left of it
+pub some-filled : {own : ℕ} {rs : List (List ℕ)} (o q : Option Filled) {P : Filled → Bool → Type 0} → Fills own rs o
+    → Kept o q P → ((f : Filled) (b : Bool) → P f b → b ≡ not (eqb f.used 0)) → {f : Filled} → q ≡ Some f
+    → FilledBy own rs f.marks f.used × (f.used ≡ 0 → ⊥)
+some-filled o q {P} e k t n = let s = kept-some (λ (f : Filled). f.used) o q P k t n in (rw s.0 at e, s.1)
+
 module _ (own : ℕ) (rs : List (List ℕ)) where
   form-one : form_ok own 1 rs ≡ leb 1 (length (used_rows rs)) && form_ok own 0 rs
   unfolding form_ok
@@ -69,10 +80,12 @@ module _ (own : ℕ) (rs : List (List ℕ)) where
   judged-none word z = rw (form-one, z)
 
   -- not filled, or no row used
-  pub judged-unused : (word : ℕ) {o : Option ℕ} → o ≡ filled own rs → (o ≡ None) ⊎ (o ≡ Some 0)
-      → Err Store ≡ judged own rs word
-  judged-unused word e (inl n) = judged-broken word (filled-broken own rs (sym n ∙ e))
-  judged-unused word e (inr n) = judged-none word (sym (filled-used own rs (sym n ∙ e)).1)
+  pub judged-unused : (word : ℕ) {o : Option Filled} → Fills own rs o
+      → (o ≡ None) ⊎ ((f : Filled) × (o ≡ Some f) × (f.used ≡ 0)) → Err Store ≡ judged own rs word
+  judged-unused word e (inl n) = judged-broken word (rw n at e)
+  judged-unused word e (inr n) =
+      let by : FilledBy own rs n.0.marks n.0.used = rw n.1 at e in
+      judged-none word (sym by.many ∙ n.2)
 
 -- the rows are filled, and one at least is used
 module _ {own : ℕ} {rs : List (List ℕ)} {marks : List ℕ} {n : ℕ} (by : FilledBy own rs marks n) (used : n ≡ 0 → ⊥)

@@ -53,13 +53,12 @@ pub fn judge(entries: &Entries<'_>, own: u64, word: u64) -> Result<Judged, Refus
     requires own_bound { own < 2 ^ 24 }
     ensures { result ≡ judged own entries.now word }
 {
-    let mut marks = [0u64; ENTRY_SLOTS];
-    entries::fill(entries, own, &mut marks)
-        .filter(|n| *n != 0)
+    let filled = entries::fill(entries, own)
+        .filter(|filled| filled.used != 0)
         .ok_or(Refusal::Store)?;
     let key = marks::key_of(own, word);
     if key != 0 {
-        return judge_raised(entries, &marks, key, word);
+        return judge_raised(entries, &filled.marks, key, word);
     }
     let first = entries.row(0);
     if !marks::is_normal(word) {
@@ -67,9 +66,9 @@ pub fn judge(entries: &Entries<'_>, own: u64, word: u64) -> Result<Judged, Refus
     }
     let code = marks::code_of(word);
     if code != 0 {
-        return Ok(judge_cleared(&marks, code + 1));
+        return Ok(judge_cleared(&filled.marks, code + 1));
     }
-    if marks::key_in(marks[0]) != 0 {
+    if marks::key_in(filled.marks[0]) != 0 {
         return Ok(Judged::New);
     }
     Ok(repeated_if(first.packed != value::pack(own, Value::Unavailable)))

@@ -242,10 +242,11 @@ module _ {cat : ℕ → ℕ} {m : ℕ} {st : List ℕ} {selection c i w t : ℕ}
         (rw (v.selected, r, form-used i (eight st t w i) f)) refl
 
   -- none used, or not filled
-  pub beyond-unused : {o : Option ℕ} → o ≡ filled i (eight st t w i) → (o ≡ None) ⊎ (o ≡ Some 0)
+  pub beyond-unused : {o : Option ℕ} → o ≡ filled i (eight st t w i)
+      → (o ≡ None) ⊎ ((x : ℕ) × (o ≡ Some x) × (x ≡ 0))
       → None ≡ extra_in cat m st selection
   beyond-unused e (inl n) = beyond-unformed (sym n ∙ e)
-  beyond-unused e (inr n) = beyond-empty (sym n ∙ e) refl
+  beyond-unused e (inr n) = beyond-empty (sym n.1 ∙ e) n.2
 
 -- ---- what a count says
 

@@ -1,7 +1,7 @@
 -- The marks that the checkpoints give: each condition item's eight, and what a loop that writes them knows.
 use Prim.Native.Nat.{ℕ, zero, suc, ◌+◌, ◌-◌, ◌*◌, ◌≤◌, ◌<◌}
 use mathlib.Core.Path.{◌≡◌, refl, sym, ap, ◌∙◌}
-use mathlib.Core.Bool.{Bool, true, false, cond, ◌||◌, not}
+use mathlib.Core.Bool.{true, false, cond, ◌||◌, not}
 use mathlib.Core.List.{List, [], ◌∷◌, map}
 use native.Mathlib.Numerals.{add-one}
 use native.Mathlib.Omega.{arith}
@@ -108,13 +108,6 @@ module _ (m : ℕ) (st : List ℕ) (f i : ℕ) where
         placed = first-placed i 1 rs (omega arith);
       }
 
--- ---- one item's, as they are written
-
--- where the table of checkpoints begins
-pub table_at : (m : ℕ) (st : List ℕ) {n t : ℕ} → t ≡ checkpoint_at n m → n ≡ ring_size st
-    → t ≡ checkpoint_at (ring_size st) m
-table_at m st e h = e ∙ rw h
-
 -- ---- all items
 
 module _ (steps m : ℕ) (st : List ℕ) where
@@ -166,13 +159,6 @@ module _ (steps m : ℕ) (st : List ℕ) where
       begun-others k (suc j) (begun_item j l) i b
       ∙ by-test (eqb j i) (λ t. rw (eqb-true j i t, b)) (λ t. item-other j i l (eqb-false j i t))
 
--- ---- a loop over the items: l are the marks behind those below i, and those from i on have none; they were o
-pub record Beginning (steps m : ℕ) (st : List ℕ) (o l : List (List ℕ)) (i : ℕ) : Type 0 where
-  pub free : (j : ℕ) → i ≤ j → j < max_items → eight_of l j ≡ replicate 8 0
-  pub ok : forms_ok steps m st
-      ≡ every (λ i. not (bit steps i) || form_ok i 0 (item_rows st (checkpoint_at (ring_size st) m) m i)) (m - i) i
-  pub marks : begun steps m st m 0 o ≡ begun steps m st (m - i) i l
-
 -- no item has a mark
 abbrev pub no_marks : List (List ℕ)
 no_marks = replicate max_items (replicate 8 0)
@@ -180,11 +166,15 @@ no_marks = replicate max_items (replicate 8 0)
 pub zeros-eight : (i : ℕ) → i < max_items → eight_of no_marks i ≡ replicate 8 0
 zeros-eight i h = get_or-replicate {A = List ℕ} max_items i (replicate 8 0) [] h
 
-pub beginning-start : (steps m : ℕ) (st : List ℕ) (o : List (List ℕ)) → o ≡ no_marks → Beginning steps m st o o 0
+-- ---- a loop over the items: l are the marks behind those below i; they were o
+pub record Beginning (steps m : ℕ) (st : List ℕ) (o l : List (List ℕ)) (i : ℕ) : Type 0 where
+  pub ok : forms_ok steps m st
+      ≡ every (λ i. not (bit steps i) || form_ok i 0 (item_rows st (checkpoint_at (ring_size st) m) m i)) (m - i) i
+  pub marks : begun steps m st m 0 o ≡ begun steps m st (m - i) i l
+
+pub beginning-start : (steps m : ℕ) (st : List ℕ) (o : List (List ℕ)) → Beginning steps m st o o 0
 unfolding forms_ok
-beginning-start steps m st o e =
-    let q : m - 0 ≡ m = omega arith in
-    record { free = λ j h g. rw e (zeros-eight j g); ok = rw q; marks = rw q }
+beginning-start steps m st o = let q : m - 0 ≡ m = omega arith in record { ok = rw q; marks = rw q }
 
 module _ {steps m : ℕ} {st : List ℕ} {o l : List (List ℕ)} {i : ℕ} (v : Beginning steps m st o l i) where
   module _ (h : i < m) where
@@ -194,30 +184,21 @@ module _ {steps m : ℕ} {st : List ℕ} {o l : List (List ℕ)} {i : ℕ} (v : 
 
     -- item i is no condition item
     pub beginning-skip : bit steps i ≡ false → Beginning steps m st o l (i + 1)
-    beginning-skip b =
-        record {
-          free = λ j g n. v.free j (omega arith) n;
-          ok = every-yes _ _ i m v.ok h (rw b);
-          marks = v.marks ∙ (next ∙ rw b);
-        }
+    beginning-skip b = record { ok = every-yes _ _ i m v.ok h (rw b); marks = v.marks ∙ (next ∙ rw b) }
 
-    module _ (b : bit steps i ≡ true) {w : ℕ} (ew : w ≡ checkpoint_at (ring_size st) m)
-        {t : Bool} (e : t ≡ form_ok i 0 (item_rows st w m i)) where
+    module _ (b : bit steps i ≡ true) where
+      abbrev rows : List (List ℕ)
+      rows = item_rows st (checkpoint_at (ring_size st) m) m i
+
       -- its form is broken
-      pub beginning-broken : t ≡ false → false ≡ forms_ok steps m st
-      beginning-broken z = every-no _ _ i m v.ok h (rw (b, ← ew, ← e, z))
+      pub beginning-broken : form_ok i 0 rows ≡ false → false ≡ forms_ok steps m st
+      beginning-broken z = every-no _ _ i m v.ok h (rw (b, z))
 
-      pub beginning-more : {ms : List ℕ} → t ≡ true → ms ≡ marks_of i 1 (item_rows st w m i)
+      pub beginning-more : {ms : List ℕ} → form_ok i 0 rows ≡ true → ms ≡ marks_of i 1 rows
           → Beginning steps m st o (set l i ms) (i + 1)
       beginning-more {ms} z em =
-          let q : begun_item steps m st i l ≡ set l i ms = rw (b, ← ew, em) in
-          record {
-            free =
-                λ j g n.
-                rw (← q, item-other steps m st i j l (λ y. omega arith)) (v.free j (omega arith) n);
-            ok = every-yes _ _ i m v.ok h (rw (b, ← ew, ← e, z));
-            marks = v.marks ∙ rw (next, q);
-          }
+          let q : begun_item steps m st i l ≡ set l i ms = rw (b, em) in
+          record { ok = every-yes _ _ i m v.ok h (rw (b, z)); marks = v.marks ∙ rw (next, q) }
 
   pub beginning-end : m ≤ i → (true ≡ forms_ok steps m st) × (l ≡ begun steps m st m 0 o)
   unfolding begun

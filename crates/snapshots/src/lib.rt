@@ -3,7 +3,7 @@
 // first number. A condition item's marks are stepped along the pass; of another the newest place is kept, by item.
 #![tactic(auto)]
 
-ghost use Rattle.std.specs.Prelude.{◌≡◌, true, is_some, ◌&&◌, ℕ, ◌+◌, ◌-◌, ◌*◌, ◌^◌, ◌<◌, ◌≤◌};
+ghost use Rattle.std.specs.Prelude.{◌≡◌, true, false, MatchOption, is_some, ◌&&◌, ℕ, ◌+◌, ◌-◌, ◌*◌, ◌^◌, ◌<◌, ◌≤◌};
 ghost use Rattle.std.specs.Prelude.{get_or, replicate};
 ghost use Rattle.spec.specs.Model.{max_items, items, category};
 ghost use Rattle.spec.specs.Entries.{form_ok};
@@ -31,30 +31,29 @@ fn steps_of(model: &Words<'_>, selection: u64) -> u64
     set
 }
 
-// The marks of condition item i's checkpoint to its eight, which are 0; None where it isn't in its written form.
-fn begin_item(st: &Store<'_>, i: u64, marks: &mut [u64; ENTRY_SLOTS]) -> Option<()>
+// The marks of condition item i's checkpoint; None where it isn't in its written form.
+fn begin_item(st: &Store<'_>, i: u64) -> Option<[u64; ENTRY_SLOTS]>
     requires i_lt_items { i < item_count st.now }
-    requires unmarked { marks.old ≡ replicate 8 0 }
-    ensures value { let t = checkpoint_at (ring_size st.now) (item_count st.now) in
-        is_some result ≡ form_ok i 0 (item_rows st.now t (item_count st.now) i) }
-    ensures marks_after { let t = checkpoint_at (ring_size st.now) (item_count st.now) in
-        is_some result ≡ true → marks.new ≡ marks_of i 1 (item_rows st.now t (item_count st.now) i) }
+    ensures { let t = checkpoint_at (ring_size st.now) (item_count st.now) in
+        let rows = item_rows st.now t (item_count st.now) i in
+        MatchOption result (form_ok i 0 rows ≡ false)
+        (λ marks. (form_ok i 0 rows ≡ true) × (marks ≡ marks_of i 1 rows)) }
 {
     let entries = Entries::of(st.slice(), st.checkpoint(), i);
-    entries::fill(&entries, i, marks)?;
-    Some(())
+    let filled = entries::fill(&entries, i)?;
+    Some(filled.marks)
 }
 
-// The marks of the condition items' checkpoints; None where one isn't in its written form.
+// The marks of the condition items' checkpoints; None where one isn't in its written form. All marks go to what the
+// caller has, here and in hold: with those of hold in an Option, their 4,096 bytes would be on the stack twice.
 fn begin(st: &Store<'_>, steps: u64, marks: &mut Marks) -> Option<()>
-    requires { marks.old ≡ replicate max_items (replicate 8 0) }
     ensures value { is_some result ≡ forms_ok steps (item_count st.now) st.now }
     ensures marks_after { is_some result ≡ true →
         marks.new ≡ begun steps (item_count st.now) st.now (item_count st.now) 0 marks.old }
 {
     for i in 0..st.items() {
         if selection::has(steps, i) {
-            begin_item(st, i, &mut marks[i as usize])?;
+            marks[i as usize] = begin_item(st, i)?;
         }
     }
     Some(())

@@ -17,11 +17,11 @@ use Rattle.marks.specs.Marked.{Marked}
 use Rattle.changes.specs.declared.Change.{Change}
 use Rattle.changes.specs.declared.Change.TheVariants.{Put, Alone, Out, Stay, Full}
 use Rattle.changes.proofs.Steps.{change-full, change-steps, changed-map, length-changed}
-use Rattle.entries.specs.Forms.{marks_of}
+use Rattle.entries.specs.Forms.{marks_of, FilledBy}
 use Rattle.stepping.specs.Taking.{takes_one}
 use Rattle.entries.proofs.Columns.{column, length-column, drop-sets, put-columns}
 use Rattle.entries.proofs.Columns.{numbers-read, times-read, words-read}
-use Rattle.entries.proofs.Filling.{rows-many, FilledBy, by-marked, by-eight, by-formed}
+use Rattle.entries.proofs.Filling.{rows-many, by-marked, by-eight, by-formed}
 use Rattle.entries.proofs.Marks.{length-marks, marks-of, form-zeros, rows-padded}
 
 -- any other change than Full

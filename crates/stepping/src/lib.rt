@@ -19,11 +19,10 @@ pub fn takes_one(entries: &Entries<'_>, own: u64, word: u64) -> bool
     requires own_bound { own < 2 ^ 24 }
     ensures { result ≡ takes_one own entries.now word }
 {
-    let mut marks = [0u64; ENTRY_SLOTS];
-    if entries::fill(entries, own, &mut marks).is_none() {
+    let Some(filled) = entries::fill(entries, own) else {
         return false;
-    }
-    !matches!(changes::change_for(&marks, own, word), Change::Full)
+    };
+    !matches!(changes::change_for(&filled.marks, own, word), Change::Full)
 }
 
 // The change done to the first eight of these words, x being the new one.
@@ -46,9 +45,10 @@ pub fn step(st: &mut [u64], table: Table, k: u64, own: u64, row: Row)
         let new = padded 8 (step own es (row.number ∷ row.time ∷ row.packed ∷ [])) in
         st.new ≡ put_rows st.old table.at table.rows k new }
 {
-    let mut marks = [0u64; ENTRY_SLOTS];
-    entries::fill(&Entries::from_row(st, table, k), own, &mut marks);
-    let change = changes::change_for(&marks, own, row.packed);
+    let Some(filled) = entries::fill(&Entries::from_row(st, table, k), own) else {
+        unreachable!()
+    };
+    let change = changes::change_for(&filled.marks, own, row.packed);
     let numbers = (table.at + k) as usize;
     let times = numbers + (table.rows as usize);
     let words = times + (table.rows as usize);

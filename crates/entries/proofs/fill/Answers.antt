@@ -1,8 +1,8 @@
 use native.Mathlib.Omega.{arith}
 use Rattle.entries.proofs.Filling.{filling-start, filling-end, reading-spoilt, reading-unused, reading-late}
 use Rattle.entries.proofs.Filling.{reading, reading-refused, reading-used}
-use Rattle.entries.proofs.Laws.{broken}
-use mathlib.Core.Path.{◌≡◌}
+use Rattle.entries.proofs.Laws.{filled-broken}
+use mathlib.Core.Path.{◌≡◌, refl}
 use Rattle.std.specs.Prelude.{None}
 use Rattle.entries.specs.Forms.{filled}
 use Rattle.entries.proofs.fill.Goals as goal
@@ -12,16 +12,15 @@ use Rattle.entries.proofs.fill.Goals.{then-row-eq0+else-row-ne0+else-row-ne0-2}
 use Rattle.entries.proofs.fill.Goals.{else-row-eq0+else-n-j+else-not-may_follow}
 
 pub loop-j-init : goal.loop-j-init
-loop-j-init c = filling-start _ _ c.requires.unmarked
+loop-j-init c = filling-start _ _ refl
 
 pub returns-then-row-ne0 : goal.returns-then-row-ne0
 returns-then-row-ne0 c =
     let d = reading c.loop-j.invariant c.len-j-end.ensures.1 (omega arith) c.row-row.ensures in
-    let e = reading-spoilt d c.if-row-eq0.true (λ x y. elim c.then-row-ne0.branch [
+    filled-broken _ _ (reading-spoilt d c.if-row-eq0.true (λ x y. elim c.then-row-ne0.branch [
       | then-row-ne0-via-then-row-ne0 w ↦ w.if-row-ne0.true x
       | then-row-ne0-via-else-row-ne0+then-row-ne0-2 w ↦ w.if-row-ne0-2.true y
-    ]) in
-    record { value = e; marks_after = broken _ _ e; eight = c.len-j-end.ensures.1 }
+    ]))
 
 pub returns-then-n-j : goal.returns-then-n-j
 returns-then-n-j c =
@@ -33,7 +32,7 @@ returns-then-n-j c =
           reading-refused d c.if-row-eq0.false c.key_of-key.ensures.0 w.if-n-j.false w.may_follow.ensures
           w.if-not-may_follow.true
     ] in
-    record { value = e; marks_after = broken _ _ e; eight = c.len-j-end.ensures.1 }
+    filled-broken _ _ e
 
 pub loop-j-preserved : goal.loop-j-preserved
 loop-j-preserved c =
@@ -50,5 +49,4 @@ loop-j-preserved c =
 
 pub returns : goal.returns
 returns c =
-    let whole = filling-end c.loop-j.invariant c.len-j-end.ensures.1 (omega arith) in
-    record { value = whole.0; marks_after = whole.1; eight = c.len-j-end.ensures.1 }
+    filling-end c.loop-j.invariant c.len-j-end.ensures.1 (omega arith)

@@ -1,9 +1,9 @@
 -- The marks tell, branch by branch, what observe finds of the used rows.
 use native.Mathlib.Numerals.{add-one}
 use Rattle.marks.proofs.Laws.{key-zero, key-some}
-use Rattle.entries.proofs.Filling.{filled-by}
-use Rattle.entries.proofs.Kept.{kept-none, kept-some}
-use Rattle.judging.proofs.Laws.{judged-unused, judged-raised, judged-first, judged-idle}
+use Rattle.entries.specs.declared.Filled.{Filled}
+use Rattle.entries.proofs.Kept.{kept-none}
+use Rattle.judging.proofs.Laws.{some-filled, judged-unused, judged-raised, judged-first, judged-idle}
 use Rattle.std.proofs.Common.{rules, tests}
 use Rattle.spec.proofs.Refused.{handed-on, refusal-is}
 use Rattle.judging.proofs.Laws.{judged-cleared, judged-all}
@@ -13,58 +13,52 @@ use Rattle.std.specs.Prelude.{Ok}
 use Rattle.judging.specs.declared.Judged.{Judged}
 use Rattle.judging.proofs.judge.Goals as goal
 
-pub returns-in_err-ok_or : goal.returns-in_err-ok_or
-returns-in_err-ok_or c =
-    let r = refusal-is c.filter.result (sym c.in_err-ok_or.was ∙ c.ok_or.ensures.value) c.in_err-ok_or.ensures.ok_part in
-    let k = kept-none c.fill.result c.filter.result _ c.filter.ensures (λ x b q. search (rules, tests))
-    c.in_err-ok_or.ensures.ok_part in
-    handed-on _ c.from_residual.ensures.1 r
-    ∙ judged-unused _ _ _ c.fill.ensures.value k
+pub returns-in_err-filled : goal.returns-in_err-filled
+returns-in_err-filled c =
+    let e = c.in_err-filled.ensures.ok_part in
+    let r = refusal-is c.filter.result (sym c.in_err-filled.was ∙ c.ok_or.ensures.value) e in
+    let k = kept-none (λ (f : Filled). f.used) c.fill.result c.filter.result _ c.filter.ensures (λ f b q. search (rules, tests)) e in
+    handed-on _ c.from_residual.ensures.1 r ∙ judged-unused _ _ _ c.fill.ensures k
 
 pub returns-then-key-ne0 : goal.returns-then-key-ne0
 returns-then-key-ne0 c =
-    let k = kept-some c.fill.result c.filter.result _ c.filter.ensures (λ x b q. search (rules, tests))
-    c.in_ok-ok_or.ensures.ok_part in
-    let d = filled-by _ _ c.fill.ensures.eight (sym k.0 ∙ c.fill.ensures.value) c.fill.ensures.marks_after in
+    let d = some-filled c.fill.result c.filter.result c.fill.ensures c.filter.ensures (λ f b q. search (rules, tests))
+    c.in_ok-filled.ensures.ok_part in
     let some = key-some _ _ c.key_of-key.ensures.0 c.if-key-ne0.true in
-    c.judge_raised.ensures ∙ judged-raised d k.1 _ some c.key_of-key.ensures.0
+    c.judge_raised.ensures ∙ judged-raised d.0 d.1 _ some c.key_of-key.ensures.0
 
 pub returns-then-not-is_normal : goal.returns-then-not-is_normal
 returns-then-not-is_normal c =
-    let k = kept-some c.fill.result c.filter.result _ c.filter.ensures (λ x b q. search (rules, tests))
-    c.in_ok-ok_or.ensures.ok_part in
-    let d = filled-by _ _ c.fill.ensures.eight (sym k.0 ∙ c.fill.ensures.value) c.fill.ensures.marks_after in
+    let d = some-filled c.fill.result c.filter.result c.fill.ensures c.filter.ensures (λ f b q. search (rules, tests))
+    c.in_ok-filled.ensures.ok_part in
     let idle = key-zero _ _ c.key_of-key.ensures.0 c.if-key-ne0.false in
-    judged-first d k.1 _ idle c.row-first.ensures
+    judged-first d.0 d.1 _ idle c.row-first.ensures
     (sym c.is_normal.ensures ∙ c.if-not-is_normal.true) c.repeated_if.ensures
 
 pub returns-then-code-ne0 : goal.returns-then-code-ne0
 returns-then-code-ne0 c =
-    let k = kept-some c.fill.result c.filter.result _ c.filter.ensures (λ x b q. search (rules, tests))
-    c.in_ok-ok_or.ensures.ok_part in
-    let d = filled-by _ _ c.fill.ensures.eight (sym k.0 ∙ c.fill.ensures.value) c.fill.ensures.marks_after in
+    let d = some-filled c.fill.result c.filter.result c.fill.ensures c.filter.ensures (λ f b q. search (rules, tests))
+    c.in_ok-filled.ensures.ok_part in
     let idle = key-zero _ _ c.key_of-key.ensures.0 c.if-key-ne0.false in
     ap (λ (x : Judged). Ok x) c.judge_cleared.ensures
-    ∙ judged-cleared d k.1 _ idle (sym c.is_normal.ensures ∙ c.if-not-is_normal.false)
+    ∙ judged-cleared d.0 d.1 _ idle (sym c.is_normal.ensures ∙ c.if-not-is_normal.false)
     (λ y. c.if-code-ne0.true (c.code_of-code.ensures.0 ∙ y)) (add-one _ ∙ ap suc c.code_of-code.ensures.0)
 
 pub returns-then-key_in-ne0 : goal.returns-then-key_in-ne0
 returns-then-key_in-ne0 c =
-    let k = kept-some c.fill.result c.filter.result _ c.filter.ensures (λ x b q. search (rules, tests))
-    c.in_ok-ok_or.ensures.ok_part in
-    let d = filled-by _ _ c.fill.ensures.eight (sym k.0 ∙ c.fill.ensures.value) c.fill.ensures.marks_after in
+    let d = some-filled c.fill.result c.filter.result c.fill.ensures c.filter.ensures (λ f b q. search (rules, tests))
+    c.in_ok-filled.ensures.ok_part in
     let idle = key-zero _ _ c.key_of-key.ensures.0 c.if-key-ne0.false in
-    judged-all d k.1 _ idle (sym c.is_normal.ensures ∙ c.if-not-is_normal.false)
+    judged-all d.0 d.1 _ idle (sym c.is_normal.ensures ∙ c.if-not-is_normal.false)
     (sym c.code_of-code.ensures.0 ∙ c.if-code-ne0.false)
     (λ y. c.if-key_in-ne0.true (c.key_in.ensures.0 ∙ y))
 
 pub returns : goal.returns
 returns c =
-    let k = kept-some c.fill.result c.filter.result _ c.filter.ensures (λ x b q. search (rules, tests))
-    c.in_ok-ok_or.ensures.ok_part in
-    let d = filled-by _ _ c.fill.ensures.eight (sym k.0 ∙ c.fill.ensures.value) c.fill.ensures.marks_after in
+    let d = some-filled c.fill.result c.filter.result c.fill.ensures c.filter.ensures (λ f b q. search (rules, tests))
+    c.in_ok-filled.ensures.ok_part in
     let idle = key-zero _ _ c.key_of-key.ensures.0 c.if-key-ne0.false in
-    judged-idle d k.1 _ idle c.row-first.ensures
+    judged-idle d.0 d.1 _ idle c.row-first.ensures
     (sym c.is_normal.ensures ∙ c.if-not-is_normal.false)
     (sym c.code_of-code.ensures.0 ∙ c.if-code-ne0.false)
     (sym c.key_in.ensures.0 ∙ c.if-key_in-ne0.false)

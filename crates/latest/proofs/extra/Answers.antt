@@ -45,7 +45,7 @@ returns-in_err-n c =
     turn c.loop-i.invariant h (told c.has.ensures c.if-has.true)
     (told c.category.ensures c.if-category-eq-CONDITION.true) (rw c.args.source.agree at c.latest-latest.ensures.rows)
     c.latest-latest.ensures.at in
-    let k = kept-none c.count.result c.filter.result _ c.filter.ensures (λ x b q. search (rules, tests)) c.in_err-n.was in
+    let k = kept-none (λ x. x) c.count.result c.filter.result _ c.filter.ensures (λ x b q. search (rules, tests)) c.in_err-n.was in
     rw c.from_residual.ensures
     (beyond-unused v (rw (c.of-entries.ensures, c.slice-words.ensures.value) at c.count.ensures) k)
 
@@ -56,7 +56,7 @@ overflow_add-extra c =
     turn c.loop-i.invariant h (told c.has.ensures c.if-has.true)
     (told c.category.ensures c.if-category-eq-CONDITION.true) (rw c.args.source.agree at c.latest-latest.ensures.rows)
     c.latest-latest.ensures.at in
-    let k = kept-some c.count.result c.filter.result _ c.filter.ensures (λ x b q. search (rules, tests)) c.in_ok-n.was in
+    let k = kept-some (λ x. x) c.count.result c.filter.result _ c.filter.ensures (λ x b q. search (rules, tests)) c.in_ok-n.was in
     let more = beyond-more v (sym k.0 ∙ rw (c.of-entries.ensures, c.slice-words.ensures.value) at c.count.ensures) k.1 in
     omega (arith, beyond-few more (omega (arith, c.items-m.ensures)))
 
@@ -69,7 +69,7 @@ loop-i-preserved c =
           turn c.loop-i.invariant h (told c.has.ensures w.if-has.true)
           (told w.category.ensures w.if-category-eq-CONDITION.true) (rw c.args.source.agree at c.latest-latest.ensures.rows)
           c.latest-latest.ensures.at in
-          let k = kept-some w.count.result w.filter.result _ w.filter.ensures (λ x b q. search (rules, tests)) w.in_ok-n.was in
+          let k = kept-some (λ x. x) w.count.result w.filter.result _ w.filter.ensures (λ x b q. search (rules, tests)) w.in_ok-n.was in
           rw w.extra-is
           (beyond-more v (sym k.0 ∙ rw (w.of-entries.ensures, c.slice-words.ensures.value) at w.count.ensures) k.1)
       | else-has w ↦

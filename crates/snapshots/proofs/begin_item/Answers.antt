@@ -1,6 +1,5 @@
-use Rattle.entries.proofs.Laws.{filled-broken, filled-used}
 use native.Mathlib.Omega.{arith}
-use mathlib.Core.Path.{sym, ap, ◌∙◌}
+use mathlib.Core.Path.{ap}
 use lib.ListN.{length}
 use Rattle.snapshots.proofs.begin_item.Goals as goal
 
@@ -16,21 +15,14 @@ of-entries-requires c =
 
 pub fill-requires : goal.fill-requires
 fill-requires c =
-    record { own_bound = omega (arith, c.slice.ensures.head.few); unmarked = c.requires.unmarked }
+    omega (arith, c.slice.ensures.head.few)
 
-pub returns-in_err-fill-clause-value : goal.returns-in_err-fill-clause-value
-returns-in_err-fill-clause-value c =
-    let v = sym c.in_err-fill.was ∙ c.fill.ensures.value in
-    let f =
-    rw (c.of-entries.ensures, c.slice.ensures.value, c.checkpoint.ensures.rows, c.checkpoint.ensures.at) at v in
-    rw c.from_residual.ensures (sym (filled-broken _ _ f))
+pub returns-in_err-filled : goal.returns-in_err-filled
+returns-in_err-filled c =
+    let f = rw c.in_err-filled.was at c.fill.ensures in
+    rw (c.from_residual.ensures, ← c.checkpoint.ensures.at, ← c.checkpoint.ensures.rows, ← c.slice.ensures.value, ← c.of-entries.ensures) f
 
 pub returns : goal.returns
 returns c =
-    let v = sym c.in_ok-fill.was ∙ c.fill.ensures.value in
-    let e =
-    rw (c.of-entries.ensures, c.slice.ensures.value, c.checkpoint.ensures.rows, c.checkpoint.ensures.at) at v in
-    let g =
-    rw (c.of-entries.ensures, c.slice.ensures.value, c.checkpoint.ensures.rows, c.checkpoint.ensures.at) at c.fill.ensures.marks_after in
-    let f = (filled-used _ _ e).0 in
-    record { value = sym f; marks_after = λ _. g f }
+    let d = rw c.in_ok-filled.was at c.fill.ensures in
+    rw (← c.checkpoint.ensures.at, ← c.checkpoint.ensures.rows, ← c.slice.ensures.value, ← c.of-entries.ensures) (d.form, d.is)
