@@ -11,6 +11,7 @@ ghost use Rattle.short_way.specs.Found.{found, observed_by, NewIfPlain};
 use entries::Entries;
 use judging::Judged;
 use model::Words;
+use observations::{Modelled, Store};
 use spec::{Noted, ObserveAnswer, Refusal};
 
 // One observation more as last + 1, where a number is left and the entry that it overwrites may go.
@@ -31,34 +32,28 @@ fn record(
         let x = observe_by (room_for cat m st) cat m st item time word in
         (result ≡ x.answer) × (observations.new ≡ x.observations) }
 {
-    recording::room_for(model, observations)?;
-    let number = observations::last(observations, model.items()) + 1;
-    recording::add(model, observations, item, time, word);
-    Ok(Noted::Recorded(number))
+    let before = Store::of_model(model, observations);
+    recording::room_for(Modelled {
+        model: &*model,
+        store: &before,
+    })?;
+    Ok(Noted::Recorded(recording::add(model, observations, item, time, word)))
 }
 
 // What is found in an item's latest, of a packed word that is known to be new where the item has no conditions.
-fn judge_latest(
-    model: &Words<'_>,
-    observations: &[u64],
-    cat: u64,
-    item: u64,
-    word: u64,
-) -> Result<Judged, Refusal>
-    requires head { Head (items model.now) observations.now }
-    requires item_bound { (item < items model.now) × (cat ≡ category model.now item) }
-    requires new_if_plain { let st = observations.now in
-        NewIfPlain cat (found (category model.now) (ring_size st) (items model.now) st item word) }
-    ensures { let st = observations.now in
-        let model = model.entry.now in
+fn judge_latest(source: Modelled<'_>, item: u64, word: u64) -> Result<Judged, Refusal>
+    requires item_bound { item < items source.model.now }
+    requires new_if_plain { let model = source.model.now in
+        let st = source.store.now in
+        NewIfPlain (category model item) (found (category model) (ring_size st) (items model) st item word) }
+    ensures { let model = source.entry.model.now in
+        let st = source.entry.store.now in
         result ≡ found (category model) (ring_size st) (items model) st item word }
 {
-    if cat != spec::CONDITION {
+    if source.model.category(item) != spec::CONDITION {
         return Ok(Judged::New);
     }
-    let m = model.items();
-    let n = observations::ring_size(observations, m);
-    let entries = Entries::of(observations, observations::latest_table(n, m), item);
+    let entries = Entries::of(source.store.slice(), source.store.latest(), item);
     judging::judge(&entries, item, word)
 }
 
@@ -67,20 +62,28 @@ fn judge_latest(
 pub fn observe_long(
     model: &Words<'_>,
     observations: &mut [u64],
-    cat: u64,
     item: u64,
     time: u64,
     word: u64,
 ) -> ObserveAnswer
     requires head { Head (items model.now) observations.old }
-    requires item_bound { (item < items model.now) × (cat ≡ category model.now item) }
+    requires item_bound { item < items model.now }
     requires new_if_plain { let st = observations.old in
-        NewIfPlain cat (found (category model.now) (ring_size st) (items model.now) st item word) }
+        let is = found (category model.now) (ring_size st) (items model.now) st item word in
+        NewIfPlain (category model.now item) is }
     ensures { let of = category model.now in
         let x = observed_by of (items model.now) observations.old item time word in
         (result ≡ x.answer) × (observations.new ≡ x.observations) }
 {
-    let found = judge_latest(model, observations, cat, item, word);
+    let before = Store::of_model(model, observations);
+    let found = judge_latest(
+        Modelled {
+            model: &*model,
+            store: &before,
+        },
+        item,
+        word,
+    );
     match found? {
         Judged::Repeated => Ok(Noted::Same),
         Judged::New => record(model, observations, item, time, word),

@@ -1,11 +1,11 @@
 // The observation store: its head, and the places of ring and tables, read and written.
 #![tactic(auto)]
 
-ghost use Rattle.std.specs.Prelude.{◌≡◌, [], ◌∷◌, ◌+◌, ◌*◌, ◌≤◌, ◌<◌, length, get_or, set};
+ghost use Rattle.std.specs.Prelude.{◌≡◌, [], ◌∷◌, ◌+◌, ◌*◌, ◌≤◌, ◌<◌, length, set};
 ghost use Rattle.spec.specs.Words.{row, put};
 ghost use Rattle.spec.specs.Model.{max_items};
 ghost use Rattle.history.specs.Observations.{max_ring, max_number, ring_size, base, last, last_at, ring_at};
-ghost use Rattle.history.specs.Observations.{latest_at, checkpoint_at, item_row, store_words, place};
+ghost use Rattle.history.specs.Observations.{latest_at, checkpoint_at, store_words, place};
 ghost use Rattle.history.specs.Observations.{head_ok, Head, blank};
 ghost use Rattle.history.specs.Calls.{first};
 ghost use Rattle.observations.specs.Ring.{ring_time, ring_word};
@@ -203,16 +203,6 @@ pub fn row_at(st: &[u64], table: Table, k: u64) -> Row
         time: st[(at + rows + k) as usize],
         packed: st[(at + rows + rows + k) as usize],
     }
-}
-
-// The packed word of an item's first latest entry.
-pub fn latest_word(st: &[u64], m: u64, item: u64) -> u64
-    requires head { Head m st.now }
-    requires m_le_max_items { (m ≤ max_items) × (item < m) }
-    ensures { result ≡ get_or (item_row st.now (latest_at (ring_size st.now)) m item) 2 0 }
-{
-    let latest = latest_table(ring_size(st, m), m);
-    row_at(st, latest, spec::ENTRIES * item).packed
 }
 
 // Place p of a ring of n entries takes a time and a packed word.

@@ -2,15 +2,16 @@
 ghost use Rattle.std.specs.Prelude.{◌≡◌, true, false, [], ◌∷◌, ◌+◌, ◌*◌, ◌≤◌, ◌<◌, List, ℕ, length, get_or};
 ghost use Rattle.std.specs.Prelude.{MatchResult};
 ghost use Rattle.spec.specs.declared.Refusal.TheVariants.{Store as Refused};
-ghost use Rattle.spec.specs.Model.{max_items};
+ghost use Rattle.spec.specs.Model.{max_items, items};
 ghost use Rattle.history.specs.Observations.{max_ring, max_number, ring_size, item_count, base, last};
-ghost use Rattle.history.specs.Observations.{latest_at, checkpoint_at, place, head_ok};
+ghost use Rattle.history.specs.Observations.{latest_at, checkpoint_at, item_row, place, head_ok, Head};
 ghost use Rattle.spec.specs.Words.{row};
 ghost use Rattle.history.specs.Calls.{first};
 ghost use Rattle.observations.specs.Headed.{Headed};
 ghost use Rattle.observations.specs.Ring.{ring_word};
 
 use super::{ITEM_COUNT_AT, RING_AT, Row, Table, head_ok};
+use model::Words;
 use spec::Refusal;
 use std::marker::Model;
 
@@ -34,6 +35,16 @@ impl<'a> Store<'a> {
         requires { Headed words.now }
         ensures { result ≡ words.now }
     {
+        Store { words }
+    }
+
+    // The store of words whose head is known to be right for the model.
+    pub fn of_model(model: &Words<'_>, words: &'a [u64]) -> Store<'a>
+        requires { Head (items model.now) words.now }
+        ensures { (result ≡ words.now) × (item_count result ≡ items model.now) }
+    {
+        // a model has few items: its own call says it
+        let _ = model.items();
         Store { words }
     }
 
@@ -110,6 +121,15 @@ impl<'a> Store<'a> {
         ensures rows { result.rows ≡ 8 * item_count self.now }
     {
         super::latest_table(self.ring_size(), self.items())
+    }
+
+    // The packed word of an item's first latest entry.
+    pub fn latest_word(&self, item: u64) -> u64
+        requires { item < item_count self.now }
+        ensures { let t = latest_at (ring_size self.now) in
+            result ≡ get_or (item_row self.now t (item_count self.now) item) 2 0 }
+    {
+        super::row_at(self.words, self.latest(), spec::ENTRIES * item).packed
     }
 
     // The checkpoint table.

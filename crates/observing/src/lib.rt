@@ -49,8 +49,8 @@ pub fn observe_item(
     }
     let category = model.category(item);
     let word = taken(category, item, value).ok_or(Refusal::Kind)?;
-    match observe_short(model, observations, category, item, time, word) {
+    match observe_short(model, observations, item, time, word) {
         Some(noted) => Ok(noted),
-        None => observe_long(model, observations, category, item, time, word),
+        None => observe_long(model, observations, item, time, word),
     }
 }

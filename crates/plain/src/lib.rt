@@ -10,6 +10,7 @@ ghost use Rattle.history.specs.Calls.{room_for, added};
 ghost use Rattle.plain.specs.Short.{InRing, put_number};
 
 use model::Words;
+use observations::Store;
 use spec::Row;
 
 // A number at place p, by one row: the ring, the item's first latest entry, and last.
@@ -42,10 +43,7 @@ fn evict_plain(model: &Words<'_>, st: &mut [u64], n: u64, b: u64, s: u64) -> Opt
     let at = observations::place(n, b, s);
     let evicted = observations::ring_row(st, n, at, s - n);
     let item = value::item_of(evicted.packed);
-    if m <= item {
-        return None;
-    }
-    if model.category(item) == spec::CONDITION {
+    if model.category_at(item)? == spec::CONDITION {
         return None;
     }
     let checkpoint = observations::checkpoint_table(n, m);
@@ -66,9 +64,10 @@ pub fn add_plain(model: &Words<'_>, st: &mut [u64], item: u64, time: u64, word: 
         × ((room_for cat m old ≡ Ok tt) × (st.new ≡ added cat m old item time word))) }
 {
     let m = model.items();
-    let n = observations::ring_size(st, m);
-    let b = observations::base(st, m);
-    let s = observations::last(st, m) + 1;
+    let before = Store::of_model(model, st);
+    let n = before.ring_size();
+    let b = before.base();
+    let s = before.last() + 1;
     if spec::MAX_NUMBER < s {
         return None;
     }

@@ -43,23 +43,24 @@ module _ (cat : ℕ → ℕ) (n m : ℕ) (st : List ℕ) (word i : ℕ) (hi : i 
 
 -- ---- the room for a number
 
-module _ (cat : ℕ → ℕ) (st : List ℕ) (m n b l : ℕ) (hn : n ≡ ring_size st) (hb : b ≡ base st) (hl : l ≡ last st) where
+module _ (cat : ℕ → ℕ) (st : List ℕ) (m l : ℕ) (hl : l ≡ last st) where
   pub room-spent : max_number ≤ l → Err Spent ≡ room_for cat m st
   unfolding room_for
   room-spent h = rw (le-leb max_number (last st) (omega arith))
 
   module _ (h : l < max_number) where
-    pub room-unused : l + 1 - b < n → Ok tt ≡ room_for cat m st
+    pub room-unused : l + 1 - base st < ring_size st → Ok tt ≡ room_for cat m st
     unfolding room_for evict_ok
     room-unused u = rw (number-left st hl h, lt-leb (ring_size st) (suc (last st) - base st) (omega arith))
 
     -- where the number overwrites an entry, that entry's packed word decides
-    pub room-entry : (p w : ℕ) → n ≤ l + 1 - b → p ≡ place n b (l + 1) → w ≡ ring_word st n p → (r x : Bool)
-        → r ≡ overwritable cat n m st w → r ≡ x → cond x (Ok tt) (Err Store) ≡ room_for cat m st
+    pub room-entry : (p w : ℕ) → ring_size st ≤ l + 1 - base st → p ≡ place (ring_size st) (base st) (l + 1)
+        → w ≡ ring_word st (ring_size st) p → (r x : Bool)
+        → r ≡ overwritable cat (ring_size st) m st w → r ≡ x → cond x (Ok tt) (Err Store) ≡ room_for cat m st
     unfolding room_for
     room-entry p w u hp hw r x g f =
-        let e = by_word cat n m b (l + 1) p w st hp hw u in
-        rw (← f, g, number-left st hl h, ← e, hn, hb, hl, add-one (last st))
+        let e = by_word cat (ring_size st) m (base st) (l + 1) p w st hp hw u in
+        rw (← f, g, number-left st hl h, ← e, hl, add-one (last st))
 
 -- ---- adding
 

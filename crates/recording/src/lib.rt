@@ -4,52 +4,51 @@
 // it, and a struct of the numbers alone would need a clause for each that it is the store's.
 #![tactic(auto)]
 
-ghost use Rattle.std.specs.Prelude.{◌≡◌, true, ◌<◌, Ok};
+ghost use Rattle.std.specs.Prelude.{◌≡◌, true, suc, ◌<◌, Ok};
 ghost use Rattle.spec.specs.Model.{items, category};
-ghost use Rattle.history.specs.Observations.{Head, ring_size, latest_at, add, latest_ok};
+ghost use Rattle.history.specs.Observations.{Head, ring_size, last, latest_at, add, latest_ok};
 ghost use Rattle.history.specs.Calls.{room_for, added};
 ghost use Rattle.plain.specs.Short.{overwritable};
 ghost use Rattle.evicting.specs.Writing.{Overwriting, InTable};
 
 use entries::Entries;
 use model::Words;
+use observations::{Modelled, Store};
 use spec::{Refusal, Row};
 
 // Whether the entry about to be overwritten, by its packed word, has an item of the model whose checkpoint takes it.
-fn may_overwrite(model: &Words<'_>, st: &[u64], n: u64, word: u64) -> bool
-    requires head { Head (items model.now) st.now }
-    requires n_value { n ≡ ring_size st.now }
-    ensures { result ≡ overwritable (category model.now) n (items model.now) st.now word }
+fn may_overwrite(source: Modelled<'_>, word: u64) -> bool
+    ensures { let model = source.entry.model.now in
+        let st = source.entry.store.now in
+        result ≡ overwritable (category model) (ring_size st) (items model) st word }
 {
-    let m = model.items();
     let item = value::item_of(word);
-    if m <= item {
-        return false;
+    match source.model.category_at(item) {
+        None => false,
+        Some(spec::CONDITION) => {
+            let entries = Entries::of(source.store.slice(), source.store.checkpoint(), item);
+            stepping::takes_one(&entries, item, word)
+        }
+        Some(_) => true,
     }
-    if model.category(item) != spec::CONDITION {
-        return true;
-    }
-    let entries = Entries::of(st, observations::checkpoint_table(n, m), item);
-    stepping::takes_one(&entries, item, word)
 }
 
 // Whether a number is left, and the entry that it overwrites, if any, may go to its item's checkpoint.
-pub fn room_for(model: &Words<'_>, st: &[u64]) -> Result<(), Refusal>
-    requires head { Head (items model.now) st.now }
-    ensures { result ≡ room_for (category model.now) (items model.now) st.now }
+pub fn room_for(source: Modelled<'_>) -> Result<(), Refusal>
+    ensures { let model = source.entry.model.now in
+        result ≡ room_for (category model) (items model) source.entry.store.now }
 {
-    let m = model.items();
-    let n = observations::ring_size(st, m);
-    let b = observations::base(st, m);
-    let last = observations::last(st, m);
+    let words = source.store.slice();
+    let n = source.store.ring_size();
+    let last = source.store.last();
     if spec::MAX_NUMBER <= last {
         return Err(Refusal::Spent);
     }
-    if last + 1 - b < n {
+    if last + 1 - source.store.base() < n {
         return Ok(());
     }
-    let p = observations::place(n, b, last + 1);
-    if !may_overwrite(model, st, n, observations::ring_word(st, n, p)) {
+    let p = source.store.place(last + 1);
+    if !may_overwrite(source, observations::ring_word(words, n, p)) {
         return Err(Refusal::Store);
     }
     Ok(())
@@ -70,22 +69,24 @@ fn write(model: &Words<'_>, st: &mut [u64], n: u64, b: u64, item: u64, row: Row)
     observations::set_last(st, row.number);
 }
 
-// One observation more, as last + 1: a row without its number, which isn't known before.
-pub fn add(model: &Words<'_>, st: &mut [u64], item: u64, time: u64, word: u64)
+// One observation more, as last + 1, which is answered: a row without its number, which isn't known before.
+pub fn add(model: &Words<'_>, st: &mut [u64], item: u64, time: u64, word: u64) -> u64
     requires head { Head (items model.now) st.old }
     requires st_value { room_for (category model.now) (items model.now) st.old ≡ Ok tt }
     requires item_bound { item < items model.now }
     requires item_value { latest_ok (category model.now) (ring_size st.old) (items model.now) st.old item ≡ true }
-    ensures { st.new
+    ensures value { result ≡ suc (last st.old) }
+    ensures st_after { st.new
         ≡ added (category model.now) (items model.now) st.old item time word }
 {
-    let m = model.items();
-    let n = observations::ring_size(st, m);
-    let b = observations::base(st, m);
+    let before = Store::of_model(model, st);
+    let n = before.ring_size();
+    let b = before.base();
     let row = Row {
-        number: observations::last(st, m) + 1,
+        number: before.last() + 1,
         time,
         packed: word,
     };
     write(model, st, n, b, item, row);
+    row.number
 }

@@ -2,53 +2,56 @@
 // plain's head.
 #![tactic(auto)]
 
-ghost use Rattle.std.specs.Prelude.{◌≡◌, ◌≤◌, ◌<◌, get_or};
+ghost use Rattle.std.specs.Prelude.{◌≡◌, ◌<◌, get_or};
 ghost use Rattle.spec.specs.Value.{repeats};
-ghost use Rattle.spec.specs.Model.{max_items, items, category};
+ghost use Rattle.spec.specs.Model.{items, category};
 ghost use Rattle.history.specs.Observations.{Head, ring_size, latest_at, item_row};
 ghost use Rattle.short_way.specs.Found.{found, observed_by, Shortened};
 
 use model::Words;
+use observations::{Modelled, Store};
 use spec::Noted;
 
-// Whether a packed word repeats the latest of its item, which is of the category. A discrete item's latest isn't read.
-fn repeats(observations: &[u64], m: u64, category: u64, item: u64, word: u64) -> bool
-    requires head { Head m observations.now }
-    requires m_le_max_items { m ≤ max_items }
-    requires item_lt_m { item < m }
-    ensures { let st = observations.now in
-        result ≡ repeats category (get_or (item_row st (latest_at (ring_size st)) m item) 2 0) word }
+// Whether a packed word repeats the latest of its item. A discrete item's latest isn't read.
+fn repeats(source: Modelled<'_>, item: u64, word: u64) -> bool
+    requires { item < items source.model.now }
+    ensures { let model = source.entry.model.now in
+        let st = source.entry.store.now in
+        let latest = item_row st (latest_at (ring_size st)) (items model) item in
+        result ≡ repeats (category model item) (get_or latest 2 0) word }
 {
-    if category == spec::DISCRETE {
-        return false;
-    }
-    observations::latest_word(observations, m, item) == word
+    source.model.category(item) != spec::DISCRETE && source.store.latest_word(item) == word
 }
 
 // The short way: a value of an item without conditions that takes it, whose one latest word decides. None, and nothing
-// is changed, where there is more to it. The category goes beside model and item, here and in the long way: it was read
-// to judge the value, and without it each way would read it once more.
+// is changed, where there is more to it.
 pub fn observe_short(
     model: &Words<'_>,
     observations: &mut [u64],
-    cat: u64,
     item: u64,
     time: u64,
     word: u64,
 ) -> Option<Noted>
     requires head { Head (items model.now) observations.old }
-    requires item_bound { (item < items model.now) × (cat ≡ category model.now item) }
+    requires item_bound { item < items model.now }
     ensures { let st = observations.old in
         let of = category model.now in
         let m = items model.now in
         let is = found of (ring_size st) m st item word in
-        Shortened result cat is (observed_by of m st item time word) st observations.new }
+        Shortened result (of item) is (observed_by of m st item time word) st observations.new }
 {
-    if cat == spec::CONDITION {
+    if model.category(item) == spec::CONDITION {
         return None;
     }
-    let m = model.items();
-    if repeats(observations, m, cat, item, word) {
+    let before = Store::of_model(model, observations);
+    if repeats(
+        Modelled {
+            model: &*model,
+            store: &before,
+        },
+        item,
+        word,
+    ) {
         return Some(Noted::Same);
     }
     let number = plain::add_plain(model, observations, item, time, word)?;

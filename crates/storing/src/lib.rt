@@ -9,6 +9,7 @@ ghost use Rattle.spec.specs.Assets.{AssetHead, asset_ok};
 ghost use Rattle.history.specs.Calls.{room_for, keep_by, keep_asset};
 
 use model::Words;
+use observations::{Modelled, Store};
 use spec::{Answer, Refusal, Value};
 
 // The asset goes into its cell, and the event with that cell's number is added to the asset change item, where there
@@ -32,7 +33,11 @@ fn keep_changed(
         let x = keep_by room model.now st assets.old id.now body.now host in
         (result ≡ x.answer) × (observations.new ≡ x.observations) × (assets.new ≡ x.assets) }
 {
-    recording::room_for(model, observations)?;
+    let before = Store::of_model(model, observations);
+    recording::room_for(Modelled {
+        model: &*model,
+        store: &before,
+    })?;
     let cell = assets::store(assets, id, body);
     // cells are few: a TryFrom would ask for an answer that can't be
     let word = value::pack(change, Value::Event(cell as u32));

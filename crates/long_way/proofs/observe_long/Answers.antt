@@ -6,4 +6,4 @@ use Rattle.long_way.proofs.observe_long.Goals as goal
 
 pub returns-in_err-found : goal.returns-in_err-found
 returns-in_err-found c =
-    rw (broken-observed _ _ _ _ _ _ _ c.in_err-found.ensures, handed-on _ c.from_residual.ensures.1 refl) (refl, refl)
+    rw (broken-observed _ _ _ _ _ _ _ (rw c.of_model-before.ensures.0 at c.in_err-found.ensures), handed-on _ c.from_residual.ensures.1 refl) (refl, refl)

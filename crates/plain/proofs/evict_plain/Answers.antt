@@ -10,8 +10,9 @@ returns-then-s-b c =
 
 pub returns : goal.returns
 returns c =
+    let k = rw c.in_ok-category_at.was at c.category_at.ensures in
     let table = c.checkpoint_table-checkpoint.ensures in
     plain-evicted _ _ _ _ _ _ _ _ c.place-at.ensures.is c.ring_row-evicted.ensures.packed _ c.item_of-item.ensures
-    (omega arith) _ _ _ _ (omega arith) (λ e. c.if-category-eq-CONDITION.false (c.category.ensures ∙ e)) (rw c.items-m.ensures.0 at table.rows)
+    (omega arith) _ _ _ _ k.1 (λ e. c.if-branch-eq-CONDITION.false (k.0 ∙ e)) (rw c.items-m.ensures.0 at table.rows)
     (rw c.items-m.ensures.0 at table.at) c.ring_row-evicted.ensures.time
     (rw c.ring_row-evicted.ensures.number at c.put_row.ensures)

@@ -1,23 +1,22 @@
 -- The item decides first, then its category, then its checkpoint.
-use mathlib.Core.Path.{◌∙◌}
-use native.Mathlib.Omega.{arith}
-use Rattle.spec.proofs.Words.{told}
+use mathlib.Core.Path.{sym, ◌∙◌}
+use Rattle.spec.specs.Model.{category}
 use Rattle.plain.proofs.Laws.{over_plain}
 use Rattle.recording.proofs.Laws.{over_none, over-entries}
 use Rattle.recording.proofs.may_overwrite.Goals as goal
 
-pub returns-then-m-item : goal.returns-then-m-item
-returns-then-m-item c =
-    over_none _ _ _ _ _ _ c.item_of-item.ensures (omega arith)
+pub returns-in-None : goal.returns-in-None
+returns-in-None c =
+    over_none _ _ _ _ _ _ c.item_of-item.ensures c.in-None.ensures
 
-pub returns-then-category-ne-CONDITION : goal.returns-then-category-ne-CONDITION
-returns-then-category-ne-CONDITION c =
-    over_plain _ _ _ _ _ _ c.item_of-item.ensures (omega arith)
-    (λ e. c.if-category-ne-CONDITION.true (c.category.ensures ∙ e))
+pub returns-in-Some-eq2 : goal.returns-in-Some-eq2
+returns-in-Some-eq2 c =
+    let k = c.in-Some-eq2.ensures in
+    let table = rw c.args.source.agree at c.checkpoint.ensures in
+    over-entries (category c.args.source.model.now) _ _ _ _ _ c.item_of-item.ensures k.1 _ _ table.rows table.at
+    (sym k.0 ∙ c.in-Some-eq2.field-0-test) (rw (c.of-entries.ensures, c.slice.ensures.value) at c.takes_one.ensures)
 
-pub returns : goal.returns
-returns c =
-    let table = c.checkpoint_table.ensures in
-    over-entries _ _ _ _ _ _ c.item_of-item.ensures (omega arith) _ _ (rw c.items-m.ensures.0 at table.rows)
-    (rw c.items-m.ensures.0 at table.at)
-    (told c.category.ensures c.if-category-ne-CONDITION.false) (rw c.of-entries.ensures at c.takes_one.ensures)
+pub returns-in-Some : goal.returns-in-Some
+returns-in-Some c =
+    let k = c.in-Some.ensures in
+    over_plain _ _ _ _ _ _ c.item_of-item.ensures k.1 (λ e. c.in-Some.field-0-test.1 (k.0 ∙ e))

@@ -5,24 +5,25 @@ use Rattle.std.specs.Prelude.{Some, Ok}
 use Rattle.spec.specs.declared.Noted.{Noted}
 use Rattle.spec.specs.Answers.{ObserveAnswer}
 use Rattle.spec.specs.Model.{category}
+use Rattle.spec.proofs.Words.{told}
 use Rattle.short_way.proofs.Laws.{found-same, found-new, by-found}
 use Rattle.short_way.proofs.observe_short.Goals as goal
 
 answered : {x y : Noted} → Some x ≡ Some y → ◌≡◌ {A = ObserveAnswer} (Ok y) (Ok x)
 answered e = cc
 
-pub returns-then-cat-eq-CONDITION : goal.returns-then-cat-eq-CONDITION
-returns-then-cat-eq-CONDITION c =
-    record { done = λ a e. cc; left = λ e. refl; new = λ e n. absurd (n c.if-cat-eq-CONDITION.true) }
+pub returns-then-category-eq-CONDITION : goal.returns-then-category-eq-CONDITION
+returns-then-category-eq-CONDITION c =
+    let k = told c.category.ensures c.if-category-eq-CONDITION.true in
+    record { done = λ a e. cc; left = λ e. refl; new = λ e n. absurd (n k) }
 
 pub returns-then-repeats : goal.returns-then-repeats
 returns-then-repeats c =
     let plain = λ (e : category c.args.model.now c.args.item ≡ 2).
-    c.if-cat-eq-CONDITION.false (c.requires.item_bound.1 ∙ e) in
+    c.if-category-eq-CONDITION.false (c.category.ensures ∙ e) in
     let f =
-    found-same (category c.args.model.now) _ _ _ _ _ plain
-    (rw (c.requires.item_bound.1, c.items-m.ensures.0) at c.repeats.ensures) c.if-repeats.true
-    in
+    found-same (category c.args.model.now) _ _ _ _ _ plain (rw c.of_model-before.ensures.0 at c.repeats.ensures)
+    c.if-repeats.true in
     record {
       done = λ a e. rw (by-found _ _ _ _ _ _ _ f) (answered e, refl);
       left = λ e. cc;
@@ -32,33 +33,30 @@ returns-then-repeats c =
 pub add_plain-requires : goal.add_plain-requires
 add_plain-requires c =
     let plain = λ (e : category c.args.model.now c.args.item ≡ 2).
-    c.if-cat-eq-CONDITION.false (c.requires.item_bound.1 ∙ e) in
-    record {
-      head = c.requires.head;
-      item_bound = (c.requires.item_bound.0, ne_eqb _ 2 plain);
-    }
+    c.if-category-eq-CONDITION.false (c.category.ensures ∙ e) in
+    record { head = c.requires.head; item_bound = (c.requires.item_bound, ne_eqb _ 2 plain) }
 
 pub returns-in_err-number : goal.returns-in_err-number
 returns-in_err-number c =
     let plain = λ (e : category c.args.model.now c.args.item ≡ 2).
-    c.if-cat-eq-CONDITION.false (c.requires.item_bound.1 ∙ e) in
+    c.if-category-eq-CONDITION.false (c.category.ensures ∙ e) in
+    let f =
+    found-new (category c.args.model.now) _ _ _ _ _ plain (rw c.of_model-before.ensures.0 at c.repeats.ensures)
+    c.if-repeats.false in
     rw c.from_residual.ensures
     (record {
       done = λ a e. cc;
       left = λ e. rw c.in_err-number.was at c.add_plain.ensures;
-      new = λ e n.
-          found-new (category c.args.model.now) _ _ _ _ _ plain
-          (rw (c.requires.item_bound.1, c.items-m.ensures.0) at c.repeats.ensures) c.if-repeats.false;
+      new = λ e n. f;
     })
 
 pub returns : goal.returns
 returns c =
     let plain = λ (e : category c.args.model.now c.args.item ≡ 2).
-    c.if-cat-eq-CONDITION.false (c.requires.item_bound.1 ∙ e) in
+    c.if-category-eq-CONDITION.false (c.category.ensures ∙ e) in
     let f =
-    found-new (category c.args.model.now) _ _ _ _ _ plain
-    (rw (c.requires.item_bound.1, c.items-m.ensures.0) at c.repeats.ensures) c.if-repeats.false
-    in
+    found-new (category c.args.model.now) _ _ _ _ _ plain (rw c.of_model-before.ensures.0 at c.repeats.ensures)
+    c.if-repeats.false in
     let d = rw c.in_ok-number.was at c.add_plain.ensures in
     record {
       done = λ a e. rw (by-found _ _ _ _ _ _ _ f, d.1.0) (rw d.0 at (answered e), d.1.1);

@@ -18,7 +18,7 @@ overflow_cast-cell c =
 
 pub add-requires : goal.add-requires
 add-requires c =
-    let room = told c.room_for.ensures c.in_ok-room_for.was in
+    let room = told (rw c.of_model-before.ensures.0 at c.room_for.ensures) c.in_ok-room_for.was in
     record {
       head = c.requires.head;
       st_value = room;
@@ -28,12 +28,12 @@ add-requires c =
 
 pub returns-in_err-room_for : goal.returns-in_err-room_for
 returns-in_err-room_for c =
-    rw (handed-on _ c.from_residual.ensures.1 refl, told c.room_for.ensures c.in_err-room_for.was) (refl, refl, refl)
+    rw (handed-on _ c.from_residual.ensures.1 refl, told (rw c.of_model-before.ensures.0 at c.room_for.ensures) c.in_err-room_for.was) (refl, refl, refl)
 
 pub returns : goal.returns
 returns c =
     let e =
     event-added _ _ c.args.host c.args.observations.now _ c.requires.change_value.0 c.store-cell.ensures.value
-    c.pack-word.ensures c.add.ensures in
-    rw (told c.room_for.ensures c.in_ok-room_for.was)
+    c.pack-word.ensures c.add.ensures.st_after in
+    rw (told (rw c.of_model-before.ensures.0 at c.room_for.ensures) c.in_ok-room_for.was)
     (ap Ok c.store-cell.ensures.value, e, c.store-cell.ensures.bs_after)
