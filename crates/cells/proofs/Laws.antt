@@ -11,10 +11,11 @@ use lib.ListN.{length, get_or, set, take, drop, replicate, length-set, length-ap
 use lib.ListN.{drop_of_length-le}
 use lib.Seq.{paste, sets, sets-eq, length-sets, drop-cons, drop-set-lt, get_or-drop, get_or-take, drop-drop, length-take-le}
 use borrow.Rule.Slice.PartMut.{put_mid}
-use Rattle.std.proofs.lemmas.List.Edits.{paste_all, paste-paste}
+use Rattle.std.proofs.lemmas.List.Edits.{paste-paste}
 use Rattle.std.proofs.lemmas.Slice.{put_mid-paste}
 use Rattle.spec.specs.Bytes.{same, pad}
 use Rattle.spec.specs.Assets.{renew}
+use Rattle.spec.proofs.Written.{pasted}
 
 -- ---- comparison
 
@@ -39,15 +40,6 @@ module _ {s t : List ℕ} {fine : Bool} {xs ys : List ℕ} (r : Comparing s t fi
   pub comparing-all : (xs ≡ []) × (ys ≡ []) → fine ≡ same s t
   unfolding same
   comparing-all h = sym (r.rest ∙ rw (h.0, h.1) (and-true fine))
-
--- ---- writing
-
--- w copied over the bytes from a on
-pasted : (a n : ℕ) (o w : List ℕ) → n ≡ length w → a + n ≤ length o → paste o a w n ≡ sets o a w
-pasted a n o w e h =
-    paste_all o a w n e
-    ∙ sym (append_assoc (take a o) w (drop (a + n) o))
-    ∙ rw e (sym (sets-eq w o a (omega arith)))
 
 -- ---- padded cells
 

@@ -10,7 +10,8 @@ use Rattle.std.specs.List.{copy_within}
 use Rattle.std.proofs.lemmas.List.Edits.{paste_all}
 use borrow.Rule.Slice.PartMut.{put_mid}
 use Rattle.marks.specs.Marks.{eight_at}
-use Rattle.marks.proofs.Laws.{eight-length, eight-lent, eight-back}
+use Rattle.spec.proofs.Written.{part-set}
+use Rattle.marks.proofs.Laws.{eight-length, eight-lent}
 use Rattle.changes.specs.Changes.{without, changed, ChangeFits}
 use Rattle.changes.specs.declared.Change.{Change}
 use Rattle.changes.proofs.Steps.{length-changed}
@@ -39,8 +40,8 @@ module _ (a : ℕ) (l : List ℕ) (h : Change) (x : ℕ) {ys : List ℕ} (fits :
   pub eight-written : ys ≡ changed 0 h x (eight_at l a)
       → put_mid a (a + 8 - a) l ys ≡ sets l a (changed 0 h x (eight_at l a))
   eight-written e =
-      let n : length ys ≡ 8 = ap length e ∙ length-changed 0 h x (eight_at l a) fits (eight-length l a room) in
-      eight-back a l ys n room ∙ ap (sets l a) e
+      let n = length-changed 0 h x (eight_at l a) fits (eight-length l a room) in
+      part-set a _ l ys _ e (omega arith) (omega arith)
 
   pub eight-changed : ys ≡ changed 0 h x (take 8 (lent a l)) ++ drop 8 (lent a l)
       → put_mid a (a + 8 - a) l ys ≡ sets l a (changed 0 h x (eight_at l a))

@@ -3,19 +3,22 @@ use mathlib.Core.Path.{◌≡◌, refl, sym, ap, ◌∙◌, subst}
 use mathlib.Core.Logic.{◌≢◌, ◌⊎◌, inl, inr}
 use mathlib.Core.Bool.{Bool, true, false, cond, ◌&&◌, false≢true}
 use Prim.Native.Nat.{ℕ, zero, suc, ◌+◌, ◌-◌, ◌*◌, ◌/◌, ◌%◌, ◌≤◌, ◌<◌}
-use native.Mathlib.Nat.{not-suc-le-zero, suc-mul, add-mul, zero-mul, add-zero, zero-add, div-add-mod'}
+use native.Mathlib.Nat.{suc-mul, add-mul, zero-mul, add-zero, zero-add, div-add-mod'}
 use native.Mathlib.Omega.{arith}
 use mathlib.Core.List.{List, [], ◌∷◌, ◌++◌, append_assoc, append-nil}
 use lib.Dec.{leb, ltb, eqb}
 use lib.ListN.{length, get_or, set, take, drop, replicate, length-append, length-replicate, length-take, length-drop, replicate-append-replicate, drop_of_length-le, take-append-drop}
 use lib.Seq.{split_at, append_snoc, take_at, drop_at, length-take-le, take-length, get_or-take, get_or-drop, drop-drop}
 use borrow.Author.Tests.{le-leb, leb-true, ltb-true, ltb-false, lt-leb, eq-eqb, ne_eqb}
+use Rattle.std.specs.List.{AllByRecursion as Each, flat_map as cells}
+use Rattle.std.proofs.lemmas.Grind.{flat_map-append}
 use Rattle.spec.specs.Words.{first_where}
 use Rattle.spec.specs.Bytes.{text_byte, id_byte, all, same, pad}
 use Rattle.spec.specs.Assets.{max_body, capacity, used, ids_at, bodies_at, cell, id_cell, body_cell, asset_head_ok, id_ok, find, given_up, renew, used_after, out_for, cell_for, store_cells, start_assets, body_start, length_at, length_ok}
 use Rattle.history.specs.Calls.{find_all}
 use Rattle.history.specs.Reference.{Held, place, holds, without, make_room, content_at, places_of}
 use Rattle.spec.proofs.Words.{and_left, and_right, by_cond}
+use Rattle.spec.proofs.Elements.{each-imp, each-append, each-parts, each-at}
 use Rattle.spec.proofs.Assets.{id-max}
 use Rattle.spec.proofs.Bytes.{same_refl, same_true}
 
@@ -31,29 +34,17 @@ id_of t = id_cell t.id
 abbrev body_for : Held → List ℕ
 body_for t = body_cell t.content
 
-unfoldable cells : (Held → List ℕ) → List Held → List ℕ
-cells f [] = []
-cells f (t ∷ T) = f t ++ cells f T
-
 abbrev region : (Held → List ℕ) → ℕ → ℕ → List Held → List ℕ
 region f w A T = cells f T ++ replicate ((A - length T) * w) 0
 
 unfoldable pub encode : ℕ → List Held → List ℕ
-unfolding cells
 encode A T = (A ∷ length T ∷ []) ++ (region id_of 32 A T ++ region body_for 512 A T)
 
 -- each cell of T is w bytes
 abbrev Wide : (Held → List ℕ) → ℕ → List Held → Type 0
-Wide f w [] = Unit {0}
-Wide f w (t ∷ T) = (length (f t) ≡ w) × Wide f w T
-
-cells-append : (f : Held → List ℕ) (X Y : List Held) → cells f (X ++ Y) ≡ cells f X ++ cells f Y
-unfolding cells
-cells-append f [] Y = refl
-cells-append f (t ∷ X) Y = rw (cells-append f X Y) (sym (append_assoc (f t) (cells f X) (cells f Y)))
+Wide f w = Each (λ t. length (f t) ≡ w)
 
 length-cells : (f : Held → List ℕ) (w : ℕ) (T : List Held) → Wide f w T → length (cells f T) ≡ length T * w
-unfolding cells
 length-cells f w [] h = sym (zero-mul w)
 length-cells f w (t ∷ T) h = length-append (f t) (cells f T) ∙ omega (arith, h.0, length-cells f w T h.1, suc-mul (length T) w)
 
@@ -73,47 +64,37 @@ renew-split w b out n c L X M R hL hX hM h =
     split : n * w ≡ suc out * w + (n - suc out) * w
     split = let q : n ≡ suc out + (n - suc out) = omega arith in ap (λ (x : ℕ). x * w) q ∙ add-mul (suc out) (n - suc out) w
 
-wide-left : (f : Held → List ℕ) (w : ℕ) (X Y : List Held) → Wide f w (X ++ Y) → Wide f w X
-wide-left f w [] Y h = tt
-wide-left f w (t ∷ X) Y h = (h.0, wide-left f w X Y h.1)
-
-wide-right : (f : Held → List ℕ) (w : ℕ) (X Y : List Held) → Wide f w (X ++ Y) → Wide f w Y
-wide-right f w [] Y h = h
-wide-right f w (t ∷ X) Y h = wide-right f w X Y h.1
-
 zs : ℕ → List ℕ
 zs n = replicate n 0
 
 -- the run of cells of T, between P and S: x goes, t comes
 renew-inner : (f : Held → List ℕ) (w b k : ℕ) (x t : Held) (T₁ T₂ : List Held) (P S : List ℕ) → Wide f w (T₁ ++ (x ∷ T₂)) → length P ≡ b
     → renew w b (length T₁) (suc (length T₁ + length T₂)) (f t) (P ++ (cells f (T₁ ++ (x ∷ T₂)) ++ (zs k ++ S))) ≡ P ++ (cells f (T₁ ++ T₂ ++ (t ∷ [])) ++ (zs k ++ S))
-unfolding cells
 renew-inner f w b k x t T₁ T₂ P S hw hP =
-    let w2 : Wide f w (x ∷ T₂) = wide-right f w T₁ (x ∷ T₂) hw in
+    let w2 : Wide f w (x ∷ T₂) = (each-parts _ T₁ (x ∷ T₂) hw).1 in
     let l : length (P ++ cells f T₁) ≡ b + length T₁ * w =
-    length-append P (cells f T₁) ∙ omega (arith, hP, length-cells f w T₁ (wide-left f w T₁ (x ∷ T₂) hw)) in
+    length-append P (cells f T₁) ∙ omega (arith, hP, length-cells f w T₁ (each-parts _ T₁ (x ∷ T₂) hw).0) in
     let q : suc (length T₁ + length T₂) - suc (length T₁) ≡ length T₂ = omega arith in
-    ap (renew w b (length T₁) (suc (length T₁ + length T₂)) (f t)) (simp (cells-append, append_assoc))
+    ap (renew w b (length T₁) (suc (length T₁ + length T₂)) (f t)) (simp (flat_map-append, append_assoc))
     ∙ renew-split w b (length T₁) (suc (length T₁ + length T₂)) (f t) (P ++ cells f T₁) (f x) (cells f T₂) (zs k ++ S) l w2.0
     (rw q (length-cells f w T₂ w2.1)) (omega arith)
-    ∙ simp (cells-append, append_assoc, append-nil)
+    ∙ simp (flat_map-append, append_assoc, append-nil)
 
 -- there is room: t comes
 renew-last : (f : Held → List ℕ) (w b k : ℕ) (t : Held) (T : List Held) (P S : List ℕ) → Wide f w T → length P ≡ b
     → renew w b (length T) (suc (length T)) (f t) (P ++ (cells f T ++ (zs (w + k) ++ S))) ≡ P ++ (cells f (T ++ (t ∷ [])) ++ (zs k ++ S))
-unfolding cells zs
+unfolding zs
 renew-last f w b k t T P S hw hP =
     let l : length (P ++ cells f T) ≡ b + length T * w = length-append P (cells f T) ∙ omega (arith, hP, length-cells f w T hw) in
     let q : suc (length T) - suc (length T) ≡ 0 = omega arith in
     ap (renew w b (length T) (suc (length T)) (f t)) (rw (sym (replicate-append-replicate {A = ℕ} w k 0)) (simp append_assoc))
     ∙ renew-split w b (length T) (suc (length T)) (f t) (P ++ cells f T) (zs w) [] (zs k ++ S) l (length-replicate {A = ℕ} w 0)
     (rw q (sym (zero-mul w))) (omega arith)
-    ∙ simp (cells-append, append_assoc, append-nil)
+    ∙ simp (flat_map-append, append_assoc, append-nil)
 
 -- ---- an id is found by its padded cell
 abbrev Nz : List ℕ → Type 0
-Nz [] = Unit {0}
-Nz (x ∷ xs) = (x ≢ 0) × Nz xs
+Nz = Each (λ x. x ≢ 0)
 
 same-zeros : (xs ys : List ℕ) (i j : ℕ) → Nz xs → Nz ys → length xs + i ≡ length ys + j → same (xs ++ zs i) (ys ++ zs j) ≡ same xs ys
 unfolding same zs
@@ -129,8 +110,7 @@ abbrev pub Storable : Held → Type 0
 Storable t = (id_ok t.id ≡ true) × (1 ≤ length t.content) × (length t.content ≤ max_body)
 
 abbrev pub AllStorable : List Held → Type 0
-AllStorable [] = Unit {0}
-AllStorable (t ∷ T) = Storable t × AllStorable T
+AllStorable = Each Storable
 
 byte-nz : (x : ℕ) → id_byte x ≡ true → x ≢ 0
 unfolding id_byte text_byte
@@ -152,31 +132,26 @@ unfolding zs
 eq-cells x y hx hy = same-zeros x y (32 - length x) (32 - length y) (id-nz x hx) (id-nz y hy) (omega (arith, id-max x hx, id-max y hy))
 
 wide-id : (T : List Held) → AllStorable T → Wide id_of 32 T
-wide-id [] h = tt
-wide-id (t ∷ T) h =
-    (length-append t.id (replicate (32 - length t.id) 0) ∙ omega (arith, length-replicate {A = ℕ} (32 - length t.id) 0, id-max t.id h.0.0), wide-id T h.1)
+wide-id =
+    each-imp
+    (λ t h.
+    length-append t.id (replicate (32 - length t.id) 0) ∙ omega (arith, length-replicate {A = ℕ} (32 - length t.id) 0, id-max t.id h.0))
 
 wide-body : (T : List Held) → AllStorable T → Wide body_for 512 T
-wide-body [] h = tt
-wide-body (t ∷ T) h = (
-  length-append ((length t.content / 256) ∷ (length t.content % 256) ∷ t.content) (replicate (512 - suc (suc (length t.content))) 0)
-      ∙ omega (arith, length-replicate {A = ℕ} (512 - suc (suc (length t.content))) 0, h.0.2),
-  wide-body T h.1,
-)
+wide-body =
+    each-imp
+    (λ t h.
+    length-append ((length t.content / 256) ∷ (length t.content % 256) ∷ t.content) (replicate (512 - suc (suc (length t.content))) 0)
+    ∙ omega (arith, length-replicate {A = ℕ} (512 - suc (suc (length t.content))) 0, h.2))
 
 -- cell i of a run
 cell_at : (f : Held → List ℕ) (w b : ℕ) (x : Held) (T₁ T₂ : List Held) (P R : List ℕ) → Wide f w (T₁ ++ (x ∷ T₂)) → length P ≡ b
     → cell w b (length T₁) (P ++ (cells f (T₁ ++ (x ∷ T₂)) ++ R)) ≡ f x
-unfolding cells
 cell_at f w b x T₁ T₂ P R hw hP =
     let l : length (P ++ cells f T₁) ≡ b + length T₁ * w =
-    length-append P (cells f T₁) ∙ omega (arith, hP, length-cells f w T₁ (wide-left f w T₁ (x ∷ T₂) hw)) in
-    let e : P ++ (cells f (T₁ ++ (x ∷ T₂)) ++ R) ≡ (P ++ cells f T₁) ++ (f x ++ (cells f T₂ ++ R)) = simp (cells-append, append_assoc) in
-    rw (e, drop_at (P ++ cells f T₁) (f x ++ (cells f T₂ ++ R)) (b + length T₁ * w) l) (take_at (f x) (cells f T₂ ++ R) w (wide-right f w T₁ (x ∷ T₂) hw).0)
-
-ok-right : (X Y : List Held) → AllStorable (X ++ Y) → AllStorable Y
-ok-right [] Y h = h
-ok-right (t ∷ X) Y h = ok-right X Y h.1
+    length-append P (cells f T₁) ∙ omega (arith, hP, length-cells f w T₁ (each-parts _ T₁ (x ∷ T₂) hw).0) in
+    let e : P ++ (cells f (T₁ ++ (x ∷ T₂)) ++ R) ≡ (P ++ cells f T₁) ++ (f x ++ (cells f T₂ ++ R)) = simp (flat_map-append, append_assoc) in
+    rw (e, drop_at (P ++ cells f T₁) (f x ++ (cells f T₂ ++ R)) (b + length T₁ * w) l) (take_at (f x) (cells f T₂ ++ R) w (each-parts _ T₁ (x ∷ T₂) hw).1.0)
 
 -- cell i holds the id
 abbrev holds_id : List ℕ → List ℕ → ℕ → Bool
@@ -187,7 +162,7 @@ find-cell : (id : List ℕ) (T₂ T₁ : List Held) (P R : List ℕ) → id_ok i
 unfolding first_where place
 find-cell id [] T₁ P R ht h hP = sym (add-zero (length T₁))
 find-cell id (x ∷ T₂) T₁ P R ht h hP =
-    rw (cell_at id_of 32 2 x T₁ T₂ P R (wide-id (T₁ ++ (x ∷ T₂)) h) hP, eq-cells x.id id (ok-right T₁ (x ∷ T₂) h).0.0 ht)
+    rw (cell_at id_of 32 2 x T₁ T₂ P R (wide-id (T₁ ++ (x ∷ T₂)) h) hP, eq-cells x.id id (each-parts Storable T₁ (x ∷ T₂) h).1.0.0 ht)
     (let q : T₁ ++ (x ∷ []) ++ T₂ ≡ T₁ ++ (x ∷ T₂) = append_snoc T₁ x T₂ in
     let l : length (T₁ ++ (x ∷ [])) ≡ suc (length T₁) = omega (arith, length-append T₁ (x ∷ [])) in
     go (same x.id id) (rw (q, l) at (find-cell id T₂ (T₁ ++ (x ∷ [])) P R ht (subst AllStorable (sym q) h) hP)))
@@ -243,19 +218,6 @@ renew-both A out n t T T' E h h' hn hA =
     l2 : length P2 ≡ 2 + A * 32
     l2 = omega (arith, length-append (cells id_of T') (zs ((A - length T') * 32)), length-cells id_of 32 T' (wide-id T' h'), length-replicate {A = ℕ} ((A - length T') * 32) 0)
 
-ok-left : (X Y : List Held) → AllStorable (X ++ Y) → AllStorable X
-ok-left [] Y h = tt
-ok-left (t ∷ X) Y h = (h.0, ok-left X Y h.1)
-
-ok_at : (T : List Held) (i : ℕ) → i < length T → AllStorable T → Storable (get_or T i no_asset)
-ok_at [] i l h = absurd (not-suc-le-zero l)
-ok_at (t ∷ T) zero l h = h.0
-ok_at (t ∷ T) (suc i) l h = ok_at T i (omega arith) h.1
-
-ok-append : (X Y : List Held) → AllStorable X → AllStorable Y → AllStorable (X ++ Y)
-ok-append [] Y x y = y
-ok-append (t ∷ X) Y x y = (x.0, ok-append X Y x.1 y)
-
 place-le : (id : List ℕ) (T : List Held) → place id T ≤ length T
 unfolding place
 place-le id [] = omega arith
@@ -294,7 +256,8 @@ after-inner : (A : ℕ) (x t : Held) (T₁ T₂ : List Held) → length (T₁ ++
 after-inner A x t T₁ T₂ hA ht h =
     let l : length (T₁ ++ (x ∷ T₂)) ≡ suc (length T₁ + length T₂) = omega (arith, length-append T₁ (x ∷ T₂)) in
     let l' : suc (length T₁ + length T₂) ≡ length (T₁ ++ T₂ ++ (t ∷ [])) = omega (arith, length-append (T₁ ++ T₂) (t ∷ []), length-append T₁ T₂) in
-    let h' : AllStorable (T₁ ++ T₂ ++ (t ∷ [])) = ok-append (T₁ ++ T₂) (t ∷ []) (ok-append T₁ T₂ (ok-left T₁ (x ∷ T₂) h) (ok-right T₁ (x ∷ T₂) h).1) (ht, tt) in
+    let k = each-parts Storable T₁ (x ∷ T₂) h in
+    let h' : AllStorable (T₁ ++ T₂ ++ (t ∷ [])) = each-append Storable (T₁ ++ T₂) (t ∷ []) (each-append Storable T₁ T₂ k.0 k.1.1) (ht, tt) in
     let z : eqb (length T₁) (length (T₁ ++ (x ∷ T₂))) ≡ false = ne_eqb (length T₁) (length (T₁ ++ (x ∷ T₂))) (omega arith) in (
       rw z
           (renew-both A (length T₁) (length (T₁ ++ (x ∷ T₂))) t (T₁ ++ (x ∷ T₂)) (T₁ ++ T₂ ++ (t ∷ []))
@@ -306,7 +269,7 @@ after-inner A x t T₁ T₂ hA ht h =
 after_last : (A : ℕ) (t : Held) (T : List Held) → length T < A → Storable t → AllStorable T → Stands A (after A (length T) t T) (T ++ (t ∷ []))
 after_last A t T hA ht h =
     let l' : suc (length T) ≡ length (T ++ (t ∷ [])) = omega (arith, length-append T (t ∷ [])) in
-    let h' : AllStorable (T ++ (t ∷ [])) = ok-append T (t ∷ []) h (ht, tt) in
+    let h' : AllStorable (T ++ (t ∷ [])) = each-append Storable T (t ∷ []) h (ht, tt) in
     (rw (eq-eqb (length T) (length T) refl) (renew-both A (length T) (suc (length T)) t T (T ++ (t ∷ [])) (renews-last A t T hA) h h' l' (omega arith)), omega arith, h')
 
 after_any : (A out : ℕ) (t : Held) (T : List Held) → length T ≤ A → Storable t → AllStorable T → (out < length T) ⊎ ((out ≡ length T) × (length T < A))
@@ -453,7 +416,7 @@ module _ (A : ℕ) (T : List Held) (i : ℕ) (l : i < length T) (hT : length T �
   pub length-ok : length_ok (length_at (encode A T) i) ≡ true
   unfolding length_ok
   length-ok =
-      let k : Storable (get_or T i no_asset) = ok_at T i l h in
+      let k : Storable (get_or T i no_asset) = each-at Storable T i no_asset l h in
       rw (length-at, le-leb 1 (length (content_at T i)) k.1, le-leb (length (content_at T i)) max_body k.2)
 
   -- the body's part of the store is the body
@@ -489,7 +452,7 @@ asset-heads A T hA hA' hT h =
     )))
 
 pub start-assets : (A : ℕ) → start_assets A ≡ encode A []
-unfolding start_assets cells encode
+unfolding start_assets encode
 start-assets A =
     let q : A * 544 ≡ (A - 0) * 32 + (A - 0) * 512 = omega arith in
     ap (λ (r : List ℕ). A ∷ 0 ∷ r) (rw q (sym (replicate-append-replicate {A = ℕ} ((A - 0) * 32) ((A - 0) * 512) 0)))

@@ -21,10 +21,12 @@ use Rattle.spec.specs.declared.Level.{Level}
 use Rattle.spec.specs.declared.Level.TheVariants.{Normal, Warning, Fault}
 use Rattle.spec.specs.declared.Value.{Value}
 use Rattle.spec.specs.declared.Value.TheVariants.{Unavailable, Sample, Event, Condition}
+use Rattle.std.specs.List.{AllByRecursion as Each}
+use Rattle.spec.proofs.Elements.{each-imp, each-map}
 use Rattle.spec.proofs.Words.{by-test}
 use Rattle.spec.proofs.Packing.{Coded, low-lt, kind-le, item-coded}
 use Rattle.history.proofs.Compared.{compare-coded, eq_value-true}
-use Rattle.history.proofs.Standing.{Each, entry, swap, none_in, swap-none, with-some, Differ, Sound, each_of}
+use Rattle.history.proofs.Standing.{entry, swap, none_in, swap-none, with-some, Differ, Sound}
 use Rattle.spec.proofs.Blocks.{Given, used-padded, padded-zeros}
 
 -- ---- fields of packed words
@@ -97,6 +99,9 @@ abbrev pub Own : ℕ → Observation → Type 0
 Own i x = (x.item ≡ i) × Coded x.value × (0 < x.number)
 
 module _ (i : ℕ) where
+  own-standing : (S : List Observation) → Each (λ x. (is_standing x.value ≡ true) × Own i x) S → Each (Own i) S
+  own-standing = each-imp (λ x t. t.1)
+
   own-active : (x : Observation) → Own i x → active i (packed (triple x)) ≡ is_standing x.value
   own-active x q = rw q.0 (active-coded i x.value q.1)
 
@@ -252,7 +257,7 @@ step-made i number time v (x ∷ S) n p h s l =
       any-coded i x S s.stand.0.0 s.stand.0.1,
     )
     (step-active i number time p (x ∷ S)
-    (each_of (λ y. (is_standing y.value ≡ true) × Own i y) (Own i) (x ∷ S) (λ y t. t.1) s.stand) s.differ v h)
+    (own-standing i (x ∷ S) s.stand) s.differ v h)
 
 -- the step over words is that over observations
 pub step-triple : (i : ℕ) (S : List Observation) (n o : Observation) → Sound (Own i) S n → length S ≤ 8 → Own i o
@@ -326,7 +331,7 @@ module _ (i : ℕ) (n : Observation) (q : Own i n) where
 
 module _ (i : ℕ) (x : Observation) (S : List Observation) (n : Observation) (s : Sound (Own i) (x ∷ S) n) where
   own : Each (Own i) (x ∷ S)
-  own = each_of (λ y. (is_standing y.value ≡ true) × Own i y) (Own i) (x ∷ S) (λ y t. t.1) s.stand
+  own = own-standing i (x ∷ S) s.stand
 
   not-unavailable : eq_value n.value Unavailable ≡ false
   not-unavailable =
@@ -345,8 +350,8 @@ module _ (i : ℕ) (x : Observation) (S : List Observation) (n : Observation) (s
         normal-coded i Unavailable h,
         holds-coded i Unavailable (x ∷ S) h own,
         none-unavailable (x ∷ S)
-            (each_of (λ y. (is_standing y.value ≡ true) × Own i y) (λ y. is_standing y.value ≡ true) (x ∷ S)
-            (λ y u. u.0) s.stand),
+            (each-imp {P = λ y. (is_standing y.value ≡ true) × Own i y} {Q = λ y. is_standing y.value ≡ true} (λ y u. u.0)
+            (x ∷ S) s.stand),
         not-unavailable,
       )
   same_some (Sample y) h t = absurd (false≢true t)
@@ -428,14 +433,13 @@ differ-coded i (x ∷ S) q d =
     rw (
       own-active i x q.0.1,
       q.0.0,
-      has-coded i c S (each_of (λ y. (is_standing y.value ≡ true) × Own i y) (Own i) S (λ y t. t.1) q.1),
+      has-coded i c S (own-standing i S q.1),
       z,
     )
     (differ-coded i S q.1 (λ k. omega (arith, d k, entry-tail k x S)))
 
 given-triples : (i : ℕ) (S : List Observation) → Each (Own i) S → Given (map triple S)
-given-triples i [] q = tt
-given-triples i (x ∷ S) q = (q.0.2, given-triples i S q.1)
+given-triples i S q = each-map _ triple S (each-imp {P = Own i} (λ x p. p.2) S q)
 
 module _ (i : ℕ) (n : Observation) where
   shown-own : (S : List Observation) → Sound (Own i) S n → Each (Own i) (shown S n)

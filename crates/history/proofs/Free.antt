@@ -18,6 +18,7 @@ use Rattle.history.specs.History.{Output}
 use Rattle.history.specs.History.Output.{started, observed, batched, stored, replied, returned}
 use Rattle.spec.specs.declared.Refusal.{Refusal}
 use Rattle.std.specs.Prelude.{Ok, Err}
+use Rattle.std.specs.List.{AllByRecursion as Each}
 use Rattle.spec.specs.Answers.{Answer, ObserveAnswer}
 use Rattle.spec.specs.declared.Noted.TheVariants.{Recorded, Same}
 use Rattle.std.proofs.lemmas.Bool.{and_from}
@@ -37,12 +38,10 @@ output_free k (replied x reply) = number_free k (answer_number x)
 output_free k (returned bs) = true
 
 abbrev pub Free : ℕ → List Output → Type 0
-Free k [] = Unit {0}
-Free k (o ∷ os) = (output_free k o ≡ true) × Free k os
+Free k = Each (λ o. output_free k o ≡ true)
 
 abbrev pub AllFree : ℕ → List (List Output) → Type 0
-AllFree k [] = Unit {0}
-AllFree k (os ∷ oss) = Free k os × AllFree k oss
+AllFree k = Each (Free k)
 
 module _ (k : ℕ) where
   abbrev RefusalFree : Refusal → Type 0

@@ -18,6 +18,7 @@ use Rattle.history.specs.History.{windows_of_call, windows_of, Meets, last_next,
 use Rattle.history.specs.History.Call.{observe, batch, line, store_asset, request, body}
 use Rattle.history.specs.History.Output.{observed}
 use Rattle.std.specs.Prelude.{Ok, Err}
+use Rattle.spec.proofs.Elements.{each-append}
 use Rattle.spec.specs.Answers.{Answer, ObserveAnswer}
 use Rattle.history.proofs.Recorded.{Numbered}
 use Rattle.history.proofs.Agree.{Good, bytes, last-is, observe-agree, store-agree, request-agree, body-agree}
@@ -25,7 +26,7 @@ use Rattle.history.proofs.Agree.{right-head, right-assets}
 use Rattle.history.proofs.Offers.{offers-base, offers-assets, batch-agree}
 use Rattle.history.proofs.Lines.{line-agree}
 use Rattle.history.proofs.Begin.{Begins, start-answers, start-good}
-use Rattle.history.proofs.Windows.{AllTrue, all_append, Later, later-after, call-true, SameItems, meet, same-items}
+use Rattle.history.proofs.Windows.{AllTrue, Later, later-after, call-true, SameItems, meet, same-items}
 
 -- ---- one call
 
@@ -128,7 +129,7 @@ module _ (a : Start) where
   unfolding windows_of reference_run reference_after
   client-true mine i [] p st G t = tt
   client-true mine i (c ∷ cs) p st G t =
-      all_append a K (cond (mine i) (windows_of_call c (reference_output a.model a.names p c)) [])
+      each-append _ (cond (mine i) (windows_of_call c (reference_output a.model a.names p c)) [])
       (windows_of mine (suc i) cs (reference_run a.model a.names (reference_next a.model a.names p c) cs))
       (go (mine i))
       (client-true mine (suc i) cs (reference_next a.model a.names p c) (stores_next a.model a.names (stores p st) c).observations

@@ -9,6 +9,7 @@ use Rattle.history.specs.Reference.{State}
 use Rattle.history.specs.Reference.Begun.{begun}
 use Rattle.history.specs.Polls.{Told}
 use Rattle.history.specs.History.{Call, Typed, AllTyped, Start, History, begins, stores_outputs, reference_after}
+use Rattle.spec.proofs.Elements.{each-all, each-map}
 use Rattle.spec.proofs.Packing.{decode-fits}
 use Rattle.history.proofs.History.{Sequence, history, sequence}
 use Rattle.history.proofs.Free.{AllFree}
@@ -43,8 +44,7 @@ typed (HostCall.body id) = tt
 
 -- whatever the words are
 pub all_typed : (cs : List HostCall) → AllTyped (map made cs)
-all_typed [] = tt
-all_typed (c ∷ cs) = (typed c, all_typed cs)
+all_typed cs = each-map Typed made cs (each-all typed cs)
 
 module _ (a : Start) (p : State) (accepted : begins a ≡ begun p) (cs : List HostCall) where
   -- demand 3

@@ -22,12 +22,13 @@ use Rattle.history.specs.Reference
 use Rattle.history.specs.Reference.{State, last_of, first_of, sample_start, current_for}
 use Rattle.history.specs.Reference.{reply_to, reply_reading}
 use Rattle.history.specs.Reference.Begun.{begun}
-use Rattle.history.specs.History.{Call, AllTyped, Start, begins, stores_behind, reference_output, reference_next}
+use Rattle.history.specs.History.{Call, Typed, AllTyped, Start, begins, stores_behind, reference_output, reference_next}
 use Rattle.history.specs.History.{reference_run, reference_after}
 use Rattle.history.specs.History.Call.{request}
 use Rattle.history.specs.Polls.{Asks, Gave, Polls, Told, gives_next, state_before, path_or, checked_or}
 use Rattle.spec.specs.declared.Refusal.{Refusal}
 use Rattle.std.specs.Prelude.{Ok, Err, Option, Some, None, slice_get}
+use Rattle.spec.proofs.Elements.{each-take}
 use Rattle.spec.proofs.Words.{by_cond}
 use Rattle.history.proofs.Requests.{selected-cases, sample-cases, at-cases}
 use Rattle.spec.proofs.Print.{print, print-reads, plain-short}
@@ -37,10 +38,6 @@ use Rattle.history.proofs.History.{calls-agree, behind-good, base-after}
 
 -- ---- the calls before call i, and its output
 
-typed-take : (cs : List Call) (i : ℕ) → AllTyped cs → AllTyped (take i cs)
-typed-take cs zero t = tt
-typed-take [] (suc i) t = tt
-typed-take (c ∷ cs) (suc i) t = (t.0, typed-take cs i t.1)
 
 module _ (model names : List ℕ) where
   run_at : (cs : List Call) (p : State) (i : ℕ) (c : Call) → slice_get cs i ≡ Some c
@@ -145,7 +142,7 @@ module _ (a : Start) (p : State) (accepted : begins a ≡ begun p) (cs : List Ca
   before i = state_before a p cs i
 
   good : (i : ℕ) → Good a.model a.names (before i) (stores_behind a (take i cs)).observations
-  good i = behind-good a p accepted (take i cs) (typed-take cs i typed)
+  good i = behind-good a p accepted (take i cs) (each-take Typed i cs typed)
 
   -- first of the stores is that of the reference model
   pub first-is : (i : ℕ) → first (stores_behind a (take i cs)).observations ≡ first_of (state_before a p cs i)

@@ -11,6 +11,7 @@ use lib.Dec.{leb, ltb, eqb}
 use lib.ListN.{length, get_or, length-append, length-map}
 use lib.Seq.{get_or-append_seam}
 use borrow.Author.Tests.{eqb-true, eqb-false, leb-false, eq-eqb, ltb-true, ltb-false}
+use Rattle.std.specs.List.{AllByRecursion as Each}
 use Rattle.history.specs.Reference.{Observation, nothing, keep, newest_or, newest}
 use Rattle.history.specs.Standing.{raised, is_standing, of_code, stands_as, stands_in, with_entry, by_level, by_value}
 use Rattle.history.specs.Standing.{step_value, standing_from, standing, found, shown, entries_of, nothing_stands}
@@ -18,18 +19,9 @@ use Rattle.history.specs.Standing.{crowded_standing}
 use Rattle.spec.specs.declared.Level.TheVariants.{Normal, Warning, Fault}
 use Rattle.spec.specs.declared.Value.{Value}
 use Rattle.spec.specs.declared.Value.TheVariants.{Unavailable, Sample, Event, Condition}
+use Rattle.spec.proofs.Elements.{each-imp, each-map, each-append, each-parts}
 use Rattle.spec.proofs.Words.{and_left, and_right, by_cond, by-test}
 use Rattle.history.proofs.Recorded.{keep_append}
-
--- P holds of each
-abbrev pub Each : (Observation → Type 0) → List Observation → Type 0
-Each P [] = Unit {0}
-Each P (x ∷ S) = P x × Each P S
-
-pub each_of : (P R : Observation → Type 0) (S : List Observation) → ((x : Observation) → P x → R x) → Each P S
-    → Each R S
-each_of P R [] f h = tt
-each_of P R (x ∷ S) f h = (f x h.0, each_of P R S f h.1)
 
 -- ---- one code
 
@@ -188,24 +180,13 @@ each_keep P q [] h = tt
 each_keep P q (x ∷ S) h =
     by_cond (Each P) (q x) _ _ (λ e. (h.0, each_keep P q S h.1)) (λ e. each_keep P q S h.1)
 
-each_map : (P : Observation → Type 0) (f : Observation → Observation) (S : List Observation)
-    → ((x : Observation) → P x → P (f x))
-    → Each P S → Each P (map f S)
-each_map P f [] k h = tt
-each_map P f (x ∷ S) k h = (k x h.0, each_map P f S k h.1)
-
-each_snoc : (P : Observation → Type 0) (S : List Observation) (o : Observation) → Each P S → P o
-    → Each P (S ++ (o ∷ []))
-each_snoc P [] o h p = (p, tt)
-each_snoc P (x ∷ S) o h p = (h.0, each_snoc P S o h.1 p)
-
 module _ (P : Observation → Type 0) (S : List Observation) (o : Observation) (h : Each P S) where
   each-with : (c : ℕ) → P o → Each P (with_entry c o S)
   unfolding with_entry
   each-with c p =
       by_cond (Each P) (stands_in c S) _ _
-      (λ e. each_map P (swap c o) S (λ x q. by_cond P (stands_as c x.value) o x (λ f. p) (λ f. q)) h)
-      (λ e. each_snoc P S o h p)
+      (λ e. each-map P (swap c o) S (each-imp (λ x q. by_cond P (stands_as c x.value) o x (λ f. p) (λ f. q)) S h))
+      (λ e. each-append P S (o ∷ []) h (p, tt))
 
   each-by : (v : Value) → (is_standing v ≡ true → P o) → Each P (by_value S o v)
   each-by Unavailable p = tt
@@ -583,10 +564,6 @@ kept_from c i S (o ∷ H) r k h =
     (by_cond Differ (eqb o.item i) _ _ (λ e. differ-step S o r) (λ e. r))
     k.1 (kept_in c i S o r k.0 h)
 
-each-parts : (P : Observation → Type 0) (X Y : List Observation) → Each P (X ++ Y) → Each P X × Each P Y
-each-parts P [] Y h = (tt, h)
-each-parts P (x ∷ X) Y h = let q = each-parts P X Y h.1 in ((h.0, q.0), q.1)
-
 by-snoc : (P : List Observation → Type 0) → P [] → ((G : List Observation) (o : Observation) → P G → P (G ++ (o ∷ [])))
     → (H : List Observation) → P H
 by-snoc P z f H = go [] z H
@@ -620,7 +597,7 @@ stands-added c i H = (by-snoc (λ H. stands_in c (standing i H) ≡ true → Add
           item = a.item;
           level = a.level;
           new = a.new;
-          kept = each_snoc (λ x. clears c i x ≡ false) a.behind o a.kept q.0;
+          kept = each-append (λ x. clears c i x ≡ false) a.behind (o ∷ []) a.kept (q.0, tt);
         })
         (λ b. fresh b q.1)
       where

@@ -26,6 +26,8 @@ use Rattle.history.specs.History.{offers_of, reference_output, reference_next, r
 use Rattle.history.specs.History.Call.{observe, batch, line, store_asset, request, body}
 use Rattle.spec.specs.declared.Refusal.TheVariants.{Space}
 use Rattle.std.specs.Prelude.{Ok, Err, Option, Some}
+use Rattle.std.specs.List.{AllByRecursion as Each}
+use Rattle.spec.proofs.Elements.{each-append}
 use Rattle.spec.specs.Answers.{Answer, ObserveAnswer}
 use Rattle.spec.specs.declared.Noted.TheVariants.{Recorded, Same}
 use Rattle.history.proofs.Recorded.{Numbered, keep_append, within-slice}
@@ -85,12 +87,7 @@ module _ (a : Start) where
   Truth H w = (w.rows ≡ matching_rows a w.path w.begin w.next H) × (w.begin ≤ w.next)
 
   abbrev pub AllTrue : List Observation → List Window → Type 0
-  AllTrue H [] = Unit {0}
-  AllTrue H (w ∷ ws) = Truth H w × AllTrue H ws
-
-  pub all_append : (H : List Observation) (X Y : List Window) → AllTrue H X → AllTrue H Y → AllTrue H (X ++ Y)
-  all_append H [] Y x y = y
-  all_append H (w ∷ X) Y x y = (x.0, all_append H X Y x.1 y)
+  AllTrue H = Each (Truth H)
 
   -- a reply of a state whose H is later H ++ X
   reply-true : (path : Option (List ℕ)) (first last from count e B : ℕ) (H X : List Observation) (reply : List ℕ)
@@ -211,7 +208,7 @@ module _ (a : Start) where
   call-true p (store_asset id content host) X right n l n' = tt
   call-true p (request text reply) X right n l n' =
       rw right
-      (all_append (p.H ++ X) (window_of_answer (replied' (read_text text)).answer (read_text text) (replied' (read_text text)).reply) [] (go (read_text text)) tt)
+      (each-append _ (window_of_answer (replied' (read_text text)).answer (read_text text) (replied' (read_text text)).reply) [] (go (read_text text)) tt)
     where
       replied' : Reading → Replied
       replied' q = reply_reading a.model a.names p reply q

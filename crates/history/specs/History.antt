@@ -2,6 +2,7 @@
 -- start and a list of the other calls; the outputs of the stores' calls and of the reference model; one client's windows.
 use Rattle.std.specs.Prelude.{ℕ, suc, ◌≡◌, Bool, cond, List, [], ◌∷◌, ◌++◌, map, eqb, length, get_or}
 use Rattle.std.specs.Prelude.{Ok, Err, Option, Some, None}
+use Rattle.std.specs.List.{AllByRecursion}
 use Rattle.spec.specs.Value.{Fits, decode}
 use Rattle.spec.specs.Text.{Request, Reading, read_text}
 use Rattle.spec.specs.Text.Request.{sample, current, current_at, assets, all_assets}
@@ -46,8 +47,7 @@ Typed (request text reply) = Unit {0}
 Typed (body id) = Unit {0}
 
 abbrev pub AllTyped : List Call → Type 0
-AllTyped [] = Unit {0}
-AllTyped (c ∷ cs) = Typed c × AllTyped cs
+AllTyped = AllByRecursion Typed
 
 -- ---- the stores' calls, each taking the stores as the last call left them; a list of outputs for each call
 

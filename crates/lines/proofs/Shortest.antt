@@ -3,9 +3,10 @@ use Prim.Native.Nat.{ℕ, zero, suc, ◌+◌, ◌-◌, ◌*◌, ◌/◌, ◌%◌
 use mathlib.Core.Path.{◌≡◌, refl, sym, ap, ap₂, subst, ◌∙◌}
 use mathlib.Core.Bool.{Bool, true, false, ◌&&◌, true≢false}
 use mathlib.Core.List.{List, [], ◌∷◌, ◌++◌, append-nil, append_assoc}
-use native.Mathlib.Nat.{pow-suc, add-suc, suc-add, add-zero, zero-add, mul-one, le_of_suc-le-suc}
+use native.Mathlib.Nat.{add-zero, zero-add, mul-one, le_of_suc-le-suc}
 use native.Mathlib.Omega.{arith}
 use Rattle.std.specs.Prelude.{Option, Some, None, Result, Ok, Err, is_some, unwrap_or}
+use Rattle.std.specs.List.{join_with_byte as join}
 use lib.Arith.{digits_div, digits_mod}
 use lib.Dec.{leb, ltb, eqb}
 use lib.ListN.{length, take, drop, replicate, length-append, take-append-drop}
@@ -27,8 +28,8 @@ use Rattle.lines.specs.declared.Form.TheVariants.{Decimal, State}
 use Rattle.lines.specs.declared.Line.{Line}
 use Rattle.lines.specs.declared.LineError.{LineError}
 use Rattle.spec.proofs.Words.{and_left, and_right, by_cond}
-use Rattle.spec.proofs.Bytes.{join, join-split, same_true}
-use Rattle.spec.proofs.Digits.{Spells, tenth}
+use Rattle.spec.proofs.Bytes.{join-split, same_true}
+use Rattle.spec.proofs.Digits.{Spells, tenth, spelled-lt}
 use Rattle.lines.proofs.Digits.{fixed-length}
 use Rattle.lines.proofs.Stamps.{date-back}
 
@@ -95,19 +96,6 @@ fixed-behind (x ∷ s) j m h =
 fixed_back : (s : List ℕ) → all digit s ≡ true → fixed (length s) (value_from 0 s) ≡ s
 unfolding fixed
 fixed_back s h = ap (λ (k : ℕ). fixed k (value_from 0 s)) (sym (zero-add (length s))) ∙ fixed-behind s 0 0 h
-
-value-lt : (s : List ℕ) (j m : ℕ) → all digit s ≡ true → m < 10 ^ j → value_from m s < 10 ^ (j + length s)
-unfolding all value_from
-value-lt [] j m h l = rw (add-zero j) l
-value-lt (x ∷ s) j m h l =
-    let u = digit-high x (and_left (digit x) (all digit s) h) in
-    let n : m * 10 + (x - 48) < 10 ^ suc j = omega (arith, pow-suc 10 j) in
-    rw (add-suc j (length s), ← suc-add j (length s))
-    (value-lt s (suc j) (m * 10 + (x - 48)) (and_right (digit x) (all digit s) h) n)
-
--- k digits spell a number below 10^k
-spelled-lt : (s : List ℕ) → all digit s ≡ true → value_from 0 s < 10 ^ length s
-spelled-lt s h = rw (zero-add (length s)) at (value-lt s 0 0 h (omega arith))
 
 -- no zeros in front
 digits-short : (k j n : ℕ) → j ≤ k → n < 10 ^ suc j → NoLonger (digits k n) (fixed (suc j) n)
@@ -266,7 +254,7 @@ module _ (category : ℕ) where
   -- the parts between points
   points-short : (minus : Bool) (ps : List (List ℕ))
       → FormShort category (signed minus (join 46 ps)) (by_point minus ps)
-  unfolding by_point join point_text
+  unfolding by_point point_text
   points-short minus [] = unread-short _
   points-short minus (w ∷ []) =
       by_cond (FormShort category (signed minus w)) (numeral w) _ _
@@ -328,7 +316,7 @@ module _ (category : ℕ) where
 
   -- the parts between colons
   colons-short : (ps : List (List ℕ)) → FormShort category (join 58 ps) (by_colon ps)
-  unfolding by_colon join
+  unfolding by_colon
   colons-short [] = unread-short _
   colons-short (s ∷ []) = plain-short s
   colons-short (w ∷ c ∷ []) =
@@ -440,7 +428,7 @@ module _ (category : ℕ) where
       (λ e. tt)
 
   bars-short : (ps : List (List ℕ)) → LineShort category (join 124 ps) (by_bar ps)
-  unfolding by_bar join
+  unfolding by_bar
   bars-short [] = tt
   bars-short (a ∷ []) = tt
   bars-short (a ∷ b ∷ []) = tt

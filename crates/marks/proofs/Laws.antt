@@ -2,15 +2,13 @@
 use Prim.Native.Nat.{ℕ, suc, ◌+◌, ◌-◌, ◌*◌, ◌/◌, ◌%◌, ◌^◌, ◌≤◌, ◌<◌}
 use mathlib.Core.Path.{◌≡◌, refl, sym, ◌∙◌}
 use mathlib.Core.Bool.{Bool, true, false, cond, ◌||◌}
-use mathlib.Core.List.{List, append_assoc}
+use mathlib.Core.List.{List}
 use native.Mathlib.Nat.{mod-lt}
 use lib.Arith.{mod-mul}
 use native.Mathlib.Omega.{arith}
 use lib.Dec.{eqb, lit<}
 use lib.ListN.{length, take, drop, length-drop}
-use lib.Seq.{sets, drop-drop, length-take-le}
-use lib.Seq.{sets-eq}
-use borrow.Rule.Slice.PartMut.{put_mid}
+use lib.Seq.{length-take-le}
 use borrow.Author.Tests.{eq-eqb, ne_eqb, eqb-true, eqb-false, ltb-true, ltb-false}
 use Rattle.std.specs.List.{position}
 use Rattle.std.specs.Prelude.{Some, None, nat_lt}
@@ -119,11 +117,3 @@ module _ (key : ℕ) (ms : List ℕ) where
 pub eight-lent : {A : Type 0} (a : ℕ) (l : List A) → take (a + 8 - a) (drop a l) ≡ eight_at l a
 eight-lent a l =
     let e : a + 8 - a ≡ 8 = omega arith in rw e
-
--- and written back
-pub eight-back : {A : Type 0} (a : ℕ) (l ys : List A) → length ys ≡ 8 → a + 8 ≤ length l
-    → put_mid a (a + 8 - a) l ys ≡ sets l a ys
-eight-back a l ys n h =
-    let e : a + 8 - a ≡ 8 = omega arith in
-    rw (e, drop-drop 8 a l, ← append_assoc (take a l) ys (drop (a + 8) l))
-    (rw n at (sym (sets-eq ys l a (omega (arith, n)))))

@@ -21,9 +21,10 @@ use Rattle.history.specs.Calls.{all_cells, cells_reply, find_all, named_reply}
 use Rattle.spec.specs.declared.Refusal.TheVariants.{AssetNotFound}
 use Rattle.spec.proofs.Words.{and_left, and_right}
 use Rattle.std.specs.Prelude.{Ok}
+use Rattle.std.specs.List.{join_with_byte as join}
 use Rattle.named_reply.specs.Cells.{FoundAll}
 use Rattle.std.proofs.lemmas.List.{length-append}
-use Rattle.spec.proofs.Bytes.{join, join-split}
+use Rattle.spec.proofs.Bytes.{join-split}
 
 -- ---- the ids of a text, as an iterator gives them
 
@@ -53,7 +54,7 @@ module _ {S A B : Type 0} {steps : S → Option A → S → Type 0} {v : A → B
 
 -- no id is empty, and a byte stands between two of them
 room-taken : (ids : List (List ℕ)) → id_texts ids ≡ true → 2 * length ids ≤ length (join 59 ids) + 1
-unfolding join id_texts id_text
+unfolding id_texts id_text
 room-taken [] h = omega arith
 room-taken (p ∷ []) h = let n : 1 ≤ length p = leb-true _ _ (and_left _ _ (and_left _ _ h)) in omega arith
 room-taken (p ∷ q ∷ ids) h =

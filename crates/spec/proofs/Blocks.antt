@@ -8,6 +8,7 @@ use native.Mathlib.Omega.{arith}
 use mathlib.Core.List.{List, [], ◌∷◌, ◌++◌}
 use lib.ListN.{length, get_or, drop, length-append}
 use borrow.Author.Tests.{ne_eqb}
+use Rattle.std.specs.List.{AllByRecursion as Each}
 use Rattle.spec.specs.Words.{pick_rows, row, put}
 use Rattle.spec.specs.Blocks.{table_rows, put_rows, padded, flat_rows, extra_rows}
 use Rattle.spec.specs.Entries.{each_row, used_rows, zero_row}
@@ -15,8 +16,7 @@ use Rattle.spec.proofs.Tables.{length-put, get-put, row-put-same, row-put-other,
 
 -- each row has three words
 abbrev pub Threes : List (List ℕ) → Type 0
-Threes [] = Unit {0}
-Threes (r ∷ rs) = (length r ≡ 3) × Threes rs
+Threes = Each (λ r. length r ≡ 3)
 
 pub length-put-rows : (rs : List (List ℕ)) (st : List ℕ) (b w k : ℕ) → length (put_rows st b w k rs) ≡ length st
 unfolding put_rows
@@ -112,8 +112,7 @@ padded-threes (suc n) (r ∷ rs) t = (t.0, padded-threes n rs t.1)
 
 -- each row's number isn't 0
 abbrev pub Given : List (List ℕ) → Type 0
-Given [] = Unit {0}
-Given (r ∷ rs) = (0 < get_or r 0 0) × Given rs
+Given = Each (λ r. 0 < get_or r 0 0)
 
 -- what is used of padded rows
 pub used-padded : (n : ℕ) (rs : List (List ℕ)) → Given rs → length rs ≤ n → used_rows (padded n rs) ≡ rs

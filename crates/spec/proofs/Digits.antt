@@ -1,14 +1,15 @@
 -- Digits read back: a number is what its digits spell.
 use Prim.Native.Nat.{ℕ, zero, suc, ◌+◌, ◌-◌, ◌*◌, ◌/◌, ◌%◌, ◌^◌, ◌≤◌, ◌<◌}
 use mathlib.Core.Path.{◌≡◌, refl, sym, ap, ◌∙◌}
-use mathlib.Core.Bool.{Bool, true, false, cond, not, true≢false}
+use mathlib.Core.Bool.{Bool, true, false, cond, ◌&&◌, not, true≢false}
 use mathlib.Core.List.{List, [], ◌∷◌, ◌++◌}
-use native.Mathlib.Nat.{pow-suc, div-lt_iff_lt-mul, le_of_suc-le-suc}
+use native.Mathlib.Nat.{pow-suc, add-suc, suc-add, add-zero, zero-add, div-lt_iff_lt-mul, le_of_suc-le-suc}
 use native.Mathlib.Omega.{arith}
-use lib.Dec.{ltb, eqb, lit<}
+use lib.Dec.{leb, ltb, eqb, lit<}
 use lib.ListN.{length, length-append}
-use borrow.Author.Tests.{le-leb, lt-ltb, eq-eqb, ne_eqb, ltb-true, ltb-false}
+use borrow.Author.Tests.{le-leb, lt-ltb, eq-eqb, ne_eqb, leb-true, ltb-true, ltb-false}
 use Rattle.spec.specs.Bytes.{all, digit, value_from, digits, decimal, is_number}
+use Rattle.spec.proofs.Words.{and_left, and_right}
 use Rattle.spec.proofs.Bytes.{Lacks, all_append, all-imp}
 
 pub value-append : (m : ℕ) (s t : List ℕ) → value_from m (s ++ t) ≡ value_from (value_from m s) t
@@ -39,6 +40,20 @@ all-last s n h = rw (all_append digit s _, h, digit-is n)
 
 pub tenth : (k n : ℕ) → n < 10 ^ suc k → n / 10 < 10 ^ k
 tenth k n h = (div-lt_iff_lt-mul (lit< tt)).1 (omega (arith, pow-suc 10 k))
+
+-- digits behind a number of j digits spell no more digits than there are
+value-lt : (s : List ℕ) (j m : ℕ) → all digit s ≡ true → m < 10 ^ j → value_from m s < 10 ^ (j + length s)
+unfolding all digit value_from
+value-lt [] j m h l = rw (add-zero j) l
+value-lt (x ∷ s) j m h l =
+    let u = leb-true x 57 (and_right (leb 48 x) (leb x 57) (and_left (leb 48 x && leb x 57) (all digit s) h)) in
+    let n : m * 10 + (x - 48) < 10 ^ suc j = omega (arith, pow-suc 10 j) in
+    rw (add-suc j (length s), ← suc-add j (length s))
+    (value-lt s (suc j) (m * 10 + (x - 48)) (and_right (leb 48 x && leb x 57) (all digit s) h) n)
+
+-- k digits spell a number below 10^k
+pub spelled-lt : (s : List ℕ) → all digit s ≡ true → value_from 0 s < 10 ^ length s
+spelled-lt s h = rw (zero-add (length s)) at (value-lt s 0 0 h (omega arith))
 
 -- ---- as many digits as a number has
 

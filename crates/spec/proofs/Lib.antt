@@ -1,5 +1,7 @@
 -- What is proved of the terms, whatever calls there are.
 pub mod Words
+pub mod Elements
+pub mod Written
 pub mod Found
 pub mod Tables
 pub mod Blocks

@@ -14,8 +14,10 @@ use Rattle.spec.specs.Model.{components, items, category, model_ok, Checked}
 use Rattle.spec.specs.Answers.{Answer}
 use Rattle.spec.specs.Reply.{Replied, refuse, written, read_rows, rows_of}
 use Rattle.std.specs.Prelude.{Ok}
+use Rattle.std.specs.List.{AllByRecursion as Holds}
 use Rattle.spec.specs.declared.Refusal.{Refusal}
 use Rattle.spec.proofs.Words.{and_left, and_right, by_cond}
+use Rattle.spec.proofs.Elements.{each-imp}
 use Rattle.spec.proofs.Model.{checked}
 use Rattle.spec.proofs.Packing.{decode-fits}
 use Rattle.lines.specs.Stamps.{max_time}
@@ -25,7 +27,7 @@ use Rattle.streams.specs.Streams.{empty_tag, row_line, between, group_name, item
 use Rattle.streams.specs.Streams.{component_tag, component_lines, device_tag, components_lines, streams_lines}
 use Rattle.streams.specs.Streams.{header_tag, document_lines, document, streams}
 use Rattle.streams.specs.ReadStreams.{quoted, opening, is_row, opened, read_lines, read_streams, read_header}
-use Rattle.streams.proofs.Sorted.{Holds, holds-imp, holds-having, group-lt, sorted-once}
+use Rattle.streams.proofs.Sorted.{holds-having, group-lt, sorted-once}
 use Rattle.streams.proofs.Lines.{type-class, type-fill, document-cut}
 use Rattle.streams.proofs.Reading.{Good, Reads, line_reads, header_of, header-reads}
 
@@ -105,7 +107,7 @@ module _ (model names : List ℕ) where
 
   rows-read : (g : ℕ) → g < groups → (rows : List Row) → Holds (Good g) rows → (ls : List (List ℕ))
       → read_lines g (row_lines model names g rows ++ ls) ≡ rows ++ read_lines g ls
-  unfolding read_lines row_lines Holds
+  unfolding read_lines row_lines
   rows-read g l [] h ls = refl
   rows-read g l (r ∷ rows) h ls =
       let a = row_at g l r h.0 in
@@ -158,7 +160,7 @@ module _ (model names : List ℕ) where
       plain.component-end
       (gives-each (λ g. group_lines model names g (own g)) own groups 0
       (λ g k l. group-gives g (omega arith) (own g)
-      (holds-imp (λ r p. rw p.1 at p.0) (own g) (holds-having (GoodRow model) (row_group model) g rows h))))
+      (each-imp (λ r p. rw p.1 at p.0) (own g) (holds-having (GoodRow model) (row_group model) g rows h))))
 
   components-give : (rows : List Row) → Holds (GoodRow model) rows
       → Gives (components_lines model names rows) (sorted model rows)
@@ -167,7 +169,7 @@ module _ (model names : List ℕ) where
       let own : ℕ → List Row = λ c. having (row_component model) c rows in
       gives-each (λ c. component_lines model names c (own c)) (λ c. by_group model (own c)) (components model) 0
       (λ c k l. component-gives c (own c)
-      (holds-imp (λ r p. p.0) (own c) (holds-having (GoodRow model) (row_component model) c rows h)))
+      (each-imp (λ r p. p.0) (own c) (holds-having (GoodRow model) (row_component model) c rows h)))
 
   none_each : (n i : ℕ) → each (λ c. by_group model (having (row_component model) c [])) n i ≡ []
   unfolding each having
@@ -271,7 +273,7 @@ module _ (model names : List ℕ) (c : Checked model names) where
       → all_rows (λ r. packed_ok model (get_or r 2 0)) (read_rows k ns ps) ≡ true
       → all_rows (λ r. leb (get_or r 1 0) max_time) (read_rows k ns ps) ≡ true
       → Holds (GoodRow model) (map row_in (read_rows k ns ps))
-  unfolding read_rows all_rows Holds
+  unfolding read_rows all_rows
   good-rows zero ns ps n p t = tt
   good-rows (suc k) ns ps n p t =
       let p' = (and-eq-true_iff (packed_ok model (get_or ps 1 0)) _).0 p in
@@ -282,7 +284,7 @@ module _ (model names : List ℕ) (c : Checked model names) where
 
   placed-rows : (rs : List (List ℕ)) → all_rows (λ r. packed_ok model (get_or r 2 0)) rs ≡ true
       → Holds (λ r. row_component model r < components model) (map row_in rs)
-  unfolding all_rows Holds
+  unfolding all_rows
   placed-rows [] p = tt
   placed-rows (r ∷ rs) p =
       let p' = (and-eq-true_iff (packed_ok model (get_or r 2 0)) _).0 p in

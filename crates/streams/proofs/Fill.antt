@@ -150,19 +150,19 @@ capital-all (x ∷ s) h =
     and_from (word_byte (upper x)) _ (upper-word x t.0) (lower-all s t.1)
 
 capitals-all : (ss : List (List ℕ)) → AllOf word_byte ss → all word_byte (capitals ss) ≡ true
-unfolding capitals AllOf all
+unfolding capitals all
 capitals-all [] h = refl
 capitals-all (s ∷ ss) h =
     rw (all_append word_byte (capital s) (capitals ss), capital-all s h.0) (capitals-all ss h.1)
 
 -- the words of a name: its bytes, but for '_'
 first-class : (p : ℕ → Bool) (x : ℕ) (ss : List (List ℕ)) → p x ≡ true → AllOf p ss → AllOf p (join_first x ss)
-unfolding join_first AllOf all
+unfolding join_first all
 first-class p x [] e h = (rw e, tt)
 first-class p x (s ∷ ss) e h = (rw e h.0, h.1)
 
 words-class : (s : List ℕ) → all name_byte s ≡ true → AllOf word_byte (split 95 s)
-unfolding split AllOf all
+unfolding split all
 words-class [] h = (refl, tt)
 words-class (x ∷ s) h =
     let t = (and-eq-true_iff (name_byte x) (all name_byte s)).0 h in

@@ -11,7 +11,8 @@ use Rattle.spec.specs.Reply.{rows_of}
 use Rattle.spec.specs.declared.Value.{Value}
 use Rattle.spec.specs.declared.Value.TheVariants.{Unavailable, Sample, Event, Condition}
 use Rattle.spec.specs.declared.Level.TheVariants.{Normal, Warning, Fault}
-use Rattle.spec.proofs.Bytes.{Lacks, AllOf, Apart, all_append, all-imp, all_of-append, all_of-imp, split-more}
+use Rattle.spec.proofs.Bytes.{Lacks, AllOf, Apart, all_append, all-imp, all_of-imp, split-more}
+use Rattle.spec.proofs.Elements.{each-all, each-map, each-append}
 use Rattle.lines.specs.Stamps.{stamp_text}
 use Rattle.lines.specs.Lines.{value_text}
 use Rattle.streams.specs.Streams.{Row, row_in, each, having, groups, row_group, row_component, element_name}
@@ -25,7 +26,7 @@ use Rattle.streams.proofs.Fill.{element-fill, stamp-fill, value-fill}
 -- ---- the lines of a text
 
 pub split-ended : (ls : List (List ℕ)) → Apart 10 ls → split 10 (ended ls) ≡ ls ++ [] ∷ []
-unfolding ended AllOf split
+unfolding ended split
 split-ended [] h = refl
 split-ended (l ∷ ls) h = split-more 10 l (ended ls) h.0 ∙ ap (◌∷◌ l) (split-ended ls h.1)
 
@@ -155,20 +156,17 @@ row-line (suc (suc g)) type r n h = empty-line (condition_tag type r) (condition
 
 module _ (p : ℕ → Bool) where
   all_of-map : {A : Type 0} (f : A → List ℕ) (rs : List A) → ((r : A) → all p (f r) ≡ true) → AllOf p (map f rs)
-  unfolding AllOf
-  all_of-map f [] h = tt
-  all_of-map f (r ∷ rs) h = (h r, all_of-map f rs h)
+  all_of-map f rs h = each-map _ f rs (each-all h rs)
 
   all_of-each : (G : ℕ → List (List ℕ)) (n i : ℕ) → ((k : ℕ) → AllOf p (G k)) → AllOf p (each G n i)
-  unfolding each AllOf
+  unfolding each
   all_of-each G zero i h = tt
-  all_of-each G (suc n) i h = all_of-append p (G i) (each G n (suc i)) (h i) (all_of-each G n (suc i) h)
+  all_of-each G (suc n) i h = each-append _ (G i) (each G n (suc i)) (h i) (all_of-each G n (suc i) h)
 
   all_of-between : (start end : List ℕ) (ls : List (List ℕ)) → all p start ≡ true → all p end ≡ true → AllOf p ls
       → AllOf p (between start end ls)
-  unfolding AllOf
   all_of-between start end [] s e h = tt
-  all_of-between start end (l ∷ ls) s e h = (s, all_of-append p (l ∷ ls) (end ∷ []) h (e, tt))
+  all_of-between start end (l ∷ ls) s e h = (s, each-append _ (l ∷ ls) (end ∷ []) h (e, tt))
 
 module _ (model names : List ℕ) where
   -- an item's type is a name
@@ -211,27 +209,27 @@ module _ (model names : List ℕ) where
       (λ c. component-lines c (having (row_component model) c rows))
 
   streams-lines : (rows : List Row) → AllOf line_byte (streams_lines model names rows)
-  unfolding streams_lines AllOf all line_byte inner_byte fill_byte name_byte
+  unfolding streams_lines all line_byte inner_byte fill_byte name_byte
   streams-lines [] = (refl, tt)
   streams-lines (r ∷ rows) = (
     refl,
     (
       tag-line (device_tag model names) (device-inner model names),
-      all_of-append _ (components_lines model names (r ∷ rows)) (bytes "</DeviceStream>" ∷ bytes "</Streams>" ∷ [])
+      each-append _ (components_lines model names (r ∷ rows)) (bytes "</DeviceStream>" ∷ bytes "</Streams>" ∷ [])
           (components-lines (r ∷ rows)) (refl, (refl, tt)),
     ),
   )
 
   document-lines : (reply : List ℕ) (N instance creation : ℕ)
       → AllOf line_byte (document_lines model names reply N instance creation)
-  unfolding document_lines AllOf all line_byte inner_byte fill_byte name_byte
+  unfolding document_lines all line_byte inner_byte fill_byte name_byte
   document-lines reply N instance creation = (
     refl,
     (
       refl,
       (
         empty-line (header_tag reply N instance creation) (header-inner reply N instance creation),
-        all_of-append _ (streams_lines model names (map row_in (rows_of reply))) (bytes "</MTConnectStreams>" ∷ [])
+        each-append _ (streams_lines model names (map row_in (rows_of reply))) (bytes "</MTConnectStreams>" ∷ [])
             (streams-lines (map row_in (rows_of reply))) (refl, tt),
       ),
     ),

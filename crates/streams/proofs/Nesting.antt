@@ -12,7 +12,7 @@ use Rattle.spec.specs.Bytes.{bytes, name_byte, digit, all, before, split, join_f
 use Rattle.spec.specs.Model.{components, component_name, component_word}
 use Rattle.spec.specs.Reply.{rows_of}
 use Rattle.spec.proofs.Words.{by_cond}
-use Rattle.spec.proofs.Bytes.{Lacks, AllOf, Apart, all_append, same_refl, before-append}
+use Rattle.spec.proofs.Bytes.{Lacks, Apart, all_append, same_refl, before-append}
 use Rattle.lines.specs.Stamps.{stamp_text}
 use Rattle.lines.specs.Lines.{value_text}
 use Rattle.spec.specs.declared.Value.{Value}
@@ -386,7 +386,7 @@ module _ (model names : List ℕ) where
 -- ---- nothing to escape
 
 ended-lacks : (b : ℕ) → eqb 10 b ≡ false → (ls : List (List ℕ)) → Apart b ls → Lacks b (ended ls)
-unfolding ended AllOf all
+unfolding ended all
 ended-lacks b n [] h = refl
 ended-lacks b n (l ∷ ls) h = rw (all_append, h.0, n) (ended-lacks b n ls h.1)
 

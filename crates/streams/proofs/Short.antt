@@ -9,6 +9,7 @@ use lib.Dec.{ltb, eqb}
 use lib.IntN.{ℤ, pos, negsuc}
 use lib.ListN.{length, get_or, length-append, length-take}
 use Rattle.std.proofs.lemmas.List.{length-map}
+use Rattle.std.specs.List.{AllByRecursion as Holds}
 use borrow.Author.Tests.{ltb-true, ne_eqb}
 use Rattle.spec.specs.Bytes.{bytes, digit, digits, decimal, split, join_first}
 use Rattle.spec.specs.Value.{takes, Fits, FitsSample}
@@ -19,6 +20,7 @@ use Rattle.spec.specs.declared.Level.TheVariants.{Normal, Warning, Fault}
 use Rattle.spec.specs.declared.Value.{Value}
 use Rattle.spec.specs.declared.Value.TheVariants.{Unavailable, Sample, Event, Condition}
 use Rattle.spec.proofs.Words.{by_cond}
+use Rattle.spec.proofs.Elements.{each-imp}
 use Rattle.spec.proofs.Digits.{decimal-spells}
 use Rattle.spec.proofs.Model.{checked}
 use Rattle.lines.specs.Stamps.{date_of}
@@ -33,7 +35,7 @@ use Rattle.streams.specs.Streams.{component_tag, component_lines, device_tag, co
 use Rattle.streams.specs.Streams.{header_tag, document_lines, ended, document, streams_bytes}
 use Rattle.streams.proofs.Rows.{rows-length}
 use Rattle.streams.proofs.Pieces.{ended-append}
-use Rattle.streams.proofs.Sorted.{Holds, holds-imp, holds-having}
+use Rattle.streams.proofs.Sorted.{holds-having}
 use Rattle.streams.proofs.Reading.{Good}
 use Rattle.streams.proofs.Document.{GoodRow, Accepted, rows-good, rows-once}
 
@@ -215,10 +217,6 @@ perm-length (Permᴰ.cons e p) = ap suc (perm-length p)
 perm-length (Permᴰ.swap e f) = refl
 perm-length (Permᴰ.trans p q) = perm-length p ∙ perm-length q
 
-rows-length-map : (rs : List (List ℕ)) → length (map row_in rs) ≡ length rs
-rows-length-map [] = refl
-rows-length-map (r ∷ rs) = ap suc (rows-length-map rs)
-
 -- ---- groups, components, document
 
 module _ (model names : List ℕ) where
@@ -230,7 +228,7 @@ module _ (model names : List ℕ) where
 
   rows-size : (g : ℕ) → g < groups → (rows : List Row) → Holds (Good g) rows
       → size (row_lines model names g rows) ≤ 154 * length rows
-  unfolding row_lines Holds ended
+  unfolding row_lines ended
   rows-size g l [] h = omega arith
   rows-size g l (r ∷ rows) h =
       let type = item_type model names r.item in
@@ -274,7 +272,7 @@ module _ (model names : List ℕ) where
         component-tag i l,
         each-size group_bytes (λ g. group_lines model names g (own g)) own groups 0
             (λ g a b. group-size g (omega arith) (own g)
-            (holds-imp (λ r p. rw p.1 at p.0) (own g) (holds-having (GoodRow model) (row_group model) g rows h))),
+            (each-imp (λ r p. rw p.1 at p.0) (own g) (holds-having (GoodRow model) (row_group model) g rows h))),
       )
 
   components-size : (rows : List Row) → components model ≤ 64 → Holds (GoodRow model) rows
@@ -286,7 +284,7 @@ module _ (model names : List ℕ) where
       at (each-size (λ c. 189) (λ c. component_lines model names c (own c)) (λ c. by_group model (own c))
       (components model) 0
       (λ c a b. component-size c (own c) (omega arith)
-      (holds-imp (λ r p. p.0) (own c) (holds-having (GoodRow model) (row_component model) c rows h))))
+      (each-imp (λ r p. p.0) (own c) (holds-having (GoodRow model) (row_component model) c rows h))))
 
   streams-size : (rows : List Row) → components model ≤ 64 → Holds (GoodRow model) rows
       → size (streams_lines model names rows)
@@ -323,7 +321,7 @@ document-short model names reply N instance creation h =
     let rows = map row_in (rows_of reply) in
     let e : length (sorted model rows) ≡ get_or reply 0 0 =
     perm-length (rows-once model names reply N instance creation h)
-    ∙ rows-length-map (rows_of reply)
+    ∙ length-map (rows_of reply) row_in
     ∙ rows-length reply in
     rw e
     at (document-size model names reply N instance creation (checked model names h.model-ok).sizes.c_max

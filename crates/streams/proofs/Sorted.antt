@@ -7,28 +7,15 @@ use mathlib.Core.List.{List, [], ◌∷◌, ◌++◌, Permᴰ}
 use native.Mathlib.Omega.{arith}
 use lib.Dec.{eqb}
 use borrow.Author.Tests.{ne_eqb, eqb-true, eqb-false}
+use Rattle.std.specs.List.{AllByRecursion as Holds}
 use Rattle.spec.specs.Model.{components, category}
+use Rattle.spec.proofs.Elements.{each-imp, each-all}
 use Rattle.streams.specs.Streams.{Row, each, having, group_of, groups, row_component, row_group, by_group, sorted}
 
--- p holds of each
-unfoldable pub Holds : {A : Type 0} → (A → Type 0) → List A → Type 0
-Holds p [] = Unit {0}
-Holds p (r ∷ rs) = p r × Holds p rs
-
-pub holds-imp : {A : Type 0} {p q : A → Type 0} → ((r : A) → p r → q r) → (rs : List A) → Holds p rs → Holds q rs
-unfolding Holds
-holds-imp f [] h = tt
-holds-imp f (r ∷ rs) h = (f r h.0, holds-imp f rs h.1)
-
-pub holds-all : {A : Type 0} {p : A → Type 0} → ((r : A) → p r) → (rs : List A) → Holds p rs
-unfolding Holds
-holds-all f [] = tt
-holds-all f (r ∷ rs) = (f r, holds-all f rs)
-
--- and of each of those kept, of which f gives k
+-- what holds of each holds of each of those kept, of which f gives k
 pub holds-having : {A : Type 0} (p : A → Type 0) (f : A → ℕ) (k : ℕ) (rs : List A) → Holds p rs
     → Holds (λ r. p r × (f r ≡ k)) (having f k rs)
-unfolding Holds having
+unfolding having
 holds-having p f k [] h = tt
 holds-having {A} p f k (r ∷ rs) h = go (eqb (f r) k) refl (holds-having p f k rs h.1)
   where
@@ -74,7 +61,6 @@ module _ {A : Type 0} (f : A → ℕ) where
 
   pub each-once : (n i : ℕ) (rs : List A) → Holds (λ r. (i ≤ f r) × (f r < i + n)) rs
       → Permᴰ (each (λ k. having f k rs) n i) rs
-  unfolding Holds
   each-once n i [] h = none_in n i
   each-once n i (r ∷ rs) h =
       Permᴰ.trans (put_in r rs n i h.0.0 h.0.1) (Permᴰ.cons refl (each-once n i rs h.1))
@@ -98,7 +84,7 @@ group-lt (suc (suc (suc n))) = omega arith
 group-once : (model : List ℕ) (rows : List Row) → Permᴰ (by_group model rows) rows
 group-once model rows =
     each-once (row_group model) groups 0 rows
-    (holds-all (λ r. (omega arith, group-lt (category model r.item))) rows)
+    (each-all (λ r. (omega arith, group-lt (category model r.item))) rows)
 
 -- where each row's item has a component of the model
 pub sorted-once : (model : List ℕ) (rows : List Row) → Holds (λ r. row_component model r < components model) rows
@@ -109,4 +95,4 @@ sorted-once model rows h =
     (each-perm (λ c. by_group model (having (row_component model) c rows)) (λ c. having (row_component model) c rows)
     (components model) 0 (λ c. group-once model (having (row_component model) c rows)))
     (each-once (row_component model) (components model) 0 rows
-    (holds-imp (λ r l. (omega arith, omega arith)) rows h))
+    (each-imp (λ r l. (omega arith, omega arith)) rows h))

@@ -59,16 +59,6 @@ module _ {a : Output} {s : List ℕ} {b : Output} {t : List ℕ} {e : Output} (p
             sets-out (sets a.bytes.now a.at s) (a.at + length s) t (omega (arith, p.short)),
           )
 
--- ---- a copy of bytes that fit
-
-pub copied : (o : List ℕ) (at : ℕ) (s part : List ℕ) → at + length s ≤ length o → part ≡ s
-    → put_mid at (at + length s - at) o part ≡ sets o at s
-copied o at s part h e =
-    let k = at + length s - at in
-    put_mid-paste at k o part s (length s) e (omega arith) refl
-    ∙ paste_all o at s (length s) refl
-    ∙ sym (sets-eq s o at h ∙ append_assoc (take at o) s (drop (at + length s) o))
-
 -- ---- the bytes of a list, from the front on
 
 -- i bytes of s are put

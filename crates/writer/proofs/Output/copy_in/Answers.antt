@@ -1,7 +1,7 @@
 -- The part of the buffer that is written holds s.
 use mathlib.Core.Path.{refl}
 use native.Mathlib.Omega.{arith}
-use Rattle.writer.proofs.Laws.{copied}
+use Rattle.spec.proofs.Written.{part-set}
 use Rattle.writer.proofs.Output.copy_in.Goals as goal
 
 pub returns : goal.returns
@@ -9,7 +9,6 @@ returns c =
     record {
       same = refl;
       short = omega arith;
-      stands = copied c.args.self.now.bytes.now c.args.self.now.at c.args.s.now _ c.requires
-          c.copy_from_slice.ensures.after;
+      stands = part-set _ _ _ _ _ c.copy_from_slice.ensures.after (omega arith) (omega arith);
       place = omega arith;
     }
