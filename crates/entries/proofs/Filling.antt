@@ -17,6 +17,7 @@ use Rattle.spec.specs.Entries.{packed, used_rows, form_ok}
 use Rattle.spec.proofs.Blocks.{Given}
 use Rattle.spec.proofs.Steps.{Formed, used-formed}
 use Rattle.spec.proofs.Words.{and_left, and_right, not_so}
+use Rattle.spec.proofs.Elements.{each-append}
 use Rattle.marks.specs.Marks.{mark_of, key_of}
 use Rattle.marks.specs.Marked.{Marked}
 use Rattle.marks.proofs.Keys.{key-small, mark-some, mark-key}
@@ -56,10 +57,6 @@ module _ (own : ℕ) where
   zeros-drop zero zs z = z
   zeros-drop (suc n) [] z = tt
   zeros-drop (suc n) (x ∷ zs) z = zeros-drop n zs z.1
-
-given-snoc : (es : List (List ℕ)) (r : List ℕ) → Given es → 0 < get_or r 0 0 → Given (es ++ (r ∷ []))
-given-snoc [] r g h = (h, tt)
-given-snoc (e ∷ es) r g h = (g.0, given-snoc es r g.1 h)
 
 -- the marks of the rows passed, and zeros behind
 abbrev marks-before : ℕ → List (List ℕ) → ℕ → List ℕ
@@ -213,7 +210,7 @@ module _ {own : ℕ} {rows : List (List ℕ)} {marks : List ℕ} {n j number tim
             used = omega arith;
             few = omega (arith, d.more);
             made = ap (set marks j) (m ∙ rw (ne_eqb number 0 u, k)) ∙ made_row;
-            given = λ x. rw take-used (given-snoc (take n rows) here (d.filling.given q) (omega (arith, u)));
+            given = λ x. rw take-used (each-append _ (take n rows) (here ∷ []) (d.filling.given q) (omega (arith, u), tt));
             rest =
                 rest-row
                 ∙ rw (
