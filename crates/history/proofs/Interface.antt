@@ -2,7 +2,7 @@
 -- its type, so the history theorem holds of every list of them with no hypothesis on types.
 use mathlib.Core.Path.{◌≡◌}
 use Prim.Native.Nat.{ℕ}
-use mathlib.Core.List.{List, [], ◌∷◌, map}
+use mathlib.Core.List.{List, map}
 use Rattle.spec.specs.Value.{decode}
 use Rattle.spec.specs.declared.Record.{Record}
 use Rattle.history.specs.Reference.{State}

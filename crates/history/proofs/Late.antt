@@ -38,7 +38,6 @@ use Rattle.history.proofs.History.{calls-agree, behind-good, base-after}
 
 -- ---- the calls before call i, and its output
 
-
 module _ (model names : List ℕ) where
   run_at : (cs : List Call) (p : State) (i : ℕ) (c : Call) → slice_get cs i ≡ Some c
       → slice_get (reference_run model names p cs) i

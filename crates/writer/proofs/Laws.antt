@@ -10,9 +10,6 @@ use lib.Dec.{leb, lit<}
 use borrow.Author.Tests.{leb-true, leb-false, eq-eqb, ne_eqb}
 use lib.ListN.{length, length-replicate, get_or, set, take, drop, drop_of_length-le, replicate, length-set, length-append, length-drop}
 use lib.Seq.{sets, set_out, take-suc, take_all, length-sets, drop-cons, drop-set-lt, get_or-set_same}
-use borrow.Rule.Slice.PartMut.{put_mid}
-use Rattle.std.proofs.lemmas.List.Edits.{paste_all, sets-eq}
-use Rattle.std.proofs.lemmas.Slice.{put_mid-paste}
 use Rattle.spec.specs.Bytes.{decimal}
 use Rattle.lines.specs.Digits.{fixed}
 use Rattle.spec.proofs.Digits.{left_text, decimal-last}
