@@ -2,7 +2,8 @@
 // and how many are used.
 #![tactic(auto)]
 
-ghost use Rattle.std.specs.Prelude.{◌≡◌, false, ◌^◌, ◌<◌, MatchOption, drop};
+ghost use Rattle.std.specs.Prelude.{◌≡◌, false, ◌^◌, ◌<◌, MatchOption, drop, get_or, not, ◌&&◌, ◌==◌};
+ghost use Rattle.marks.specs.Marks.{key_in};
 ghost use Rattle.spec.specs.Entries.{form_ok, each_row, zero_row};
 ghost use Rattle.entries.specs.Forms.{may_follow, FilledBy, filled};
 
@@ -10,6 +11,13 @@ mod table;
 
 use spec::ENTRY_SLOTS;
 pub use table::Entries;
+
+// Whether an entry with this key is active, and the first of those that eight marks tell of.
+fn both_active(marks: &[u64; ENTRY_SLOTS], key: u64) -> bool
+    ensures { result ≡ (not (key == 0) && not (key_in (get_or marks.now 0 0) == 0)) }
+{
+    key != 0 && marks::key_in(marks[0]) != 0
+}
 
 // Whether an entry with this key may follow n others, which eight marks tell of: the first may be anything, others are
 // active with a code of their own.
@@ -19,9 +27,7 @@ fn may_follow(marks: &[u64; ENTRY_SLOTS], n: u64, key: u64) -> bool
     ensures { result ≡ may_follow n key marks.now }
 {
     n == 0
-        || key != 0
-            && marks::key_in(marks[0]) != 0
-            && marks::find(marks, key).is_some_and(|place| place as u64 == n)
+        || both_active(marks, key) && marks::find(marks, key).is_some_and(|place| place as u64 == n)
 }
 
 // Eight entries in their written form: how many are used, and the marks of all, from place 1 on with their keys.

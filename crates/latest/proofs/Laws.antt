@@ -14,7 +14,7 @@ use lib.ListN.{length, get_or, set, drop, drop_of_length-le}
 use lib.Seq.{drop-cons}
 use borrow.Author.Tests.{eq-eqb, ne_eqb, le-leb, lt-leb, leb-true, leb-false, eqb-true, eqb-false}
 use Rattle.spec.specs.Words.{every, bit, row}
-use Rattle.spec.specs.Blocks.{table_rows, flat_rows, extra_rows}
+use Rattle.spec.specs.Blocks.{table_rows, extra_rows}
 use Rattle.spec.specs.Entries.{used_rows, form_ok}
 use Rattle.spec.specs.Model.{max_items}
 use Rattle.history.specs.Observations.{Head, ring_size, latest_at, is_condition, item_rows, latest_rows}
@@ -24,11 +24,12 @@ use Rattle.spec.proofs.Words.{by-test, and_left, and_right, by_cond, every-at, e
 use Rattle.spec.proofs.Bits.{rows-ones}
 use Rattle.history.proofs.Pass.{current-count}
 use Rattle.entries.proofs.Filling.{rows-many}
+use Rattle.entries.proofs.Laws.{filled-broken, filled-used}
 use Rattle.entries.proofs.Marks.{used-max}
 use Rattle.entries.specs.Forms.{EightRows, filled}
 use Rattle.rows.specs.Rows.{rows_at, rows_into}
 use Rattle.rows.proofs.Writing.{rows_more}
-use Rattle.rows.proofs.Flat.{Left, left-start, FlatWriting, flat_start, flat-room, flat-more, flat-skip, flat-end}
+use Rattle.rows.proofs.Flat.{Left, left-start, FlatWriting, flat_start, flat-room, flat-more, flat-skip, flat-end, flat-same}
 use Rattle.rows.proofs.Laws.{count-is, broken-is}
 use Rattle.latest.specs.Latest.{extra_in, first_row, first_rows}
 
@@ -101,36 +102,27 @@ few-extra cat m st selection =
 
 -- ---- what a count of an item's entries says of their form
 
-filled-by : (t : Bool) (x n : ℕ) → Some x ≡ cond t (Some n) None → (t ≡ true) × (x ≡ n)
-filled-by true x n e = (refl, cc)
-filled-by false x n e = cc
-
-none-by : (t : Bool) (n : ℕ) → None ≡ cond t (Some n) None → t ≡ false
-none-by true n e = cc
-none-by false n e = refl
-
 module _ (own : ℕ) (rs : List (List ℕ)) where
   form-no : None ≡ filled own rs → form_ok own 1 rs ≡ false
-  unfolding filled form_ok
+  unfolding form_ok
   form-no e =
       let z = le-leb 0 (length (used_rows rs)) (omega arith) in
-      let f = rw z at (none-by (form_ok own 0 rs) _ e) in
+      let f = rw z at (filled-broken own rs e) in
       rw f (and-false (leb 1 (length (used_rows rs))))
 
   module _ {x : ℕ} (e : Some x ≡ filled own rs) where
     form-used : x ≡ length (used_rows rs)
-    unfolding filled
-    form-used = (filled-by (form_ok own 0 rs) x _ e).1
+    form-used = (filled-used own rs e).1
 
     form-empty : x ≡ 0 → form_ok own 1 rs ≡ false
     unfolding form_ok
     form-empty z = rw (lt-leb 1 (length (used_rows rs)) (omega (arith, form-used)))
 
     form-yes : (x ≡ 0 → ⊥) → form_ok own 1 rs ≡ true
-    unfolding filled form_ok
+    unfolding form_ok
     form-yes z =
         rw (le-leb 1 (length (used_rows rs)) (omega (arith, form-used)))
-        (and_right (leb 0 (length (used_rows rs))) _ (filled-by (form_ok own 0 rs) x _ e).0)
+        (and_right (leb 0 (length (used_rows rs))) _ (filled-used own rs e).0)
 
 -- ---- an item's rows in the latest table, which begins at word t and has w rows
 
@@ -156,7 +148,7 @@ module _ (st : List ℕ) (m i : ℕ) {w t : ℕ} (ew : w ≡ 8 * m) (et : t ≡ 
 
 -- ---- counting: c rows beyond the first of each of the items below i
 
--- refusal 2's test of item i
+-- the test of item i for the refusal Store
 abbrev formed : (ℕ → ℕ) → ℕ → List ℕ → ℕ → ℕ → Bool
 formed cat m st selection i =
     not (bit selection i && is_condition cat i) || form_ok i 1 (item_rows st (latest_at (ring_size st)) m i)
@@ -370,14 +362,6 @@ used-first : (st : List ℕ) (t w x : ℕ) → length (used_rows (table_rows st 
     → used_rows (table_rows st t w 8 x) ≡ row st t w x 3 ∷ []
 unfolding table_rows
 used-first st t w x e = used-one _ _ e
-
-flat-same : (p : ℕ → Bool) (v u : ℕ → List (List ℕ)) (n s : ℕ)
-    → ((i : ℕ) → s ≤ i → i < s + n → p i ≡ true → v i ≡ u i) → flat_rows p v n s ≡ flat_rows p u n s
-unfolding flat_rows
-flat-same p v u zero s f = refl
-flat-same p v u (suc n) s f =
-    let q = flat-same p v u n (suc s) (λ i h g. f i (omega arith) (omega arith)) in
-    by-test (p s) (λ t. rw (t, f s (omega arith) (omega arith) t, q)) (λ t. rw (t, q))
 
 extra-at : (p : ℕ → Bool) (v : ℕ → List (List ℕ)) (n s : ℕ) → extra_rows p v n s ≡ 0 → (i : ℕ) → s ≤ i → i < s + n
     → p i ≡ true → length (v i) ≤ 1

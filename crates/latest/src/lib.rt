@@ -3,10 +3,10 @@
 
 ghost use Rattle.std.specs.Prelude.{◌≡◌, true, [], ◌∷◌, ◌+◌, ◌*◌, ◌^◌, ◌≤◌, ◌<◌, length, get_or};
 ghost use Rattle.spec.specs.Entries.{used_rows};
-ghost use Rattle.spec.specs.Model.{items, category};
+ghost use Rattle.spec.specs.Model.{items};
 ghost use Rattle.history.specs.Observations.{item_count};
 ghost use Rattle.rows.specs.Rows.{rows_at, rows_into};
-ghost use Rattle.latest.specs.Latest.{extra_in, first_rows, latest_in, latest_ok};
+ghost use Rattle.latest.specs.Latest.{first_rows, latest_in, latest_ok, latest_extra};
 
 use entries::Entries;
 use observations::{Modelled, Store};
@@ -14,8 +14,7 @@ use observations::{Modelled, Store};
 // How many rows the selected condition items have beyond the first of each; None where the entries of one are not in
 // their written form, or none is used.
 pub fn extra(source: Modelled<'_>, selection: u64) -> Option<u64>
-    ensures { let model = source.entry.model.now in
-        result ≡ extra_in (category model) (items model) source.entry.store.now selection }
+    ensures { result ≡ latest_extra source.entry.model.now source.entry.store.now selection }
 {
     let words = source.store.slice();
     let m = source.model.items();

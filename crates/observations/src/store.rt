@@ -152,7 +152,7 @@ impl<'a> Store<'a> {
     }
 }
 
-// The store of m items, or refusal 2. Why no trait has this: model::checked.
+// The store of m items, or the refusal Store. Why no trait has this: model::checked.
 pub fn checked<'a>(words: &'a [u64], m: u64) -> Result<Store<'a>, Refusal>
     requires { m ≤ max_items }
     ensures { MatchResult result

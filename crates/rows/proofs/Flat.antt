@@ -1,5 +1,5 @@
 -- Laws of loops that write rows: one row at a time from a list, or a number's rows at a time, any number of rows each.
-use Prim.Native.Nat.{ℕ, suc, ◌+◌, ◌-◌, ◌*◌, ◌≤◌, ◌<◌}
+use Prim.Native.Nat.{ℕ, zero, suc, ◌+◌, ◌-◌, ◌*◌, ◌≤◌, ◌<◌}
 use mathlib.Core.Path.{◌≡◌, refl, sym, ap, ◌∙◌}
 use mathlib.Core.Bool.{Bool, true, false}
 use mathlib.Core.List.{List, [], ◌∷◌, ◌++◌}
@@ -8,6 +8,7 @@ use native.Mathlib.Omega.{arith}
 use lib.ListN.{length, set, length-set, length-append}
 use Rattle.spec.specs.Blocks.{flat_rows}
 use Rattle.spec.specs.Reply.{numbers, pairs}
+use Rattle.spec.proofs.Words.{by-test}
 use Rattle.rows.specs.Rows.{rows_at, rows_into}
 use Rattle.rows.proofs.Ranges.{one-more}
 use Rattle.rows.proofs.Writing.{rows_more, rows_append, length-rows}
@@ -116,3 +117,13 @@ module _ {p : ℕ → Bool} {v : ℕ → List (List ℕ)} {m k : ℕ} {o l : Lis
   pub flat-end : m ≤ i → l ≡ rows_into o k (flat_rows p v m 0)
   unfolding numbers pairs
   flat-end h = sym (w.all ∙ ap (rows_at l c (k + 2 * c)) (flat-none p v i m h))
+
+-- ---- rows that agree where they are picked
+
+pub flat-same : (p : ℕ → Bool) (v u : ℕ → List (List ℕ)) (n s : ℕ)
+    → ((i : ℕ) → s ≤ i → i < s + n → p i ≡ true → v i ≡ u i) → flat_rows p v n s ≡ flat_rows p u n s
+unfolding flat_rows
+flat-same p v u zero s f = refl
+flat-same p v u (suc n) s f =
+    let q = flat-same p v u n (suc s) (λ i h g. f i (omega arith) (omega arith)) in
+    by-test (p s) (λ t. rw (t, f s (omega arith) (omega arith) t, q)) (λ t. rw (t, q))

@@ -41,11 +41,6 @@ module _ (cat : ℕ → ℕ) (n m : ℕ) (st : List ℕ) (item word : ℕ) where
     unfolding found latest_ok repeats_at crowded_at
     found-new g = rw (ne_eqb (cat item) 2 c, told es g)
 
--- an item of another category has no form to test
-pub plain-latest : (cat : ℕ → ℕ) (n m : ℕ) (st : List ℕ) (item : ℕ) → cat item ≢ 2 → latest_ok cat n m st item ≡ true
-unfolding latest_ok
-plain-latest cat n m st item c = rw (ne_eqb (cat item) 2 c)
-
 -- what is found decides
 pub by-found : (cat : ℕ → ℕ) (m : ℕ) (st : List ℕ) (item time word : ℕ) (j : Result Judged Refusal)
     → j ≡ found cat (ring_size st) m st item word

@@ -1,4 +1,4 @@
--- The pass's answer and its marks are those of current with at: refusal 2 over ring, forms and entries, and the rows.
+-- The pass's answer and its marks are those of current with at: the refusal Store over ring, forms and entries, and the rows.
 use Prim.Native.Nat.{ℕ, zero, suc, ◌+◌, ◌^◌, ◌≤◌, ◌<◌}
 use mathlib.Core.Path.{◌≡◌, refl, sym, ap, ◌∙◌}
 use mathlib.Core.Bool.{Bool, true, false, ◌&&◌, ◌||◌, not, and-false, true≢false}
@@ -8,13 +8,13 @@ use lib.Dec.{leb}
 use lib.ListN.{length, get_or, replicate, length-replicate, get_or-replicate}
 use Rattle.spec.specs.Words.{bit, every}
 use Rattle.spec.specs.Model.{max_items}
-use Rattle.spec.specs.Blocks.{flat_rows}
 use Rattle.spec.specs.Entries.{used_rows, form_ok}
 use Rattle.history.specs.Observations.{Head, max_ring, ring_size, base, checkpoint_at, item_rows, item_row}
 use Rattle.history.specs.Observations.{is_condition, ring_ok, held_entries, newest_in, if_used, at_rows, at_ok}
 use Rattle.spec.proofs.Words.{by-test, and_left, and_right, not_so, every-at, every_of}
 use Rattle.spec.proofs.Bits.{set-bit}
 use Rattle.marks.specs.Marks.{eight_of}
+use Rattle.rows.proofs.Flat.{flat-same}
 use Rattle.snapshot_rows.specs.Held.{marked_rows, held_by}
 use Rattle.picks.specs.Pass.{pass_marks, pass_ok, seen_from}
 use Rattle.snapshots.specs.Snapshots.{steps_of, begun, forms_ok, settled}
@@ -30,15 +30,6 @@ unfolding every
 every-ext p q zero s h = refl
 every-ext p q (suc n) s h =
     rw (h s (omega arith) (omega arith), every-ext p q n (suc s) (λ i l g. h i (omega arith) (omega arith)))
-
--- rows that agree where they are picked
-flat_on : (p : ℕ → Bool) (v w : ℕ → List (List ℕ)) (n s : ℕ)
-    → ((i : ℕ) → s ≤ i → i < s + n → p i ≡ true → v i ≡ w i) → flat_rows p v n s ≡ flat_rows p w n s
-unfolding flat_rows
-flat_on p v w zero s h = refl
-flat_on p v w (suc n) s h =
-    let rest = flat_on p v w n (suc s) (λ i l g. h i (omega arith) (omega arith)) in
-    by-test (p s) (λ t. rw (t, h s (omega arith) (omega arith) t, rest)) (λ t. rw (t, rest))
 
 module _ (cat : ℕ → ℕ) (selection m : ℕ) (st : List ℕ) (f k : ℕ) (few : m ≤ max_items) where
   abbrev steps : ℕ
@@ -80,7 +71,7 @@ module _ (cat : ℕ → ℕ) (selection m : ℕ) (st : List ℕ) (f k : ℕ) (fe
         rw (begun-at steps m st m 0 no_marks i (omega arith) (omega arith) (omega (arith, n)) b)
         (first-holding m st f i (form-at i h b))
 
-    -- refusal 2
+    -- the refusal Store
     pub pass-answers : pass_ok steps m st f k f marks₀
         ≡ ring_ok (ring_size st) m (base st) st k f && at_ok cat (ring_size st) m (base st) st selection k f
     unfolding at_ok
@@ -130,7 +121,7 @@ module _ (cat : ℕ → ℕ) (selection m : ℕ) (st : List ℕ) (f k : ℕ) (fe
       pub pass-rows : held_by m st f marks₂ selection ≡ at_rows cat (ring_size st) m (base st) st selection k f
       unfolding held_by at_rows
       pass-rows =
-          flat_on (bit selection) _ _ m 0
+          flat-same (bit selection) _ _ m 0
           (λ i l h s.
           let e : bit steps i ≡ is_condition cat i = steps-bit i (omega arith) ∙ rw s in
           by-test (is_condition cat i)

@@ -185,7 +185,7 @@ module _ (steps m : ℕ) (st : List ℕ) (f : ℕ) (few : m ≤ max_items) where
       others-end i g b k (suc s) (number_stepped steps st f s l) (length-next s l n) (omega arith) c
       ∙ (eight-next s l n h a i g ∙ rw b)
 
-  -- ---- refusal 2: the items are the model's, and no condition item comes to nine entries
+  -- ---- the refusal Store: the items are the model's, and no condition item comes to nine entries
 
   abbrev pub eight_ok : ℕ → ℕ → (ℕ → List (List ℕ)) → Bool
   eight_ok k s es =

@@ -19,7 +19,7 @@ begun steps m st (suc k) i l =
     begun steps m st k (suc i)
     (cond (bit steps i) (set l i (marks_of i 1 (item_rows st (checkpoint_at (ring_size st) m) m i))) l)
 
--- refusal 2: their checkpoints are in their written form
+-- the refusal Store: their checkpoints are in their written form
 unfoldable pub forms_ok : ℕ → ℕ → List ℕ → Bool
 forms_ok steps m st =
     every (λ i. not (bit steps i) || form_ok i 0 (item_rows st (checkpoint_at (ring_size st) m) m i)) m 0

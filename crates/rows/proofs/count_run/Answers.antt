@@ -1,5 +1,5 @@
 use Prim.Native.Nat.{◌+◌, ◌<◌}
-use mathlib.Core.Path.{◌≡◌, refl}
+use mathlib.Core.Path.{refl}
 use native.Mathlib.Nat.{add-zero, add_assoc}
 use native.Mathlib.Omega.{arith}
 use Rattle.rows.proofs.Laws.{counting-start, counting-broken, counting_more, counting-end, one-at-most}
