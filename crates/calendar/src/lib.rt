@@ -1,7 +1,7 @@
 // Times as dates and times of day, 1970 to 2099.
 #![tactic(auto)]
 
-ghost use Rattle.std.specs.Prelude.{cond, true, ◌≡◌, Some, None};
+ghost use Rattle.std.specs.Prelude.{cond, true, ◌≡◌, ◌≤◌, Some, None};
 ghost use Rattle.lines.specs.Stamps.{month_length, real_date, day_number, time_of, date_of};
 
 use lines::Date;
@@ -9,12 +9,14 @@ use lines::Date;
 // The days of a month.
 #[tactic(auto, unfolding(lines::specs::Stamps::month_length))]
 fn month_length(long: bool, m: u64) -> u64
+    requires { (1 ≤ m) × (m ≤ 12) }
     ensures { result ≡ month_length long m }
 {
     match m {
+        4 | 6 | 9 | 11 => 30,
         2 if long => 29,
         2 => 28,
-        _ => 30 + (m % 2 + m / 8 % 2) % 2,
+        _ => 31,
     }
 }
 
@@ -23,10 +25,9 @@ fn month_length(long: bool, m: u64) -> u64
 fn real_date(d: Date) -> bool
     ensures { result ≡ real_date d }
 {
-    let most = month_length(d.year % 4 == 0, d.month);
     (1970..=2099).contains(&d.year)
         && (1..=12).contains(&d.month)
-        && (1..=most).contains(&d.day)
+        && (1..=month_length(d.year % 4 == 0, d.month)).contains(&d.day)
         && d.hour <= 23
         && d.minute <= 59
         && d.second <= 59

@@ -52,7 +52,7 @@ letters-found s r n e f = let z : n ≡ letters s = f ∙ rw (e, letters-is s) (
 
 -- ---- the numbers from s on, as the library goes over them and as the definitions do
 
-range-every : (p : ℕ → Bool) (n s : ℕ) → list_all p (range_with_len s n) ≡ every p n s
+pub range-every : (p : ℕ → Bool) (n s : ℕ) → list_all p (range_with_len s n) ≡ every p n s
 unfolding every
 range-every p zero s = refl
 range-every p (suc n) s = rw (add-one s) (ap (λ (t : Bool). p s && t) (range-every p n (suc s)))

@@ -1,5 +1,5 @@
 -- A reply's length, a value's word and a packed word, as the code tests them.
-use Prim.Native.Nat.{ℕ, suc, ◌+◌, ◌-◌, ◌*◌, ◌/◌, ◌%◌, ◌^◌, ◌≤◌, ◌<◌}
+use Prim.Native.Nat.{ℕ, suc, ◌+◌, ◌*◌, ◌/◌, ◌%◌, ◌^◌, ◌≤◌, ◌<◌}
 use mathlib.Core.Path.{◌≡◌, sym, ap, ◌∙◌}
 use mathlib.Core.Logic.{◌≢◌}
 use mathlib.Core.Bool.{Bool, true, false, ◌&&◌, ◌||◌, not, or-false}
@@ -8,7 +8,8 @@ use native.Mathlib.Omega.{arith}
 use lib.Dec.{leb, eqb}
 use lib.ListN.{length, get_or}
 use borrow.Author.Tests.{leb-true, le-leb, lt-leb, lt-ltb, le-ltb, ne_eqb, eqb-true}
-use Rattle.spec.specs.Words.{every}
+use Rattle.std.specs.List.{list_all, range_with_len}
+use Rattle.model.proofs.Laws.{range-every}
 use Rattle.spec.specs.Value.{item_of}
 use Rattle.spec.specs.Model.{items, category}
 use Rattle.spec.specs.Reply.{rows_of}
@@ -80,9 +81,10 @@ module _ (reply : List ℕ) (i n : ℕ) (h : i < get_or reply 0 0) where
 abbrev pub tested : (ℕ → ℕ → ℕ → Bool) → List ℕ → Bool
 tested p x = p (get_or x 0 0) (get_or x 1 0) (get_or x 2 0)
 
-module _ (p : List ℕ → Bool) (reply : List ℕ) (k : ℕ) (ek : k ≡ get_or reply 0 0) where
-  pub rows_start : all_rows p (rows_of reply) ≡ every (λ i. p (row_at reply i)) (k - 0) 0
-  rows_start = let z : k - 0 ≡ get_or reply 0 0 = omega arith in rw z (rows-every p reply)
+-- the library's test of all places is that of all rows
+pub rows-all : (p : List ℕ → Bool) (reply : List ℕ) (k : ℕ) → k ≡ get_or reply 0 0
+    → list_all (λ i. p (row_at reply i)) (range_with_len 0 k) ≡ all_rows p (rows_of reply)
+rows-all p reply k e = range-every (λ i. p (row_at reply i)) k 0 ∙ rw e (sym (rows-every p reply))
 
 -- ---- the two refusals
 

@@ -101,12 +101,11 @@ impl<'a> Reply<'a> {
         requires tells { Tells F.Fn test p }
         ensures { result ≡ all_rows (λ x. p (get_or x 0 0) (get_or x 1 0) (get_or x 2 0)) (rows_of self.now) }
     {
-        for i in 0..self.rows() {
-            if !test(self.row_at(i)) {
-                return false;
-            }
-        }
-        true
+        (0..self.rows()).all(
+            |i|
+                requires { (i < get_or self.now 0 0) × F.IsAlwaysCallable test }
+            { test(self.row_at(i)) },
+        )
     }
 }
 
@@ -152,14 +151,14 @@ fn packed_ok(model: &Words<'_>, word: u64) -> bool
     item < model.items() && word_ok(model.category(item), word % value::ITEM)
 }
 
-// Whether a document can be made of the reply: refusal 2's test.
+// Whether a document can be made of the reply: the test of refusal Store.
 pub fn reply_ok(model: &Words<'_>, reply: &[u64]) -> bool
     ensures { result ≡ reply_ok model.now reply.now }
 {
     words_ok(reply) && Reply::of(reply).all_rows(|row| packed_ok(model, row.packed))
 }
 
-// The reply, where a document can be made of it, or refusal 2.
+// The reply, where a document can be made of it, or refusal Store.
 pub fn checked<'a>(model: &Words<'_>, reply: &'a [u64]) -> Result<Reply<'a>, Refusal>
     ensures { MatchResult result
         (λ r. (r ≡ reply.entry.now) × (reply_ok model.now reply.entry.now ≡ true))
@@ -171,7 +170,7 @@ pub fn checked<'a>(model: &Words<'_>, reply: &'a [u64]) -> Result<Reply<'a>, Ref
     Ok(Reply::of(reply))
 }
 
-// Whether no time is after 2099: refusal 21's test.
+// Whether no time is after 2099: the test of refusal Stamp.
 pub fn times_ok(creation: u64, reply: &Reply<'_>) -> bool
     ensures { result ≡ times_ok creation reply.now }
 {

@@ -104,7 +104,7 @@ impl<'a> Model for Document<'a> {
 }
 
 impl<'a> Document<'a> {
-    // What the document of a reply is made of, or refusal 2.
+    // What the document of a reply is made of, or refusal Store.
     pub fn checked(model: Named<'a>, reply: &'a [u64]) -> Result<Document<'a>, Refusal>
         ensures { MatchResult result
             (λ d. (d ≡ record { model = model.entry.words; names = model.entry.names.now; reply = reply.entry.now })

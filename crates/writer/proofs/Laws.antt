@@ -2,14 +2,15 @@
 use Prim.Native.Nat.{ℕ, zero, suc, ◌+◌, ◌-◌, ◌/◌, ◌%◌, ◌^◌, ◌≤◌, ◌<◌}
 use mathlib.Core.Path.{◌≡◌, refl, sym, ◌∙◌}
 use mathlib.Core.Bool.{Bool, true, false}
-use mathlib.Core.List.{List, [], ◌∷◌, ◌++◌, append_assoc, append-nil}
+use mathlib.Core.List.{List, [], ◌∷◌, ◌++◌, append_assoc}
 use native.Mathlib.Nat.{add-zero, pow-suc, div-lt_iff_lt-mul, pow-le-pow_right}
 use native.Mathlib.Numerals.{add-one}
 use native.Mathlib.Omega.{arith}
 use lib.Dec.{leb, lit<}
 use borrow.Author.Tests.{leb-true, leb-false, eq-eqb, ne_eqb}
-use lib.ListN.{length, length-replicate, get_or, set, take, drop, drop_of_length-le, replicate, length-set, length-append, length-drop}
-use lib.Seq.{sets, set_out, take-suc, take_all, length-sets, drop-cons, drop-set-lt, get_or-set_same}
+use lib.ListN.{length, get_or, set, take, drop, replicate, length-set, length-append, length-drop}
+use lib.Seq.{sets, set_out, take-suc, take_all, length-sets}
+use Rattle.std.proofs.lemmas.List.{drop-set}
 use Rattle.spec.specs.Bytes.{decimal}
 use Rattle.lines.specs.Digits.{fixed}
 use Rattle.spec.proofs.Digits.{left_text, decimal-last}
@@ -63,9 +64,6 @@ pub record Putting (entry : Output) (s : List ℕ) (i : ℕ) (exit : Output) : T
   pub inside : i ≤ length s
   pub done : Put entry (take i s) exit
 
-pub putting-none : (a : Output) (s : List ℕ) → length a.bytes.now ≤ stop → Putting a s 0 a
-putting-none a s h = record { inside = omega arith; done = put-none a h }
-
 module _ {a : Output} {s : List ℕ} {i : ℕ} {b : Output} (r : Putting a s i b) where
   pub putting-more : {e : Output} → i < length s → Put b (get_or s i 0 ∷ []) e → Putting a s (i + 1) e
   putting-more h q =
@@ -74,16 +72,6 @@ module _ {a : Output} {s : List ℕ} {i : ℕ} {b : Output} (r : Putting a s i b
         done = rw (add-one i, take-suc s i 0 h) (put-append r.done q);
       }
 
-  pub putting-all : length s ≤ i → Put a s b
-  putting-all h = rw (take_all i s h) at r.done
-
--- ---- digits, from the last one on
-
-drop-set : (l : List ℕ) (i x : ℕ) → i < length l → drop i (set l i x) ≡ x ∷ drop (suc i) l
-drop-set l i x h =
-    let k : i < length (set l i x) = omega (arith, length-set l i x) in
-    rw (drop-cons (set l i x) i 0 k, get_or-set_same l i x 0 h, drop-set-lt (suc i) l i x (omega arith))
-
 -- ---- the last k digits of a number, from the last one on
 
 -- the digits from i on are made, and `left` has the others
@@ -91,15 +79,6 @@ pub record Filling (k n : ℕ) (digits : List ℕ) (i left : ℕ) : Type 0 where
   pub inside : i ≤ k
   pub len : length digits ≡ k
   pub text : fixed k n ≡ fixed i left ++ drop i digits
-
-pub filling-none : (k n : ℕ) → Filling k n (replicate k 0) k n
-filling-none k n =
-    let z = length-replicate {A = ℕ} k 0 in
-    record {
-      inside = omega arith;
-      len = z;
-      text = rw (drop_of_length-le {A = ℕ} (replicate k 0) {i = k} (omega arith)) (sym (append-nil (fixed k n)));
-    }
 
 pub filling-more : {k n : ℕ} {digits : List ℕ} {i left : ℕ} → Filling k n digits i left → 0 < i
     → Filling k n (set digits (i - 1) (48 + left % 10)) (i - 1) (left / 10)
@@ -112,7 +91,7 @@ filling-more {k} {n} {digits} {i = suc i} {left} r h =
       inside = omega (arith, r.inside);
       len = length-set digits i (48 + left % 10) ∙ r.len;
       text = r.text
-          ∙ rw (append_assoc (fixed i (left / 10)) _ _, drop-set digits i (48 + left % 10) room);
+          ∙ rw (append_assoc (fixed i (left / 10)) _ _, drop-set digits i (48 + left % 10) room, add-one i);
     })
 
 pub filling-all : {k n : ℕ} {digits : List ℕ} {left : ℕ} → Filling k n digits 0 left → digits ≡ fixed k n
@@ -157,6 +136,7 @@ module _ {n : ℕ} {digits : List ℕ} {i left : ℕ} (r : Making n digits i lef
               decimal-last left z,
               append_assoc (left_text (left / 10)) _ _,
               drop-set digits i (48 + left % 10) (omega (arith, r.len)),
+              add-one i,
             );
           })
 
