@@ -1,11 +1,11 @@
--- Pascal case by words is Pascal case byte by byte.
+-- Pascal case word by word, and what begins it.
 use Prim.Native.Nat.{ℕ, ◌+◌, ◌-◌, ◌≤◌, ◌<◌}
-use mathlib.Core.Path.{◌≡◌, refl, sym, ap, ◌∙◌}
+use mathlib.Core.Path.{◌≡◌, refl, sym, ◌∙◌}
 use mathlib.Core.Bool.{Bool, true, false, cond}
-use mathlib.Core.List.{List, [], ◌∷◌, ◌++◌, map, append_assoc, append-nil}
+use mathlib.Core.List.{List, [], ◌∷◌, ◌++◌, map, append_assoc, append-nil, map-append}
 use native.Mathlib.Numerals.{add-one}
 use native.Mathlib.Omega.{arith}
-use borrow.Author.Tests.{le-leb, lt-leb, eq-eqb, ne_eqb, leb-true, ltb-true, ltb-false}
+use borrow.Author.Tests.{le-leb, lt-leb, leb-true, ltb-true, ltb-false}
 use lib.Dec.{leb, ltb, eqb}
 use lib.ListN.{length, get_or, take}
 use lib.Seq.{take-suc, take_all}
@@ -16,8 +16,17 @@ use Rattle.writer.proofs.Laws.{put-append, put-none}
 use Rattle.std.specs.Prelude.{Option, Some, None, MatchOption, find, not, ◌==◌}
 use Rattle.std.specs.Char.{to_ascii_uppercase, to_ascii_lowercase}
 use Rattle.std.proofs.lemmas.Bool.Decides.{nat_tests}
-use Rattle.streams.specs.Streams.{upper, lower, capitals, lettered, element_name}
-use Rattle.element.specs.Pascal.{case_of, pascal, start_after, bare}
+use Rattle.streams.specs.Streams.{upper, lower, capital, capitals, lettered, element_name}
+use Rattle.element.specs.Pascal.{bare}
+
+-- ---- one byte
+
+-- the library's words for the same
+upper-is : (x : ℕ) → to_ascii_uppercase x ≡ upper x
+upper-is x = grind (arith, nat_tests)
+
+lower-is : (x : ℕ) → to_ascii_lowercase x ≡ lower x
+lower-is x = grind (arith, nat_tests)
 
 -- the words, of which the first has begun before
 lowers : List (List ℕ) → List ℕ
@@ -29,87 +38,57 @@ unfolding capitals join_first lowers
 join-capitals x [] = refl
 join-capitals x (w ∷ ws) = refl
 
-join-lowers : (x : ℕ) (ws : List (List ℕ)) → lowers (join_first x ws) ≡ lower x ∷ lowers ws
-unfolding capitals join_first lowers
-join-lowers x [] = refl
-join-lowers x (w ∷ ws) = refl
+-- ---- bytes and words, one by one
 
-both : (s : List ℕ) → (capitals (split 95 s) ≡ pascal true s) × (lowers (split 95 s) ≡ pascal false s)
-unfolding capitals lowers split pascal
-both [] = (refl, refl)
-both (x ∷ s) = go (eqb x 95) (both s)
-  where
-    go : (t : Bool) → (capitals (split 95 s) ≡ pascal true s) × (lowers (split 95 s) ≡ pascal false s)
-        → (capitals (cond t ([] ∷ split 95 s) (join_first x (split 95 s))) ≡ cond t [] (upper x ∷ []) ++ pascal t s)
-        × (lowers (cond t ([] ∷ split 95 s) (join_first x (split 95 s))) ≡ cond t [] (lower x ∷ []) ++ pascal t s)
-    go true h = (h.0, h.0)
-    go false h = (
-      join-capitals x (split 95 s) ∙ ap (◌∷◌ (upper x)) h.1,
-      join-lowers x (split 95 s) ∙ ap (◌∷◌ (lower x)) h.1,
-    )
-
-capitals-pascal : (s : List ℕ) → capitals (split 95 s) ≡ pascal true s
-capitals-pascal s = (both s).0
-
--- ---- one byte more
-
-pascal-more : (start : Bool) (s : List ℕ) (x : ℕ)
-    → pascal start (s ++ x ∷ []) ≡ pascal start s ++ case_of (start_after start s) x
-unfolding pascal start_after
-pascal-more start [] x = append-nil (case_of start x)
-pascal-more start (y ∷ s) x =
-    rw (pascal-more (eqb y 95) s x)
-    (sym (append_assoc (case_of start y) (pascal (eqb y 95) s) (case_of (start_after (eqb y 95) s) x)))
-
-start-more : (start : Bool) (s : List ℕ) (x : ℕ) → start_after start (s ++ x ∷ []) ≡ eqb x 95
-unfolding start_after
-start-more start [] x = refl
-start-more start (y ∷ s) x = start-more (eqb y 95) s x
-
--- i bytes of s are put, and `start` says whether a word starts behind them
-pub record Cased (entry : Output) (s : List ℕ) (i : ℕ) (start : Bool) (exit : Output) : Type 0 where
+-- i bytes of s are put as small letters
+pub record Small (entry : Output) (s : List ℕ) (i : ℕ) (exit : Output) : Type 0 where
   pub inside : i ≤ length s
-  pub done : Put entry (pascal true (take i s)) exit
-  pub flag : start ≡ start_after true (take i s)
+  pub done : Put entry (map lower (take i s)) exit
 
-pub cased-none : (a : Output) (s : List ℕ) → length a.bytes.now ≤ stop → Cased a s 0 true a
-unfolding pascal start_after
-cased-none a s h = record { inside = omega arith; done = put-none a h; flag = refl }
+pub small-none : (a : Output) (s : List ℕ) → length a.bytes.now ≤ stop → Small a s 0 a
+small-none a s h = record { inside = omega arith; done = put-none a h }
 
-module _ {a : Output} {s : List ℕ} {i : ℕ} {start : Bool} {b : Output} (r : Cased a s i start b) where
-  pub cased-more : i < length s → {e : Output} → Put b (case_of start (get_or s i 0)) e
-      → Cased a s (i + 1) (eqb (get_or s i 0) 95) e
-  cased-more h p =
+module _ {a : Output} {s : List ℕ} {i : ℕ} {b : Output} (r : Small a s i b) where
+  pub small-more : i < length s → {c : ℕ} → c ≡ to_ascii_lowercase (get_or s i 0) → {e : Output} → Put b (c ∷ []) e
+      → Small a s (i + 1) e
+  small-more h q p =
       record {
         inside = omega arith;
-        done = rw (add-one i, take-suc s i 0 h, pascal-more true (take i s) (get_or s i 0), ← r.flag)
+        done = rw (add-one i, take-suc s i 0 h, map-append lower (take i s) (get_or s i 0 ∷ []), ← lower-is (get_or s i 0), ← q)
             (put-append r.done p);
-        flag = rw (add-one i, take-suc s i 0 h, start-more true (take i s) (get_or s i 0));
       }
 
-  pub cased-all : length s ≤ i → Put a (capitals (split 95 s)) b
-  cased-all h = rw (capitals-pascal s) (rw (take_all i s h) at r.done)
+  pub small-all : length s ≤ i → Put a (map lower s) b
+  small-all h = rw (take_all i s h) at r.done
 
--- ---- one byte
+-- a word's first byte, then the others
+pub word-put : {word : List ℕ} {first b : ℕ} {rest : List ℕ} → word ≡ first ∷ rest → b ≡ to_ascii_uppercase first
+    → {a m e : Output} → Put a (b ∷ []) m → Put m (map lower rest) e → Put a (capital word) e
+word-put {first = first} w q p r = rw (w, ← upper-is first, ← q) (put-append p r)
 
--- the library's words for the same
-upper-is : (x : ℕ) → to_ascii_uppercase x ≡ upper x
-upper-is x = grind (arith, nat_tests)
+-- the words before those of `rest` are put
+pub record Worded (entry : Output) (words rest : List (List ℕ)) (exit : Output) : Type 0 where
+  pub text : List ℕ
+  pub whole : capitals words ≡ text ++ capitals rest
+  pub done : Put entry text exit
 
-lower-is : (x : ℕ) → to_ascii_lowercase x ≡ lower x
-lower-is x = grind (arith, nat_tests)
+pub worded-none : (a : Output) (words : List (List ℕ)) → length a.bytes.now ≤ stop → Worded a words words a
+worded-none a words h = record { text = []; whole = refl; done = put-none a h }
 
-pub case-none : {a : Output} (start : Bool) (x : ℕ) → x ≡ 95 → length a.bytes.now ≤ stop
-    → Put a (case_of start x) a
-case-none {a} start x q h = rw (eq-eqb x 95 q) (put-none a h)
+module _ {a : Output} {words rest : List (List ℕ)} {b : Output} (r : Worded a words rest b) where
+  pub worded-more : {word : List ℕ} {more : List (List ℕ)} → rest ≡ word ∷ more → {e : Output}
+      → Put b (capital word) e → Worded a words more e
+  unfolding capitals
+  worded-more {word} {more} n p =
+      record {
+        text = r.text ++ capital word;
+        whole = r.whole ∙ rw n (sym (append_assoc r.text (capital word) (capitals more)));
+        done = put-append r.done p;
+      }
 
--- a byte other than '_'
-module _ (x : ℕ) (n : x ≡ 95 → ⊥) {start : Bool} {a e : Output} {b : ℕ} where
-  pub case-upper : start ≡ true → b ≡ to_ascii_uppercase x → Put a (b ∷ []) e → Put a (case_of start x) e
-  case-upper s q p = rw (ne_eqb x 95 n, s, ← upper-is x, ← q) p
-
-  pub case-lower : start ≡ false → b ≡ to_ascii_lowercase x → Put a (b ∷ []) e → Put a (case_of start x) e
-  case-lower s q p = rw (ne_eqb x 95 n, s, ← lower-is x, ← q) p
+  pub worded-all : rest ≡ [] → Put a (capitals words) b
+  unfolding capitals
+  worded-all n = rw (r.whole, n, append-nil r.text) r.done
 
 -- ---- 'T' before
 
@@ -135,33 +114,33 @@ digit-upper x = go (ltb x 97) refl
     go false e = high (ltb-false x 97 e) (leb x 122) refl
 
 -- nothing is written of the bytes before the first sign
-found-in : (s : List ℕ) {x : ℕ} → Some x ≡ find (λ x. not (x == 95)) s → bare (pascal true s) ≡ digit x
-unfolding pascal
+found-in : (s : List ℕ) {x : ℕ} → Some x ≡ find (λ x. not (x == 95)) s → bare (capitals (split 95 s)) ≡ digit x
+unfolding capitals split
 found-in [] e = cc
 found-in (y ∷ s) {x} e = go (eqb y 95) (found-in s) e
   where
-    go : (t : Bool) → (Some x ≡ find (λ x. not (x == 95)) s → bare (pascal true s) ≡ digit x)
+    go : (t : Bool) → (Some x ≡ find (λ x. not (x == 95)) s → bare (capitals (split 95 s)) ≡ digit x)
         → Some x ≡ cond (not t) (Some y) (find (λ x. not (x == 95)) s)
-        → bare (cond t [] (upper y ∷ []) ++ pascal t s) ≡ digit x
+        → bare (capitals (cond t ([] ∷ split 95 s) (join_first y (split 95 s)))) ≡ digit x
     go true on e = on e
-    go false on e = let z : x ≡ y = cc in rw z (digit-upper y)
+    go false on e = let z : x ≡ y = cc in rw (z, join-capitals y (split 95 s)) (digit-upper y)
 
-none-in : (s : List ℕ) → None ≡ find (λ x. not (x == 95)) s → bare (pascal true s) ≡ true
-unfolding pascal
+none-in : (s : List ℕ) → None ≡ find (λ x. not (x == 95)) s → bare (capitals (split 95 s)) ≡ true
+unfolding capitals split
 none-in [] e = refl
 none-in (y ∷ s) e = go (eqb y 95) (none-in s) e
   where
-    go : (t : Bool) → (None ≡ find (λ x. not (x == 95)) s → bare (pascal true s) ≡ true)
+    go : (t : Bool) → (None ≡ find (λ x. not (x == 95)) s → bare (capitals (split 95 s)) ≡ true)
         → None ≡ cond (not t) (Some y) (find (λ x. not (x == 95)) s)
-        → bare (cond t [] (upper y ∷ []) ++ pascal t s) ≡ true
+        → bare (capitals (cond t ([] ∷ split 95 s) (join_first y (split 95 s)))) ≡ true
     go true on e = on e
     go false on e = cc
 
 -- what is said of the first sign, if there is one
 pub bare_is : (s : List ℕ) {o : Option ℕ} {b : Bool} → o ≡ find (λ x. not (x == 95)) s
     → MatchOption o (b ≡ true) (λ x. b ≡ digit x) → b ≡ bare (capitals (split 95 s))
-bare_is s {o = None} e m = m ∙ sym (ap bare (capitals-pascal s) ∙ none-in s e)
-bare_is s {o = Some x} e m = m ∙ sym (ap bare (capitals-pascal s) ∙ found-in s e)
+bare_is s {o = None} e m = m ∙ sym (none-in s e)
+bare_is s {o = Some x} e m = m ∙ sym (found-in s e)
 
 lettered-bare : (t : List ℕ) → lettered t ≡ cond (bare t) (84 ∷ t) t
 lettered-bare [] = refl

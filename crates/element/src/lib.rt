@@ -1,27 +1,31 @@
 // The element name of a data item's type: Pascal case without '_'.
 #![tactic(auto)]
 
-ghost use Rattle.std.specs.Prelude.{◌≡◌, ◌==◌, not, find};
+ghost use Rattle.std.specs.Prelude.{◌≡◌, ◌==◌, not, find, map};
 ghost use Rattle.spec.specs.Bytes.{split};
-ghost use Rattle.streams.specs.Streams.{capitals, element_name};
+ghost use Rattle.streams.specs.Streams.{lower, capital, capitals, element_name};
 ghost use Rattle.writer.specs.Puts.{Put};
-ghost use Rattle.element.specs.Pascal.{case_of, bare};
+ghost use Rattle.element.specs.Pascal.{bare};
 
 use scan::is_digit;
 use writer::Output;
 
-// What byte x of a name gives, at a word's start or behind it. An enum is no plainer: the flag is a test's answer.
-#[inline]
-fn put_case(out: &mut Output, start: bool, x: u8)
-    ensures { Put out.old (case_of start x) out.new }
+// The bytes as small letters.
+fn put_small(out: &mut Output, s: &[u8])
+    ensures { Put out.old (map lower s.now) out.new }
 {
-    if x == b'_' {
-        return;
-    }
-    if start {
-        out.put_byte(x.to_ascii_uppercase());
-    } else {
+    for x in s {
         out.put_byte(x.to_ascii_lowercase());
+    }
+}
+
+// A word in Pascal case.
+fn put_word(out: &mut Output, word: &[u8])
+    ensures { Put out.old (capital word.now) out.new }
+{
+    if let Some((first, rest)) = word.split_first() {
+        out.put_byte(first.to_ascii_uppercase());
+        put_small(out, rest);
     }
 }
 
@@ -29,10 +33,8 @@ fn put_case(out: &mut Output, start: bool, x: u8)
 fn put_pascal(out: &mut Output, s: &[u8])
     ensures { Put out.old (capitals (split 95 s.now)) out.new }
 {
-    let mut start = true;
-    for x in s {
-        put_case(out, start, *x);
-        start = *x == b'_';
+    for word in s.split(|x| *x == b'_') {
+        put_word(out, word);
     }
 }
 

@@ -34,6 +34,8 @@ const ASSET_CHANGE: u64 = 3;
 
 const MAX_CATEGORY: u64 = 4;
 
+// The parts of a word by its number: a type would hold no fact, since the model's check is what bounds them.
+
 // A component's parent, by the component's word.
 pub fn parent_of(word: u64) -> u64
     ensures { result ≡ parent_of word }
@@ -101,8 +103,8 @@ pub fn model_ok(model: &[u32], names: &[u8]) -> bool
     checks::components_ok(&words, count) && checks::items_ok(&words, count)
 }
 
-// A model and its names that keep the rules, or refusal Model. No trait over this and what observations and assets have of
-// the name: each has other arguments, another test and another refusal, and they share one `if`.
+// A model and its names that keep the rules, or refusal Model. No trait over this and what observations and assets have
+// of the name: each has other arguments, another test and another refusal, and they share one `if`.
 pub fn checked<'a>(model: &'a [u32], names: &'a [u8]) -> Result<Named<'a>, Refusal>
     ensures { MatchResult result
         (λ s. (s.words ≡ model.entry.now) × (s.names.now ≡ names.entry.now)

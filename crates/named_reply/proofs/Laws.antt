@@ -4,16 +4,13 @@ use mathlib.Core.Path.{◌≡◌, refl, sym, ap, ◌∙◌}
 use mathlib.Core.Bool.{Bool, true, false}
 use mathlib.Core.List.{List, [], ◌∷◌, ◌++◌, append-nil}
 use native.Mathlib.Omega.{arith}
-use lib.Dec.{ltb, eqb}
+use lib.Dec.{ltb}
 use lib.ListN.{length, get_or}
 use lib.Seq.{append_snoc}
 use borrow.Author.Tests.{lt-ltb, le-ltb, leb-true, ltb-true, ltb-false}
 use Rattle.std.proofs.Math.ListN.{get_or-append}
 use Rattle.std.proofs.Math.Seq.{get_or-append_seam}
-use Rattle.std.specs.Prelude.{Option, Some, None}
-use Rattle.std.specs.List.{slice_split, onto_first}
-use Rattle.std.proofs.lemmas.Iterator.{YieldsList}
-use Rattle.spec.specs.Bytes.{split, join_first}
+use Rattle.spec.specs.Bytes.{split}
 use Rattle.spec.specs.Text.{id_text, id_texts, longest_text}
 use Rattle.spec.specs.Assets.{max_assets, capacity, used, find}
 use Rattle.spec.specs.Reply.{refuse}
@@ -25,30 +22,6 @@ use Rattle.std.specs.List.{join_with_byte as join}
 use Rattle.named_reply.specs.Cells.{FoundAll}
 use Rattle.std.proofs.lemmas.List.{length-append}
 use Rattle.spec.proofs.Bytes.{join-split}
-
--- ---- the ids of a text, as an iterator gives them
-
-split-first : (x : ℕ) (r : List (List ℕ)) → onto_first x r ≡ join_first x r
-unfolding join_first
-split-first x [] = refl
-split-first x (p ∷ ps) = refl
-
--- the library's parts
-pub split-is : (b : ℕ) (s : List ℕ) → slice_split (λ x. eqb x b) s ≡ split b s
-unfolding split
-split-is b [] = refl
-split-is b (x ∷ xs) = rw (split-is b xs, split-first x (split b xs))
-
-module _ {S A B : Type 0} {steps : S → Option A → S → Type 0} {v : A → B} {s t : S} where
-  -- an iterator's next item is the first of those that it is to give
-  pub given-next : (ys : List B) → YieldsList steps v s ys → (x : A) → steps s (Some x) t
-      → (more : List B) × ((ys ≡ v x ∷ more) × YieldsList steps v t more)
-  given-next [] g x h = absurd (g.runs x t h)
-  given-next (y ∷ ys) g x h = let m = g.runs.1 x t h in (ys, (rw m.0, record { runs = m.1 }))
-
-  pub given-none : (ys : List B) → YieldsList steps v s ys → steps s None t → ys ≡ []
-  given-none [] g h = refl
-  given-none (y ∷ ys) g h = absurd (g.runs.0 t h)
 
 -- ---- how many ids a text has
 

@@ -21,4 +21,5 @@ pub mod Reply
 pub mod Steps
 pub mod Opened
 pub mod Refused
+pub mod Given
 pub mod Examples

@@ -1,15 +1,37 @@
-use Rattle.element.proofs.Laws.{cased-none, cased-more, cased-all}
-use native.Mathlib.Omega.{arith}
+-- A turn puts the first word that the iterator gives; at its end none is left.
+use Rattle.std.proofs.Common.{rules, tests, arith, ℕ}
+use Rattle.std.specs.List.{slice_split}
+use Rattle.std.proofs.lemmas.Iterator.Splits.{YieldsList-from_slice_split}
+use Rattle.std.proofs.iter.Serving.{serving}
+use lib.Dec.{eqb}
+use Rattle.spec.proofs.Given.{split-is, given-next, given-none}
+use Rattle.element.proofs.Laws.{worded-none, worded-more, worded-all}
 use Rattle.element.proofs.put_pascal.Goals as goal
 
-pub loop-x-init : goal.loop-x-init
-loop-x-init c =
-    cased-none _ _ (omega arith)
+pub loop-word-init : goal.loop-word-init
+loop-word-init c =
+    let s = c.args.s.now in (
+      grind serving,
+      (
+        search rules,
+        (
+          slice_split (λ (x : ℕ). eqb x 95) s,
+          (
+            YieldsList-from_slice_split _ (λ x. eqb x 95) s (search rules) (search rules) (search rules)
+                (λ x b q k. search (rules, tests)),
+            rw (split-is 95 s) (worded-none _ _ (omega arith)),
+          ),
+        ),
+      ),
+    )
 
-pub loop-x-preserved : goal.loop-x-preserved
-loop-x-preserved c =
-    cased-more c.loop-x.invariant (omega arith) c.put_case.ensures
+pub loop-word-preserved : goal.loop-word-preserved
+loop-word-preserved c =
+    let i = c.loop-word.invariant.1.1 in
+    let n = given-next {t = c.next.new.self} i.0 i.1.0 c.in-Some.word (rw c.in-Some.is at c.next.ensures.steps) in
+    (search rules, (search rules, (n.0, (n.1.1, worded-more i.1.1 n.1.0 c.put_word.ensures))))
 
 pub returns : goal.returns
 returns c =
-    cased-all c.loop-x.invariant (omega arith)
+    let i = c.loop-word.invariant.1.1 in
+    worded-all i.1.1 (given-none {t = c.next.new.self} i.0 i.1.0 (rw c.in-None.is at c.next.ensures.steps))

@@ -6,7 +6,7 @@ use Rattle.std.proofs.iter.Serving.{serving}
 use Rattle.std.proofs.lemmas.Result.{err_from_is_err_and}
 use lib.Dec.{eqb}
 use Prim.Native.Nat.{ℕ}
-use Rattle.named_reply.proofs.Laws.{split-is, given-next, given-none}
+use Rattle.spec.proofs.Given.{split-is, given-next, given-none}
 use Rattle.named_reply.proofs.Laws.{finding-none, finding-room, finding-missing, finding-more, finding-last}
 use Rattle.named_reply.proofs.find_all.Goals as goal
 
