@@ -1,12 +1,12 @@
 -- Starts joined from their parts, and components one after the other.
-use Prim.Native.Nat.{ℕ, suc, ◌+◌, ◌*◌, ◌≤◌, ◌<◌}
+use Prim.Native.Nat.{ℕ, suc, ◌+◌, ◌≤◌}
 use mathlib.Core.Path.{◌≡◌, sym, ◌∙◌}
 use mathlib.Core.Bool.{Bool, true, false}
 use mathlib.Core.List.{List, [], ◌∷◌, ◌++◌, append_assoc}
 use native.Mathlib.Omega.{arith}
 use lib.ListN.{length}
 use Rattle.spec.specs.Bytes.{bytes, decimal}
-use Rattle.spec.specs.Model.{Checked, name_bytes, name_text, components, component_name, component_word}
+use Rattle.spec.specs.Model.{components}
 use Rattle.streams.specs.Streams.{Row, each, having, row_component, groups, tag, component_type, device_tag, component_tag}
 use Rattle.streams.specs.Streams.{group_lines, component_lines, components_lines, ended}
 use Rattle.streams.proofs.Pieces.{ended-append, each-suc}
@@ -14,20 +14,7 @@ use Rattle.writer.specs.Puts.{Put, stop}
 use Rattle.writer.specs.declared.Output.{Output}
 use Rattle.writer.proofs.Laws.{put-none, put-append}
 use Rattle.row_groups.specs.Groups.{kept, any_kept}
-use Rattle.row_groups.proofs.Laws.{cell_room, between_none, between_put, component-filled}
-
--- ---- a component's type
-
--- its cell
-pub name-room : (model names : List ℕ) → Checked model names → (i w k : ℕ) → i < components model
-    → w ≡ component_word model i → k ≡ component_name w → name_bytes * k + name_bytes ≤ length names
-name-room model names M i w k h e f =
-    rw (f, e) (cell_room model names M (component_name (component_word model i)) (M.name i h))
-
--- its bytes
-pub type-is : (model names : List ℕ) (i w k : ℕ) (t : List ℕ) → w ≡ component_word model i → k ≡ component_name w
-    → t ≡ name_text names k → t ≡ component_type model names i
-type-is model names i w k t e f g = rw (f, e) at g
+use Rattle.row_groups.proofs.Laws.{between_none, between_put, component-filled}
 
 -- ---- starts
 

@@ -17,10 +17,7 @@ use writer::Output;
 pub fn put_device(model: &Named<'_>, out: &mut Output)
     ensures { Put out.old (tag (device_tag model.now.words model.now.names.now) ++ 10 ∷ []) out.new }
 {
-    let t = name_text(
-        model.names,
-        model::component_name(model.words.component_word(0)),
-    );
+    let t = name_text(model.component_cell(0));
     put_text(out, b"<DeviceStream name=\"", t);
     put_text(out, b" uuid=\"", t);
     out.put_bytes(b">\n");
@@ -31,10 +28,7 @@ fn put_start(d: &Document<'_>, c: u64, out: &mut Output)
     requires { c < components d.now.model }
     ensures { Put out.old (tag (component_tag d.now.model d.now.names c) ++ 10 ∷ []) out.new }
 {
-    let t = name_text(
-        d.model.names,
-        model::component_name(d.model.words.component_word(c)),
-    );
+    let t = name_text(d.model.component_cell(c));
     put_text(out, b"<ComponentStream component=\"", t);
     put_text(out, b" name=\"", t);
     put_number(out, b" componentId=\"c", c);
@@ -49,8 +43,6 @@ fn put_component(d: &Document<'_>, c: u64, out: &mut Output)
         (having (row_component d.now.model) c (reply_rows d.now.reply))))
         out.new }
 {
-    // its sizes bound c
-    let _words = &d.model.words;
     if !d.has_rows(c) {
         return;
     }

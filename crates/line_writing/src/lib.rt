@@ -21,10 +21,8 @@ pub fn write_line(
         (write_line model.now names.now item time value text.old) }
 {
     let words = model::checked(model, names)?.words;
-    if words.items() <= item {
-        return Err(Refusal::Item);
-    }
-    if !value::takes(words.category(item), value) {
+    let category = words.category_at(item).ok_or(Refusal::Item)?;
+    if !value::takes(category, value) {
         return Err(Refusal::Kind);
     }
     if MAX_TIME < time {

@@ -1,9 +1,9 @@
 // The model and the names: their check, which every call makes, and the words of a checked model.
 #![tactic(auto)]
 
-ghost use Rattle.std.specs.Prelude.{◌≡◌, ◌+◌, ◌*◌, ◌≤◌, true, false, length, MatchResult};
+ghost use Rattle.std.specs.Prelude.{◌≡◌, ◌≤◌, true, false, length, MatchResult};
 ghost use Rattle.spec.specs.declared.Refusal.TheVariants.{Model as Refused};
-ghost use Rattle.spec.specs.Model.{name_bytes, name_cell, letters, parent_of, component_name, category_of};
+ghost use Rattle.spec.specs.Model.{letters, parent_of, component_name, category_of};
 ghost use Rattle.spec.specs.Model.{component_of, item_name, model_ok};
 
 use spec::Refusal;
@@ -69,15 +69,6 @@ pub fn item_name(word: u64) -> u64
     ensures { result ≡ item_name word }
 {
     word % ITEM_NAMES
-}
-
-// The cell of name k.
-pub fn name_cell(names: &[u8], k: u64) -> &[u8]
-    requires { name_bytes * k + name_bytes ≤ length names.now }
-    ensures { result.now ≡ name_cell names.now k }
-{
-    let at = spec::NAME_BYTES * (k as usize);
-    &names[at..at + spec::NAME_BYTES]
 }
 
 // How many bytes of a name the cell starts with.

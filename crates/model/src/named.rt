@@ -1,7 +1,9 @@
 // A model with its names, once both keep the rules: what a reader of words and names needs to know of them.
-ghost use Rattle.spec.specs.Model.{Checked};
+ghost use Rattle.std.specs.Prelude.{◌≡◌, ◌<◌};
+ghost use Rattle.spec.specs.Model.{Checked, name_count, name_cell, components, items};
+ghost use Rattle.spec.specs.Model.{component_word, component_name, item_word, item_name};
 
-use super::Words;
+use super::{Words, component_name, item_name};
 
 // The model's words, and the cells of the names.
 #[derive(Drop)]
@@ -9,4 +11,31 @@ pub struct Named<'a> {
     pub words: Words<'a>,
     pub names: &'a [u8],
     ghost checked: { Checked words names.now },
+}
+
+impl Named<'_> {
+    // The cell of name k.
+    fn cell(&self, k: u64) -> &[u8]
+        requires { k < name_count self.now.names.now }
+        ensures { result.now ≡ name_cell self.now.names.now k }
+    {
+        let at = spec::NAME_BYTES * (k as usize);
+        &self.names[at..at + spec::NAME_BYTES]
+    }
+
+    // The cell of component i's name.
+    pub fn component_cell(&self, i: u64) -> &[u8]
+        requires { i < components self.now.words }
+        ensures { result.now ≡ name_cell self.now.names.now (component_name (component_word self.now.words i)) }
+    {
+        self.cell(component_name(self.words.component_word(i)))
+    }
+
+    // The cell of data item j's name.
+    pub fn item_cell(&self, j: u64) -> &[u8]
+        requires { j < items self.now.words }
+        ensures { result.now ≡ name_cell self.now.names.now (item_name (item_word self.now.words j)) }
+    {
+        self.cell(item_name(self.words.item_word(j)))
+    }
 }

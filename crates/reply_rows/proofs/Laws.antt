@@ -1,6 +1,7 @@
 -- A reply's length, a value's word and a packed word, as the code tests them.
+use Rattle.std.specs.Prelude.{Option, Some, None, MatchOption}
 use Prim.Native.Nat.{ℕ, suc, ◌+◌, ◌*◌, ◌/◌, ◌%◌, ◌^◌, ◌≤◌, ◌<◌}
-use mathlib.Core.Path.{◌≡◌, sym, ap, ◌∙◌}
+use mathlib.Core.Path.{◌≡◌, refl, sym, ap, ◌∙◌}
 use mathlib.Core.Logic.{◌≢◌}
 use mathlib.Core.Bool.{Bool, true, false, ◌&&◌, ◌||◌, not, or-false}
 use mathlib.Core.List.{List}
@@ -11,7 +12,7 @@ use borrow.Author.Tests.{leb-true, le-leb, lt-leb, lt-ltb, le-ltb, ne_eqb, eqb-t
 use Rattle.std.specs.List.{list_all, range_with_len}
 use Rattle.model.proofs.Laws.{range-every}
 use Rattle.spec.specs.Value.{item_of}
-use Rattle.spec.specs.Model.{items, category}
+use Rattle.spec.specs.Model.{max_items, items, category}
 use Rattle.spec.specs.Reply.{rows_of}
 use Rattle.spec.proofs.Words.{and_left, and_right}
 use Rattle.std.specs.Cmp.{both_ways}
@@ -22,8 +23,8 @@ use Rattle.streams.proofs.Rows.{row_at, row_number, row-time, row-packed, rows-e
 -- ---- the reply's length
 
 module _ (reply : List ℕ) where
-  pub words-length : words_ok reply ≡ true → 4 + 3 * get_or reply 0 0 ≤ length reply
-  words-length e = leb-true _ _ (and_right (leb 4 (length reply)) _ e)
+  pub words_length : words_ok reply ≡ true → 4 + 3 * get_or reply 0 0 ≤ length reply
+  words_length e = leb-true _ _ (and_right (leb 4 (length reply)) _ e)
 
 -- ---- a value's word
 
@@ -53,15 +54,14 @@ module _ (c word : ℕ) where
 
 -- ---- a packed word
 
-module _ (model : List ℕ) (word j m : ℕ) (ej : j ≡ item_of word) (em : m ≡ items model) where
-  pub item-beyond : m ≤ j → false ≡ packed_ok model word
-  unfolding packed_ok
-  item-beyond h = rw (le-ltb (item_of word) (items model) (omega arith))
-
-  pub item-tested : j < m → (k : ℕ) → k ≡ category model j → (t : Bool) → t ≡ word_ok k (word % 2 ^ 40)
-      → t ≡ packed_ok model word
-  unfolding packed_ok
-  item-tested h k ek t e = e ∙ rw (lt-ltb (item_of word) (items model) (omega arith), ek, ej)
+-- by the category of its item, where the model has that
+pub category-tested : (model : List ℕ) (word j : ℕ) → j ≡ item_of word → (o : Option ℕ)
+    → MatchOption o (items model ≤ j) (λ k. (k ≡ category model j) × (j < items model) × (items model ≤ max_items))
+    → (t : Bool) (P : ℕ → Type 0) → MatchOption o (t ≡ false) P → ((k : ℕ) → P k → t ≡ word_ok k (word % 2 ^ 40))
+    → t ≡ packed_ok model word
+unfolding packed_ok
+category-tested model word j ej None h t P g f = g ∙ rw (← ej, le-ltb j (items model) h) refl
+category-tested model word j ej (Some k) h t P g f = f k g ∙ rw (← ej, lt-ltb j (items model) h.1, h.0) refl
 
 -- ---- the words of row i, where the code finds them
 

@@ -57,6 +57,7 @@ impl<'a> Reply<'a> {
     }
 
     // The first number that a store has.
+    #[tactic(auto, using(crate::proofs::Laws::words_length))]
     pub fn first(&self) -> u64
         ensures { result ≡ get_or self.now 1 0 }
     {
@@ -64,6 +65,7 @@ impl<'a> Reply<'a> {
     }
 
     // The last number that a store has.
+    #[tactic(auto, using(crate::proofs::Laws::words_length))]
     pub fn last(&self) -> u64
         ensures { result ≡ get_or self.now 2 0 }
     {
@@ -71,6 +73,7 @@ impl<'a> Reply<'a> {
     }
 
     // The number that a client asks for next.
+    #[tactic(auto, using(crate::proofs::Laws::words_length))]
     pub fn next(&self) -> u64
         ensures { result ≡ get_or self.now 3 0 }
     {
@@ -147,8 +150,9 @@ fn word_ok(category: u64, word: u64) -> bool
 fn packed_ok(model: &Words<'_>, word: u64) -> bool
     ensures { result ≡ packed_ok model.now word }
 {
-    let item = value::item_of(word);
-    item < model.items() && word_ok(model.category(item), word % value::ITEM)
+    model
+        .category_at(value::item_of(word))
+        .is_some_and(|category| word_ok(category, word % value::ITEM))
 }
 
 // Whether a document can be made of the reply: the test of refusal Store.

@@ -1,17 +1,20 @@
 -- Rows of a component and group, kept and marked one after the other.
-use Prim.Native.Nat.{ℕ, suc, ◌+◌, ◌*◌, ◌≤◌, ◌<◌}
-use mathlib.Core.Path.{◌≡◌, refl, sym, ◌∙◌}
+use Prim.Native.Nat.{ℕ, suc, ◌≤◌, ◌<◌}
+use mathlib.Core.Path.{◌≡◌, refl, sym, ap, ◌∙◌}
 use mathlib.Core.Bool.{Bool, true, false, ◌||◌}
 use mathlib.Core.List.{List, [], ◌∷◌, ◌++◌, map, map-append, append_assoc, append-nil}
 use native.Mathlib.Omega.{arith}
-use borrow.Author.Tests.{eq-eqb, ne_eqb, eqb-true, eqb-false, ltb-true}
+use borrow.Author.Tests.{eq-eqb, ne_eqb, eqb-true, eqb-false, ltb-true, ltb-false}
 use denote.Enum.Bare.{sameb}
-use lib.Dec.{eqb}
+use lib.Dec.{ltb, eqb}
 use lib.ListN.{length, get_or, set, take, replicate, length-set, get_or-replicate}
 use lib.ListN.{length-replicate}
 use lib.Seq.{take_all, get_or-set_same, get_or-set_other}
+use Rattle.std.specs.Prelude.{Option, Some, None, is_some, option_map, MatchOption}
+use Rattle.std.specs.Option.{unwrap_or}
+use Rattle.std.proofs.Common.{Bor}
 use Rattle.spec.specs.Value.{item_of}
-use Rattle.spec.specs.Model.{Checked, name_bytes, name_count, name_text, max_components, items}
+use Rattle.spec.specs.Model.{Checked, name_text, max_components, items}
 use Rattle.spec.specs.Model.{item_word, item_name, component_of, category_of}
 use Rattle.spec.specs.Reply.{rows_of}
 use Rattle.spec.proofs.Words.{and_left, and_right, by-test}
@@ -72,15 +75,6 @@ module _ (model reply : List ℕ) (i : ℕ) {w j : ℕ} (ew : w ≡ get_or (row_
 
   pub own-word : {word : ℕ} → word ≡ item_word model j → word ≡ item_word model (item_of (get_or (row_at reply i) 2 0))
   own-word e = rw (ej, ew) at e
-
--- the cell of a name
-pub cell_room : (model names : List ℕ) → Checked model names → (k : ℕ) → k < name_count names
-    → name_bytes * k + name_bytes ≤ length names
-cell_room model names M k h = omega (arith, M.names_len)
-
-pub item_room : (model names : List ℕ) → Checked model names → (j w : ℕ) → j < items model → w ≡ item_word model j
-    → name_bytes * item_name w + name_bytes ≤ length names
-item_room model names M j w h e = rw e (cell_room model names M (item_name (item_word model j)) (M.item_name j h))
 
 -- ---- rows kept
 
@@ -284,6 +278,38 @@ module _ (start end : List ℕ) (ls : List (List ℕ)) {o : Output} where
             ← append_assoc start (10 ∷ []) (ended (l ∷ ls) ++ ended (end ∷ [])),
           )
           (put-append a (put-append b d))
+
+-- a component that the model lacks has no row
+none-kept : (model : List ℕ) (c : ℕ) (rows : List (List ℕ))
+    → ((i : ℕ) → i < length rows → component_of (item_word model (item_of (get_or (get_or rows i []) 2 0))) ≡ c → ⊥)
+    → having (row_component model) c (map row_in rows) ≡ []
+unfolding having
+none-kept model c [] f = refl
+none-kept model c (r ∷ rows) f =
+    rw (ne_eqb _ c (f 0 (omega arith)), none-kept model c rows (λ i l. f (suc i) (omega (arith, l))))
+
+module _ (model names reply : List ℕ) (M : Checked model names) (h : reply_ok model reply ≡ true) (c : ℕ)
+    (n : max_components ≤ c) where
+  pub lacking : (g : ℕ) → false ≡ filled (kept model c g (reply_rows reply))
+  unfolding having
+  lacking g =
+      rw (none-kept model c (rows_of reply) (λ i l e.
+      let there = item-there model reply h i (omega (arith, l, rows-length reply)) in
+      omega (arith, M.component _ there, M.sizes.c_max, e)))
+
+-- what is told of the marks that were looked for
+module _ (model names reply : List ℕ) (M : Checked model names) (h : reply_ok model reply ≡ true)
+    {present : List (List Bool)} (m : Marked model (reply_rows reply) present) (c g : ℕ) (l : g < groups) (t : Bool)
+    (P : Bor (List Bool) → Type 0) where
+  pub marks-tell : (r : Option (Bor (List Bool))) → is_some r ≡ ltb c (length present)
+      → ((d : List Bool) → unwrap_or (option_map (λ (x : Bor (List Bool)). x.now) r) d ≡ get_or present c d)
+      → MatchOption r (t ≡ false) P → ((x : Bor (List Bool)) → P x → t ≡ get_or x.now g false)
+      → t ≡ filled (kept model c g (reply_rows reply))
+  marks-tell None s u q f =
+      q ∙ lacking model names reply M h c (omega (arith, ltb-false c (length present) (sym s), m.len)) g
+  marks-tell (Some x) s u q f =
+      f x q ∙ (ap (λ (y : List Bool). get_or y g false) (u [])
+      ∙ m.at c g (omega (arith, ltb-true c (length present) (sym s), m.len)) l)
 
 -- ---- groups
 

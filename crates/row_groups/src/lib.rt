@@ -1,9 +1,9 @@
 // A component's rows in a document, group by group.
 #![tactic(auto)]
 
-ghost use Rattle.std.specs.Prelude.{true, false, [], ◌∷◌, ◌++◌, ◌≡◌, ◌+◌, ◌*◌, ◌<◌, ◌≤◌, length, get_or, MatchResult};
+ghost use Rattle.std.specs.Prelude.{true, false, [], ◌∷◌, ◌++◌, ◌≡◌, ◌<◌, take, get_or, MatchResult};
 ghost use Rattle.spec.specs.declared.Refusal.TheVariants.{Store as Refused};
-ghost use Rattle.spec.specs.Model.{name_bytes, name_text, max_components};
+ghost use Rattle.spec.specs.Model.{letters};
 ghost use Rattle.spec.specs.Reply.{rows_of};
 ghost use Rattle.streams.specs.Groups.{group_number};
 ghost use Rattle.streams.specs.Streams.{row_in, reply_ok, each, groups, group_name, group_lines, ended};
@@ -53,12 +53,10 @@ fn groups_present(model: &Words<'_>, reply: &Reply<'_>) -> Marks
 
 // ---- names and tags
 
-// The bytes of name k.
-pub fn name_text<'a>(names: &'a [u8], k: u64) -> &'a [u8]
-    requires { name_bytes * k + name_bytes ≤ length names.now }
-    ensures { result.now ≡ name_text names.now k }
+// The bytes of the name in a cell.
+pub fn name_text(cell: &[u8]) -> &[u8]
+    ensures { result.now ≡ take (letters cell.now) cell.now }
 {
-    let cell = model::name_cell(names, k);
     &cell[..model::name_length(cell)]
 }
 
@@ -116,7 +114,7 @@ impl<'a> Document<'a> {
     }
 
     // What the document of a reply is made of, whose rows are known to be the model's.
-    pub fn of(model: Named<'a>, reply: Reply<'a>) -> Document<'a>
+    fn of(model: Named<'a>, reply: Reply<'a>) -> Document<'a>
         requires { reply_ok model.words reply ≡ true }
         ensures { result ≡ record { model = model.entry.words; names = model.entry.names.now; reply = reply.entry } }
     {
@@ -128,17 +126,17 @@ impl<'a> Document<'a> {
         }
     }
 
-    // Whether component c's group g has rows.
+    // Whether component c's group g has rows; a component that the model lacks has none.
     fn is_marked(&self, c: u64, g: Group) -> bool
-        requires { c < max_components }
         ensures { result ≡ filled (kept self.now.model c (group_number g) (reply_rows self.now.reply)) }
     {
-        self.present[c as usize][mark_of(g)]
+        self.present
+            .get(c as usize)
+            .is_some_and(|groups| groups[mark_of(g)])
     }
 
     // Whether component c has rows.
     pub fn has_rows(&self, c: u64) -> bool
-        requires { c < max_components }
         ensures { result ≡ any_kept self.now.model c (reply_rows self.now.reply) }
     {
         self.is_marked(c, Group::Samples)
@@ -154,10 +152,10 @@ impl<'a> Document<'a> {
             (row_in (get_or (rows_of self.now.reply) i []) ∷ []))
             out.new }
     {
-        let packed = self.reply.row_at(i).packed;
-        let word = self.model.words.item_word(value::item_of(packed));
+        let item = value::item_of(self.reply.row_at(i).packed);
+        let word = self.model.words.item_word(item);
         if model::component_of(word) == c && group_of(model::category_of(word)) == g {
-            let t = name_text(self.model.names, model::item_name(word));
+            let t = name_text(self.model.item_cell(item));
             // read again, so that a row that isn't written costs its packed word alone
             put_row(out, g, t, &self.reply.row_at(i));
         }
@@ -176,7 +174,6 @@ impl<'a> Document<'a> {
 
     // Component c's group g; nothing where it has no rows.
     fn put_group(&self, c: u64, g: Group, out: &mut Output)
-        requires { c < max_components }
         ensures { Put out.old
             (ended (group_lines self.now.model self.now.names (group_number g)
             (kept self.now.model c (group_number g) (reply_rows self.now.reply))))
@@ -192,7 +189,6 @@ impl<'a> Document<'a> {
 
     // Component c's groups that have rows.
     pub fn put_groups(&self, c: u64, out: &mut Output)
-        requires { c < max_components }
         ensures { Put out.old
             (ended (each
             (λ g. group_lines self.now.model self.now.names g

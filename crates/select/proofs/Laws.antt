@@ -12,9 +12,9 @@ use lib.Pow.{pow_mono}
 use lib.Seq.{length-take-le}
 use Rattle.spec.specs.Words.{any_below, bit, set_of}
 use Rattle.spec.specs.Bytes.{name_byte, same}
-use Rattle.spec.specs.Model.{letters, name_cell, max_items, components, items}
+use Rattle.spec.specs.Model.{letters, max_items, components, items}
 use Rattle.spec.specs.Model.{item_word, component_of}
-use Rattle.spec.specs.Path.{Form, subtree, typed, other_form, form_of, is_named, has_type, under, in_subtree, in_typed}
+use Rattle.spec.specs.Path.{Form, subtree, typed, other_form, form_of, has_type, under, in_subtree, in_typed}
 use Rattle.spec.specs.Path.{select_subtree, select_typed, select_form, select}
 use Rattle.std.specs.Prelude.{Option, Some, None, is_some}
 use Rattle.std.proofs.Common.{Bor}
@@ -55,27 +55,18 @@ turned s t =
     same-is s t
     ∙ both_ways _ _ (λ e. same-eq t s (sym (same_true s t e))) (λ e. same-eq s t (sym (same_true t s e)))
 
-module _ (names : List ℕ) (k : ℕ) (t : List ℕ) where
-  -- the front of the name's cell against t
-  module _ (b : Bool) (eb : b ≡ pointwise eqb t (take (length t) (name_cell names k))) where
-    named-is : is_named names k t ≡ b && eqb (letters (name_cell names k)) (length t)
-    unfolding is_named
-    named-is =
-        let c : List ℕ = name_cell names k in
-        same-front c t (letters c) (letters-max c)
-        ∙ ap (λ (x : Bool). x && eqb (letters c) (length t)) (sym (eb ∙ turned t (take (length t) c)))
+-- the front of a cell against t, and then its name
+module _ (c t : List ℕ) (b : Bool) (eb : b ≡ pointwise eqb t (take (length t) c)) where
+  named-is : same (take (letters c) c) t ≡ b && eqb (letters c) (length t)
+  named-is =
+      same-front c t (letters c) (letters-max c)
+      ∙ ap (λ (x : Bool). x && eqb (letters c) (length t)) (sym (eb ∙ turned t (take (length t) c)))
 
-    pub named_other : b ≡ false → false ≡ is_named names k t
-    named_other z = sym (named-is ∙ rw z)
+  pub named_other : b ≡ false → false ≡ same (take (letters c) c) t
+  named_other z = sym (named-is ∙ rw z)
 
-    pub named-so-far : b ≡ true → (n : ℕ) → n ≡ letters (name_cell names k) → eqb n (length t) ≡ is_named names k t
-    named-so-far z n en = sym (named-is ∙ rw (z, ← en))
-
--- ---- an item's test
-pub chosen_is : (model names : List ℕ) (set : ℕ) (o : Option (List ℕ)) (j w : ℕ) (b : Bool) → w ≡ item_word model j
-    → b ≡ taken names set o w → b ≡ chosen model names set o j
-unfolding chosen
-chosen_is model names set o j w b ew eb = rw (eb, ew)
+  pub named-so-far : b ≡ true → (n : ℕ) → n ≡ letters c → eqb n (length t) ≡ same (take (letters c) c) t
+  named-so-far z n en = sym (named-is ∙ rw (z, ← en))
 
 -- ---- the items, from the last one down
 

@@ -1,33 +1,33 @@
 // What a path selects.
 #![tactic(auto)]
 
-ghost use Rattle.std.specs.Prelude.{◌≡◌, ◌||◌, ◌+◌, ◌*◌, ◌<◌, ◌≤◌, length, Some};
+ghost use Rattle.std.specs.Prelude.{◌≡◌, ◌||◌, ◌<◌, take, Some};
 ghost use Rattle.spec.specs.Words.{bit, set_of};
-ghost use Rattle.spec.specs.Model.{name_bytes, max_components, components, items};
-ghost use Rattle.spec.specs.Model.{parent_of, component_name, component_of, item_name};
-ghost use Rattle.spec.specs.Path.{is_named, under, select};
-ghost use Rattle.select.specs.Choice.{type_given, taken, chosen, by_names, SelectionFits};
+ghost use Rattle.spec.specs.Bytes.{same};
+ghost use Rattle.spec.specs.Model.{letters, components, items, parent_of, component_word};
+ghost use Rattle.spec.specs.Path.{has_type, under, select};
+ghost use Rattle.select.specs.Choice.{type_given, chosen, by_names, SelectionFits};
 
 use model::Named;
 use paths::PathForm;
 
-// Whether name k is the text t. Most names differ early: only a name that agrees so far is measured.
-fn is_named(names: &[u8], k: u64, t: &[u8]) -> bool
-    requires { name_bytes * k + name_bytes ≤ length names.now }
-    ensures { result ≡ is_named names.now k t.now }
+// Whether the name in a cell is the text t. Most names differ early: only a name that agrees so far is measured.
+fn is_named(cell: &[u8], t: &[u8]) -> bool
+    ensures { result ≡ same (take (letters cell.now) cell.now) t.now }
 {
-    let cell = model::name_cell(names, k);
     cell.starts_with(t) && model::name_length(cell) == t.len()
 }
 
-// Whether a component, by its word, has type name t or a parent in the set.
-fn joins(names: &[u8], word: u64, t: &[u8], set: u64) -> bool
-    requires name_bytes_in_bounds { name_bytes * component_name word + name_bytes ≤ length names.now }
-    requires word_bound { parent_of word < max_components }
+// Whether component i has type name t or a parent in the set.
+#[tactic(auto, unfolding(spec::specs::Path::is_named))]
+fn joins(model: &Named<'_>, i: u64, t: &[u8], set: u64) -> bool
+    requires { i < components model.now.words }
     ensures { result
-        ≡ (is_named names.now (component_name word) t.now || bit set (parent_of word)) }
+        ≡ (has_type model.now.words model.now.names.now t.now i
+        || bit set (parent_of (component_word model.now.words i))) }
 {
-    is_named(names, model::component_name(word), t) || selection::has(set, model::parent_of(word))
+    is_named(model.component_cell(i), t)
+        || selection::has(set, model::parent_of(model.words.component_word(i)))
 }
 
 // The components that have type name t, or an ancestor that has. One pass does: a parent stands before its children.
@@ -36,22 +36,20 @@ fn under_type(model: &Named<'_>, t: &[u8]) -> u64
 {
     let mut set = selection::NONE;
     for i in 0..model.words.components() {
-        let word = model.words.component_word(i);
-        set = selection::with_if(joins(model.names, word, t, set), set, i);
+        set = selection::with_if(joins(model, i, t, set), set, i);
     }
     set
 }
 
-// Whether an item, by its word, is of a component in the set and, where one is given, of item type y.
-#[tactic(auto, unfolding(crate::specs::Choice::taken))]
-fn takes(names: &[u8], word: u64, set: u64, y: Option<&[u8]>) -> bool
-    requires name_bytes_in_bounds { name_bytes * item_name word + name_bytes ≤ length names.now }
-    requires word_bound { component_of word < max_components }
-    ensures { result ≡ taken names.now set (type_given y.entry) word }
+// Whether data item j is of a component in the set and, where a type is given, of item type y.
+#[tactic(auto, unfolding(spec::specs::Path::is_named, crate::specs::Choice::chosen, crate::specs::Choice::taken))]
+fn takes(model: &Named<'_>, j: u64, set: u64, y: Option<&[u8]>) -> bool
+    requires { j < items model.now.words }
+    ensures { result ≡ chosen model.now.words model.now.names.now set (type_given y.entry) j }
 {
-    selection::has(set, model::component_of(word))
+    selection::has(set, model::component_of(model.words.item_word(j)))
         && match y {
-            Some(y) => is_named(names, model::item_name(word), y),
+            Some(y) => is_named(model.item_cell(j), y),
             None => true,
         }
 }
@@ -65,8 +63,7 @@ fn items_of(model: &Named<'_>, set: u64, y: Option<&[u8]>) -> u64
 {
     let mut selection = selection::NONE;
     for j in (0..model.words.items()).rev() {
-        let word = model.words.item_word(j);
-        selection = selection::moved_up(takes(model.names, word, set, y), selection);
+        selection = selection::moved_up(takes(model, j, set, y), selection);
     }
     selection
 }

@@ -4,18 +4,10 @@ use Rattle.row_groups.specs.Groups.{reply_rows}
 use Rattle.components_text.proofs.Laws.{component-none, component-put}
 use Rattle.components_text.proofs.put_component.Goals as goal
 
-pub has_rows-requires : goal.has_rows-requires
-has_rows-requires c =
-    omega (arith, c.d.invariant.documented.checked.sizes.c_max, rw (← c.d.view_is) at c.requires)
-
 pub returns-then-not-has_rows : goal.returns-then-not-has_rows
 returns-then-not-has_rows c =
     let d = c.args.d.now in
     component-none d.model d.names (reply_rows d.reply) c.args.c c.has_rows.ensures c.if-not-has_rows.true (omega arith)
-
-pub put_groups-requires : goal.put_groups-requires
-put_groups-requires c =
-    omega (arith, c.d.invariant.documented.checked.sizes.c_max, rw (← c.d.view_is) at c.requires)
 
 pub returns : goal.returns
 returns c =

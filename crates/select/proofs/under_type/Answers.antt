@@ -16,5 +16,5 @@ with_if-set-requires c =
 pub loop-i-preserved : goal.loop-i-preserved
 loop-i-preserved c =
     let a = c.args in
-    under_more a.model.now.words a.model.now.names.now a.t.now _ _ _ _ _ c.loop-i.invariant
-    c.component_word-word.ensures c.joins.ensures c.with_if-set.ensures
+    under_more a.model.now.words a.model.now.names.now a.t.now _ _ _ _ _ c.loop-i.invariant refl
+    c.joins.ensures c.with_if-set.ensures

@@ -1,8 +1,13 @@
--- The mark says it.
-use Rattle.row_groups.proofs.Laws.{number-small}
+-- The mark says it; behind the marks there is no component.
+use borrow.Author.Rules.{rules}
+use native.Mathlib.Omega.{arith}
+use Rattle.row_groups.proofs.Laws.{number-small, marks-tell}
 use Rattle.row_groups.proofs.Document.is_marked.Goals as goal
 
 pub returns : goal.returns
 returns c =
-    rw (← c.self.view_is, c.mark_of.ensures.0)
-    (c.self.invariant.marked.at c.args.c _ c.requires (number-small c.args.g))
+    let i = c.self.invariant in
+    let found = c.get.ensures.lookup in
+    rw (← c.self.view_is)
+    (marks-tell _ _ _ i.documented.checked i.documented.accepted i.marked c.args.c _ (number-small c.args.g) _ _ _
+    found.0 (found.4 (omega arith)) c.is_some_and.ensures (λ x h. search rules))
