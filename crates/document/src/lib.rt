@@ -58,12 +58,13 @@ fn put_streams(d: &Document<'_>, out: &mut Output)
         out.new }
 {
     if d.reply.rows() == 0 {
-        return out.put_bytes(b"<Streams/>\n");
+        out.put_bytes(b"<Streams/>\n");
+    } else {
+        out.put_bytes(b"<Streams>\n");
+        put_device(&d.model, out);
+        put_components(d, out);
+        out.put_bytes(b"</DeviceStream>\n</Streams>\n");
     }
-    out.put_bytes(b"<Streams>\n");
-    put_device(&d.model, out);
-    put_components(d, out);
-    out.put_bytes(b"</DeviceStream>\n</Streams>\n");
 }
 
 // The document's first two lines.

@@ -11,11 +11,11 @@ returns-then-rows-eq0 c =
     let k = c.rows.ensures.0 ∙ ap (λ (s : Source). get_or s.reply 0 0) c.d.view_is in
     put_is (none-text _ _ c.args.d.now.reply _ k c.if-rows-eq0.true) c.put_bytes.ensures
 
-pub returns : goal.returns
-returns c =
+pub returns-else-rows-eq0 : goal.returns-else-rows-eq0
+returns-else-rows-eq0 c =
     let k = c.rows.ensures.0 ∙ ap (λ (s : Source). get_or s.reply 0 0) c.d.view_is in
     let m = ap (λ (s : Source). s.model) c.d.view_is in
     let n = ap (λ (s : Source). s.names) c.d.view_is in
     put_is (some-text _ _ c.args.d.now.reply _ k c.if-rows-eq0.false)
-    (put-append c.put_bytes-2.ensures
-    (put-append (rw (m, n) at c.put_device.ensures) (put-append c.put_components.ensures c.put_bytes-3.ensures)))
+    (put-append c.put_bytes-else-rows-eq0.ensures
+    (put-append (rw (m, n) at c.put_device.ensures) (put-append c.put_components.ensures c.put_bytes-else-rows-eq0-2.ensures)))
