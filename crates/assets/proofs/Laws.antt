@@ -4,14 +4,14 @@ use mathlib.Core.Path.{◌≡◌, refl, sym, ap, ◌∙◌}
 use mathlib.Core.Bool.{Bool, true, false, ◌&&◌, not, cond, false≢true}
 use mathlib.Core.List.{List, [], ◌∷◌, ◌++◌}
 use native.Mathlib.Omega.{arith}
-use borrow.Author.Tests.{le-leb, leb-true, ltb-true, lt-ltb, le-ltb, eq-eqb, ne_eqb}
+use borrow.Author.Tests.{leb-true, ltb-true, lt-ltb, le-ltb, eq-eqb, ne_eqb}
 use Rattle.spec.proofs.Found.{found-is, found-not}
-use lib.Dec.{leb, ltb, eqb}
+use lib.Dec.{leb, ltb}
 use lib.ListN.{length, set, take, drop, replicate, length-drop}
 use Rattle.std.proofs.lemmas.List.{drop-replicate}
 use lib.Seq.{drop-drop, take_all, length-take-le}
 use Rattle.spec.specs.Bytes.{same}
-use Rattle.spec.specs.Assets.{max_assets, id_bytes, cell_bytes, asset_bytes, max_body, capacity, used, ids_at}
+use Rattle.spec.specs.Assets.{id_bytes, cell_bytes, asset_bytes, max_body, capacity, used, ids_at}
 use Rattle.spec.specs.Assets.{bodies_at}
 use Rattle.spec.specs.Assets.{store_bytes}
 use Rattle.spec.specs.Assets.{AssetHead, asset_head_ok, start_assets, id_ok, length_ok, cell, id_cell, body_cell, find}
@@ -30,13 +30,6 @@ use Rattle.std.specs.Int.{to_be_bytes}
 use Rattle.std.proofs.Common.{w16}
 use Rattle.spec.specs.Words.{first_where}
 use Rattle.spec.proofs.Words.{and_left, and_right, not_so}
-
--- the last test decides
-pub head-last : (bs : List ℕ) (a : ℕ) → a ≡ capacity bs → 1 ≤ a → a ≤ max_assets → used bs ≤ a → (n : ℕ)
-    → n ≡ store_bytes a
-    → eqb (length bs) n ≡ asset_head_ok bs
-unfolding asset_head_ok
-head-last bs a e b c d n f = rw (f, ← e, le-leb _ _ b, le-leb _ _ c, le-leb _ _ d)
 
 -- ---- start
 

@@ -71,7 +71,7 @@ pub fn asset_ok(id: &[u8], body: &[u8]) -> bool
 }
 
 // The assets of a store with a right head, or refusal Store. Why no trait has this: model::checked.
-pub fn checked<'a>(bs: &'a [u8]) -> Result<Assets<'a>, Refusal>
+pub fn checked(bs: &[u8]) -> Result<Assets<'_>, Refusal>
     ensures { MatchResult result
         (λ s. (s ≡ bs.entry.now) × (spec.asset_head_ok bs.entry.now ≡ true))
         (λ r. (r ≡ Refused) × (spec.asset_head_ok bs.entry.now ≡ false)) }
@@ -82,7 +82,8 @@ pub fn checked<'a>(bs: &'a [u8]) -> Result<Assets<'a>, Refusal>
     Ok(Assets::of(bs))
 }
 
-// The part of the store that is the asset's body; nothing on any fault or missing id.
+// The part of the store that is the asset's body; nothing on any fault or missing id. No Range: the C interface hands
+// out a start and a length.
 pub fn body_place(bs: &[u8], id: &[u8]) -> Option<Span>
     ensures value { result ≡ spec.body_place bs.now id.now }
     ensures place_fits { PlaceFits bs.now result }
@@ -90,7 +91,8 @@ pub fn body_place(bs: &[u8], id: &[u8]) -> Option<Span>
     checked(bs).ok()?.body_place(id)
 }
 
-// An empty store of a cells.
+// An empty store of a cells. Their number fits a byte, and so do the counts below, and a body's length fits two: a
+// conversion that may fail would refuse what never comes.
 pub fn start(bs: &mut [u8], a: u64)
     requires le_a { (1 ≤ a) × (a ≤ max_assets) }
     requires bs_len { length bs.old ≡ spec.store_bytes a }

@@ -61,7 +61,7 @@ impl<'a> Assets<'a> {
         let mut key = [0u8; ID_BYTES];
         key[..id.len()].copy_from_slice(id);
         let (ids, _) = bytes[IDS_AT..].as_chunks::<ID_BYTES>();
-        // not by `used`: read in place, the byte costs the callers less
+        // a byte as it stands, where `used` gives a number to be cast back
         let used = usize::from(bytes[USED_AT]);
         ids[..used]
             .iter()
@@ -92,6 +92,7 @@ impl<'a> Assets<'a> {
         ensures value { result ≡ spec.body_place self.now id.now }
         ensures place_fits { PlaceFits self.now result }
     {
+        // behind it the head is known
         let _ = &self.bytes;
         let i = self.find(id)?;
         let n = self.length_at(i);

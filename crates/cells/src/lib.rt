@@ -50,6 +50,7 @@ fn renew_at(bs: &mut [u8], at: usize, w: usize, moved: usize, head: &[u8], s: &[
 // Of n cells of w bytes from b on, cell `out` is given up, those behind it move down whole, and the last one becomes
 // `head` and `s`, zero padded to its end. A width in the type is no plainer: as_chunks_mut asks that it isn't 0, and
 // tells nothing of what the bytes end as.
+#[tactic(auto, using(crate::proofs::Laws::places))]
 pub fn renew_cells(bs: &mut [u8], w: usize, b: usize, out: usize, n: usize, head: &[u8], s: &[u8])
     requires out_lt_n { out < n }
     requires w_in_bounds { b + n * w ≤ length bs.old }

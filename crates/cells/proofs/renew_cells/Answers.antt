@@ -7,24 +7,6 @@ use Rattle.spec.specs.Bytes.{pad}
 use Rattle.cells.proofs.Laws.{places, renew-is, padded-length}
 use Rattle.cells.proofs.renew_cells.Goals as goal
 
-pub overflow_mul-out : goal.overflow_mul-out
-overflow_mul-out c =
-    let z = c.args in
-    let p = places z.w z.out z.n (omega arith) in
-    omega arith
-
-pub overflow_add-b : goal.overflow_add-b
-overflow_add-b c =
-    let z = c.args in
-    let p = places z.w z.out z.n (omega arith) in
-    omega arith
-
-pub overflow_mul-n : goal.overflow_mul-n
-overflow_mul-n c =
-    let z = c.args in
-    let p = places z.w z.out z.n (omega arith) in
-    omega arith
-
 pub renew_at-requires : goal.renew_at-requires
 renew_at-requires c =
     let z = c.args in
