@@ -28,11 +28,11 @@ const ITEM_COMPONENTS: u64 = 256;
 
 const ITEM_CATEGORY: u64 = ITEM_NAMES * ITEM_COMPONENTS;
 
-// The categories: 0 sample, 1 event, 2 condition, 3 asset change, 4 discrete event. Numbers and no enum, since a word
-// that the C interface brings may have any number there.
+// The category beside spec's SAMPLE, EVENT, CONDITION and DISCRETE. Numbers and no enum, since a word that the C
+// interface brings may have any number there.
 const ASSET_CHANGE: u64 = 3;
 
-const MAX_CATEGORY: u64 = 4;
+const MAX_CATEGORY: u64 = spec::DISCRETE;
 
 // The parts of a word by its number: a type would hold no fact, since the model's check is what bounds them.
 
