@@ -77,7 +77,7 @@ module _ {rows : List (List ℕ)} {any j : ℕ} (o : Ored rows any j) (eight : l
 
 -- ---- one entry
 
-none-used : (rs : List (List ℕ)) → each_row zero_row rs ≡ true → used_rows rs ≡ []
+pub none-used : (rs : List (List ℕ)) → each_row zero_row rs ≡ true → used_rows rs ≡ []
 unfolding each_row used_rows
 none-used [] z = refl
 none-used (r ∷ rs) z = rw (and_left (eqb (get_or r 0 0) 0) _ (and_left (zero_row r) _ z))

@@ -1,6 +1,7 @@
 // An item's eight entries in a table of the store, to be read.
 ghost use Rattle.std.specs.Prelude.{◌≡◌, [], ◌∷◌, ◌*◌, ◌<◌, List, ℕ, length, get_or};
 ghost use Rattle.spec.specs.Blocks.{table_rows};
+ghost use Rattle.observations.specs.Rows.{words_of};
 ghost use Rattle.entries.specs.Forms.{EightRows};
 
 use observations::Table;
@@ -57,7 +58,7 @@ impl<'a> Entries<'a> {
     // Entry j.
     pub fn row(&self, j: u64) -> Row
         requires { j < 8 }
-        ensures { get_or self.now j [] ≡ result.number ∷ result.time ∷ result.packed ∷ [] }
+        ensures { get_or self.now j [] ≡ words_of result }
     {
         observations::row_at(self.words, self.table, self.top + j)
     }

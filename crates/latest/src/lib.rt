@@ -40,16 +40,15 @@ fn write_entries(entries: &Entries<'_>, done: u64, k: u64, out: &mut [u64]) -> u
 {
     // a number of turns that the compiler doesn't know keeps it from writing the loop out eight times
     let most = entries.len().min(k - done);
-    let mut c = done;
     for j in 0..most {
         let row = entries.row(j);
+        let c = done + j;
         if row.number == 0 {
             return c;
         }
         rows::write_row(out, c, k + 2 * c, row);
-        c += 1;
     }
-    c
+    done + most
 }
 
 // The first of an item's entries as it stands, used or not, where `done` of the k rows are written.

@@ -9,6 +9,7 @@ ghost use Rattle.history.specs.Observations.{latest_at, checkpoint_at, store_wor
 ghost use Rattle.history.specs.Observations.{head_ok, Head, blank};
 ghost use Rattle.history.specs.Calls.{first};
 ghost use Rattle.observations.specs.Ring.{ring_time, ring_word};
+ghost use Rattle.observations.specs.Rows.{words_of};
 
 mod modelled;
 mod store;
@@ -195,7 +196,7 @@ pub fn ring_row(st: &[u64], n: u64, p: u64, number: u64) -> Row
 #[tactic(auto, unfolding(spec::specs::Words::row))]
 pub fn row_at(st: &[u64], table: Table, k: u64) -> Row
     requires { (k < table.rows) × (table.at + 3 * table.rows ≤ length st.now) }
-    ensures { row st.now table.at table.rows k 3 ≡ result.number ∷ result.time ∷ result.packed ∷ [] }
+    ensures { row st.now table.at table.rows k 3 ≡ words_of result }
 {
     let Table { at, rows } = table;
     Row {
@@ -221,7 +222,7 @@ pub fn put_ring(st: &mut [u64], n: u64, p: u64, time: u64, word: u64)
 #[tactic(auto, unfolding(spec::specs::Words::put))]
 pub fn put_row(st: &mut [u64], table: Table, k: u64, row: Row)
     requires { (k < table.rows) × (table.at + 3 * table.rows ≤ length st.old) }
-    ensures { st.new ≡ put st.old table.at table.rows k (row.number ∷ row.time ∷ row.packed ∷ []) }
+    ensures { st.new ≡ put st.old table.at table.rows k (words_of row) }
 {
     let Table { at, rows } = table;
     st[(at + k) as usize] = row.number;

@@ -4,11 +4,12 @@ ghost use Rattle.std.specs.Prelude.{MatchResult};
 ghost use Rattle.spec.specs.declared.Refusal.TheVariants.{Store as Refused};
 ghost use Rattle.spec.specs.Model.{max_items, items};
 ghost use Rattle.history.specs.Observations.{max_ring, max_number, ring_size, item_count, base, last};
-ghost use Rattle.history.specs.Observations.{latest_at, checkpoint_at, item_row, place, head_ok, Head};
+ghost use Rattle.history.specs.Observations.{latest_at, checkpoint_at, item_row, place, numbered, head_ok, Head};
 ghost use Rattle.spec.specs.Words.{row};
 ghost use Rattle.history.specs.Calls.{first};
 ghost use Rattle.observations.specs.Headed.{Headed};
 ghost use Rattle.observations.specs.Ring.{ring_word};
+ghost use Rattle.observations.specs.Rows.{words_of};
 
 use super::{ITEM_COUNT_AT, RING_AT, Row, Table, head_ok};
 use model::Words;
@@ -105,6 +106,14 @@ impl<'a> Store<'a> {
         super::place(self.ring_size(), self.base(), s)
     }
 
+    // The row of number s, at its place in the ring.
+    pub fn ring_row(&self, s: u64) -> Row
+        requires { base self.now ≤ s }
+        ensures { numbered (ring_size self.now) (base self.now) self.now s ≡ words_of result }
+    {
+        super::ring_row(self.words, self.ring_size(), self.place(s), s)
+    }
+
     // The packed words of k entries of the ring, from place p on.
     pub fn ring_words(&self, p: u64, k: u64) -> &'a [u64]
         requires { p + k ≤ ring_size self.now }
@@ -144,8 +153,7 @@ impl<'a> Store<'a> {
     pub fn checkpoint_row(&self, item: u64, j: u64) -> Row
         requires { (item < item_count self.now) × (j < 8) }
         ensures { let t = checkpoint_at (ring_size self.now) (item_count self.now) in
-            row self.now t (8 * item_count self.now) (8 * item + j) 3
-            ≡ result.number ∷ result.time ∷ result.packed ∷ [] }
+            row self.now t (8 * item_count self.now) (8 * item + j) 3 ≡ words_of result }
     {
         let checkpoint = self.checkpoint();
         super::row_at(self.words, checkpoint, spec::ENTRIES * item + j)

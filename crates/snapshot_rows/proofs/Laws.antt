@@ -14,11 +14,9 @@ use lib.Seq.{drop-cons, take_all}
 use borrow.Author.Tests.{lt-ltb, le-ltb, ltb-false, eqb-false}
 use Rattle.spec.specs.Words.{bit, row}
 use Rattle.spec.specs.Blocks.{flat_rows}
-use Rattle.history.specs.Observations.{ring_size, base, place, checkpoint_at}
+use Rattle.history.specs.Observations.{ring_size, base, numbered, checkpoint_at}
 use Rattle.spec.proofs.Words.{by-test}
-use Rattle.observations.specs.Ring.{ring_time, ring_word}
 use Rattle.marks.specs.Marks.{place_in}
-use Rattle.rows.proofs.Laws.{numbered_is}
 use Rattle.snapshot_rows.specs.Held.{row_of, used_places, item_places, marked_rows, held_by, held_count}
 
 -- ---- one item's
@@ -133,11 +131,8 @@ module _ (m : ℕ) (st : List ℕ) (f i p : ℕ) where
       → row st t (8 * m) (8 * i + (p - 1)) 3 ≡ r → row_of m st f i p ≡ r
   row-table et h e = rw (lt-ltb p 9 h, ← et) e
 
-  pub row-ring : {n b q u w x : ℕ} → 9 ≤ p → x ≡ f + (p - 9) → n ≡ ring_size st → b ≡ base st → q ≡ place n b x
-      → u ≡ ring_time st n q → w ≡ ring_word st n q → row_of m st f i p ≡ x ∷ u ∷ w ∷ []
-  row-ring {n} {b} {q} {u} {w} {x} h ex hn hb e hu hw =
-      let g : q ≡ place (ring_size st) (base st) x = rw (hn, hb) at e in
-      rw (le-ltb p 9 h, ← ex, hu, hw, hn) (numbered_is st x q g)
+  pub row-ring : {r : List ℕ} → 9 ≤ p → numbered (ring_size st) (base st) st (f + (p - 9)) ≡ r → row_of m st f i p ≡ r
+  row-ring h e = rw (le-ltb p 9 h) e
 
 -- ---- an item's rows, where its used marks are those of u, from the j-th on
 

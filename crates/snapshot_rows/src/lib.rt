@@ -6,6 +6,7 @@ ghost use Rattle.std.specs.Prelude.{◌≡◌, ℕ, [], ◌∷◌, suc, ◌+◌,
 ghost use Rattle.spec.specs.Model.{max_items};
 ghost use Rattle.history.specs.Observations.{item_count, base, last};
 ghost use Rattle.marks.specs.Marks.{place_in};
+ghost use Rattle.observations.specs.Rows.{words_of};
 ghost use Rattle.rows.specs.Rows.{rows_at, rows_into};
 ghost use Rattle.snapshot_rows.specs.Held.{row_of, used_places, eight_rows, held_by, held_count};
 
@@ -52,15 +53,14 @@ fn row_of(st: &Store<'_>, f: u64, i: u64, place: u64) -> Row
     requires i_lt_items { i < item_count st.now }
     requires st_bound { (base st.now ≤ f) × (f ≤ suc (last st.now)) }
     requires le_place { (1 ≤ place) × (place < 2 ^ 32) }
-    ensures { row_of (item_count st.now) st.now f i place ≡ result.number ∷ result.time ∷ result.packed ∷ [] }
+    ensures { row_of (item_count st.now) st.now f i place ≡ words_of result }
 {
-    let words = st.slice();
+    // behind it the head is known
+    let _ = st.slice();
     if place < FIRST_PLACE {
         return st.checkpoint_row(i, place - 1);
     }
-    let n = st.ring_size();
-    let number = f + (place - FIRST_PLACE);
-    observations::ring_row(words, n, st.place(number), number)
+    st.ring_row(f + (place - FIRST_PLACE))
 }
 
 // The rows of item i's eight marks, where `done` of the k rows are written; how many are written then. No plainer

@@ -20,18 +20,13 @@ use Rattle.marks.proofs.Keys.{key-small, mark-place}
 use Rattle.entries.specs.Forms.{marks_of}
 use Rattle.entries.proofs.Marks.{length-marks, form-zeros, marks-of}
 use Rattle.entries.proofs.Filling.{rows-many}
+use Rattle.entries.proofs.Unused.{none-used}
 use Rattle.snapshot_rows.specs.Held.{row_of}
 use Rattle.snapshots.specs.Snapshots.{begun, forms_ok}
 use Rattle.picks.proofs.Eights.{eight-same, eight-other}
 use Rattle.snapshots.proofs.Held.{no_place, no_mark, row_in, Holding}
 
 -- ---- a condition item's
-
--- rows of zeros are unused
-zero-used : (rs : List (List ℕ)) → each_row zero_row rs ≡ true → used_rows rs ≡ []
-unfolding each_row used_rows
-zero-used [] h = refl
-zero-used (r ∷ rs) h = rw (and_left (eqb (get_or r 0 0) 0) _ (and_left (zero_row r) _ h))
 
 -- the rows behind the used ones are zeros
 abbrev Zeros : List (List ℕ) → Type 0
@@ -48,7 +43,7 @@ zeros-some r rs h t = rw t at h
 
 -- of rows of zeros
 zeros-again : (rs : List (List ℕ)) → each_row zero_row rs ≡ true → Zeros rs
-zeros-again rs h = rw (zero-used rs h) h
+zeros-again rs h = rw (none-used rs h) h
 
 module _ (own : ℕ) where
   first-placed : (place : ℕ) (rs : List (List ℕ)) → 1 ≤ place
@@ -84,7 +79,7 @@ module _ (m : ℕ) (st : List ℕ) (f i : ℕ) where
       by-test (eqb (get_or r 0 0) 0)
       (λ c.
       let z = zeros-none r rs h c in
-      rw c (ap (λ (y : List (List ℕ)). unused ∷ y) (rw (e, zero-used rs z) at
+      rw c (ap (λ (y : List (List ℕ)). unused ∷ y) (rw (e, none-used rs z) at
       (first_rows_lem n (suc j) (omega arith) (rw e (zeros-again rs z))))))
       (λ c.
       let q = mark-place (suc j) (key_of i (packed r)) (key-small i (packed r)) in

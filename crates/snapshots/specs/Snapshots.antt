@@ -1,10 +1,21 @@
 -- The marks of every item before the pass over the ring and behind it.
-use Rattle.std.specs.Prelude.{ℕ, zero, suc, Bool, cond, ◌&&◌, ◌||◌, not, List, eqb, get_or, set}
+use Rattle.std.specs.Prelude.{ℕ, zero, suc, ◌-◌, Bool, cond, ◌&&◌, ◌||◌, not, List, eqb, get_or, set}
 use Rattle.spec.specs.Words.{bit, set_of, every}
 use Rattle.spec.specs.Entries.{form_ok}
-use Rattle.history.specs.Observations.{ring_size, checkpoint_at, item_rows, item_row, is_condition}
+use Rattle.spec.specs.Model.{items, category}
+use Rattle.history.specs.Observations.{ring_size, base, checkpoint_at, item_rows, item_row, is_condition}
+use Rattle.history.specs.Observations.{ring_ok, at_ok, at_rows}
 use Rattle.marks.specs.Marks.{mark_of, eight_of}
 use Rattle.entries.specs.Forms.{marks_of}
+
+-- of a model and a store with the numbers from f up to e: whether ring, checkpoints and entries are right, and the rows
+abbrev pub at_right : List ℕ → List ℕ → ℕ → ℕ → ℕ → Bool
+at_right model st selection f e =
+    ring_ok (ring_size st) (items model) (base st) st (e - f) f
+    && at_ok (category model) (ring_size st) (items model) (base st) st selection (e - f) f
+
+abbrev pub at_held : List ℕ → List ℕ → ℕ → ℕ → ℕ → List (List ℕ)
+at_held model st selection f e = at_rows (category model) (ring_size st) (items model) (base st) st selection (e - f) f
 
 -- the selected condition items
 abbrev pub steps_of : (ℕ → ℕ) → ℕ → ℕ → ℕ

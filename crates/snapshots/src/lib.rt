@@ -8,10 +8,9 @@ ghost use Rattle.std.specs.Prelude.{get_or, replicate};
 ghost use Rattle.spec.specs.Model.{max_items, items, category};
 ghost use Rattle.spec.specs.Entries.{form_ok};
 ghost use Rattle.history.specs.Observations.{ring_size, item_count, base, checkpoint_at, item_rows, item_row};
-ghost use Rattle.history.specs.Observations.{ring_ok, at_ok, at_rows};
 ghost use Rattle.entries.specs.Forms.{marks_of};
 ghost use Rattle.snapshot_rows.specs.Held.{held_by};
-ghost use Rattle.snapshots.specs.Snapshots.{steps_of, begun, forms_ok, plain_place, settled};
+ghost use Rattle.snapshots.specs.Snapshots.{at_right, at_held, steps_of, begun, forms_ok, plain_place, settled};
 
 use entries::Entries;
 use marks::Marks;
@@ -93,17 +92,11 @@ fn settle(st: &Store<'_>, selection: u64, steps: u64, seen: &[u64; ITEM_SLOTS], 
 pub fn hold(source: Modelled<'_>, selection: u64, f: u64, e: u64, marks: &mut Marks) -> Option<()>
     requires st_bound { let st = source.store.now in (base st ≤ f) × ((f ≤ e) × (e - f ≤ ring_size st)) }
     requires marks_value { marks.old ≡ replicate max_items (replicate 8 0) }
-    ensures result_value { let st = source.entry.store.now in
-        let m = items source.entry.model.now in
-        let cat = category source.entry.model.now in
-        is_some result
-        ≡ (ring_ok (ring_size st) m (base st) st (e - f) f
-        && at_ok cat (ring_size st) m (base st) st selection (e - f) f) }
+    ensures result_value { is_some result ≡ at_right source.entry.model.now source.entry.store.now selection f e }
     ensures fact { is_some result ≡ true →
+        let model = source.entry.model.now in
         let st = source.entry.store.now in
-        let m = items source.entry.model.now in
-        let cat = category source.entry.model.now in
-        held_by m st f marks.new selection ≡ at_rows cat (ring_size st) m (base st) st selection (e - f) f }
+        held_by (items model) st f marks.new selection ≡ at_held model st selection f e }
 {
     let st = source.store;
     // behind it the head is known

@@ -6,6 +6,7 @@ ghost use Rattle.std.specs.Prelude.{◌≡◌, true, [], ◌∷◌, ◌++◌, �
 ghost use Rattle.spec.specs.Blocks.{table_rows, put_rows, padded};
 ghost use Rattle.spec.specs.Entries.{used_rows, step, form_ok};
 ghost use Rattle.changes.specs.Changes.{changed, ChangeFits};
+ghost use Rattle.observations.specs.Rows.{words_of};
 ghost use Rattle.entries.specs.Forms.{EightRows};
 ghost use Rattle.stepping.specs.Taking.{takes_one};
 
@@ -42,7 +43,7 @@ pub fn step(st: &mut [u64], table: Table, k: u64, own: u64, row: Row)
     requires table { EightRows table.rows table.at k (length st.old) }
     requires own_bound { (own < 2 ^ 24) × (form_ok own 0 (table_rows st.old table.at table.rows 8 k) ≡ true) }
     ensures { let es = used_rows (table_rows st.old table.at table.rows 8 k) in
-        let new = padded 8 (step own es (row.number ∷ row.time ∷ row.packed ∷ [])) in
+        let new = padded 8 (step own es (words_of row)) in
         st.new ≡ put_rows st.old table.at table.rows k new }
 {
     let Some(filled) = entries::fill(&Entries::from_row(st, table, k), own) else {

@@ -10,8 +10,5 @@ returns-then-place-lt-FIRST_PLACE c =
 
 pub returns : goal.returns
 returns c =
-    let w = c.slice-words.ensures.value in
     row-ring (item_count c.args.st.now) c.args.st.now c.args.f c.args.i c.args.place c.if-place-lt-FIRST_PLACE.false
-    c.ring_row.ensures.number c.ring_size-n.ensures.is refl
-    (rw (c.ring_size-n.ensures.is, c.ring_row.ensures.number) c.place.ensures.is) (rw w at c.ring_row.ensures.time)
-    (rw w at c.ring_row.ensures.packed)
+    c.ring_row.ensures
