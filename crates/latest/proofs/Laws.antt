@@ -31,7 +31,7 @@ use Rattle.rows.specs.Rows.{rows_at, rows_into}
 use Rattle.rows.proofs.Writing.{rows_more}
 use Rattle.rows.proofs.Flat.{Left, left-start, FlatWriting, flat_start, flat-room, flat-more, flat-skip, flat-end, flat-same}
 use Rattle.rows.proofs.Laws.{count-is, broken-is}
-use Rattle.latest.specs.Latest.{extra_in, first_row, first_rows}
+use Rattle.latest.specs.Latest.{extra_in}
 
 -- ---- an item's rows, one after another
 
@@ -321,91 +321,3 @@ module _ {cat : ℕ → ℕ} {m : ℕ} {st : List ℕ} {selection k : ℕ} {o l 
           let r : b ≡ rows_at l c (k + 2 * c) (latest_rows cat (ring_size st) m st i) =
           rw (plain_rows_lem st m i ew et cat e) eb in
           record { put = rw one at (flat-more v.put h s r) }
-
--- ---- one row of each
-
--- c of the k rows are written: the first entries of the selected items below i
-pub record Firsts (m : ℕ) (st : List ℕ) (selection k : ℕ) (o l : List ℕ) (c i : ℕ) : Type 0 where
-  pub put : FlatWriting (bit selection) (first_row st m) m k o l c i
-
-pub firsts-start : (m : ℕ) (st : List ℕ) (selection k : ℕ) (o : List ℕ) → k ≡ length (first_rows st m selection)
-    → Firsts m st selection k o o 0 0
-unfolding first_rows
-firsts-start m st selection k o e = record { put = flat_start _ _ m k o e }
-
-module _ {m : ℕ} {st : List ℕ} {selection k : ℕ} {o l : List ℕ} {c i : ℕ} (v : Firsts m st selection k o l c i) where
-  pub firsts-end : m ≤ i → l ≡ rows_into o k (first_rows st m selection)
-  unfolding first_rows
-  firsts-end h = flat-end v.put h
-
-  pub firsts-out : i < m → bit selection i ≡ false → Firsts m st selection k o l c (i + 1)
-  firsts-out h s = record { put = flat-skip v.put h s }
-
-  module _ (h : i < m) (s : bit selection i ≡ true) where
-    pub firsts-room : c < k
-    firsts-room = omega (arith, flat-room v.put h s)
-
-    pub firsts_more : {w t : ℕ} → w ≡ 8 * m → t ≡ latest_at (ring_size st) → {b : List ℕ}
-        → b ≡ rows_at l c (k + 2 * c) (table_rows st t w 1 (8 * i)) → Firsts m st selection k o b (c + 1) (i + 1)
-    unfolding table_rows
-    firsts_more ew et eb = record { put = flat-more v.put h s (rw (et, ew) at eb) }
-
--- where each selected item has one row, it is its first entry
-used-one : (r : List ℕ) (rs : List (List ℕ)) → length (used_rows (r ∷ rs)) ≡ 1 → used_rows (r ∷ rs) ≡ r ∷ []
-unfolding used_rows
-used-one r rs e =
-    by-test (eqb (get_or r 0 0) 0)
-    (λ t. absurd (let z : ◌≡◌ {A = ℕ} 0 1 = rw t at e in omega arith))
-    (λ t. rw t (ap (λ (x : List (List ℕ)). r ∷ x) (nil_from_length (used_rows rs) (let z = rw t at e in omega arith))))
-
-used-first : (st : List ℕ) (t w x : ℕ) → length (used_rows (table_rows st t w 8 x)) ≡ 1
-    → used_rows (table_rows st t w 8 x) ≡ row st t w x 3 ∷ []
-unfolding table_rows
-used-first st t w x e = used-one _ _ e
-
-extra-at : (p : ℕ → Bool) (v : ℕ → List (List ℕ)) (n s : ℕ) → extra_rows p v n s ≡ 0 → (i : ℕ) → s ≤ i → i < s + n
-    → p i ≡ true → length (v i) ≤ 1
-unfolding extra_rows
-extra-at p v zero s e i h g t = absurd (omega arith)
-extra-at p v (suc n) s e i h g t =
-    by-test (eqb i s)
-    (λ b. let z = rw (← eqb-true i s b, t) at e in omega arith)
-    (λ b.
-    let q = eqb-false i s b in
-    let z : s ≢ i = (λ y. q (sym y)) in
-    extra-at p v n (suc s) (omega arith) i (omega arith) (omega arith) t)
-
-module _ (cat : ℕ → ℕ) (m : ℕ) (st : List ℕ) (selection : ℕ)
-    (ok : current_ok cat (ring_size st) m st selection ≡ true) where
-  first_alone : (i : ℕ) → i < m → bit selection i ≡ true → length (latest_rows cat (ring_size st) m st i) ≤ 1
-      → latest_rows cat (ring_size st) m st i ≡ first_row st m i
-  unfolding current_ok form_ok
-  first_alone i h b l =
-      by-test (is_condition cat i)
-      (λ c.
-      let f = and_left (leb 1 (length (used_rows (item_rows st (latest_at (ring_size st)) m i)))) _
-      (rw (b, c) at (every-at _ m 0 i ok (omega arith) (omega arith))) in
-      let g : 1 ≤ length (used_rows (item_rows st (latest_at (ring_size st)) m i)) = leb-true 1 _ f in
-      let u : length (used_rows (item_rows st (latest_at (ring_size st)) m i)) ≤ 1 = rw c at l in
-      rw c (used-first st (latest_at (ring_size st)) (8 * m) (8 * i) (omega (arith, g, u))))
-      (λ c. rw c)
-
-  all_first : {k : ℕ} → selection < 2 ^ m → k ≡ length (current_rows cat (ring_size st) m st selection)
-      → k ≡ ones selection → current_rows cat (ring_size st) m st selection ≡ first_rows st m selection
-  unfolding current_rows first_rows
-  all_first h e o =
-      let v : ℕ → List ℕ = λ i. [] in
-      let z : all_extra cat m st selection ≡ 0 =
-      omega (arith, rows-ones selection v m h, current-count cat (ring_size st) m st selection v ok) in
-      flat-same (bit selection) (latest_rows cat (ring_size st) m st) (first_row st m) m 0
-      (λ i l g b.
-      first_alone i (omega arith) b (extra-at (bit selection) (latest_rows cat (ring_size st) m st) m 0 z i l g b))
-
-  module _ {k a : ℕ} (h : selection < 2 ^ m) (e : k ≡ length (current_rows cat (ring_size st) m st selection))
-      (o : k ≡ ones selection) (ea : a ≡ m) where
-    pub first_count : k ≡ length (first_rows st a selection)
-    first_count = rw (ea, ← all_first h e o) e
-
-    pub first-all : {b : List ℕ} (l : List ℕ) → b ≡ rows_into l k (first_rows st a selection)
-        → b ≡ rows_into l k (current_rows cat (ring_size st) m st selection)
-    first-all l eb = rw (all_first h e o, ← ea) eb

@@ -11,20 +11,9 @@ extra_in cat m st selection =
     let N = ring_size st in
     cond (current_ok cat N m st selection) (Some (extra_rows (bit selection) (latest_rows cat N m st) m 0)) None
 
--- the first latest entry of an item, and those of the selected items
-abbrev pub first_row : List ℕ → ℕ → ℕ → List (List ℕ)
-first_row st m i = item_row st (latest_at (ring_size st)) m i ∷ []
-
-unfoldable pub first_rows : List ℕ → ℕ → ℕ → List (List ℕ)
-first_rows st m selection = flat_rows (bit selection) (first_row st m) m 0
-
--- the selected items' latest entries, of a model and a store; whether they are in their written form; and the rows
--- beyond one for each
+-- the selected items' latest entries, of a model and a store, and the rows beyond one for each
 abbrev pub latest_in : List ℕ → List ℕ → ℕ → List (List ℕ)
 latest_in model st selection = current_rows (category model) (ring_size st) (items model) st selection
-
-abbrev pub latest_ok : List ℕ → List ℕ → ℕ → Bool
-latest_ok model st selection = current_ok (category model) (ring_size st) (items model) st selection
 
 abbrev pub latest_extra : List ℕ → List ℕ → ℕ → Option ℕ
 latest_extra model st selection = extra_in (category model) (items model) st selection

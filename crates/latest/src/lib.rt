@@ -3,13 +3,11 @@
 
 ghost use Rattle.std.specs.Prelude.{◌≡◌, true, [], ◌∷◌, ◌+◌, ◌*◌, ◌^◌, ◌≤◌, ◌<◌, length, get_or};
 ghost use Rattle.spec.specs.Entries.{used_rows};
-ghost use Rattle.spec.specs.Model.{items};
-ghost use Rattle.history.specs.Observations.{item_count};
 ghost use Rattle.rows.specs.Rows.{rows_at, rows_into};
-ghost use Rattle.latest.specs.Latest.{first_rows, latest_in, latest_ok, latest_extra};
+ghost use Rattle.latest.specs.Latest.{latest_in, latest_extra};
 
 use entries::Entries;
-use observations::{Modelled, Store};
+use observations::Modelled;
 
 // How many rows the selected condition items have beyond the first of each; None where the entries of one are not in
 // their written form, or none is used.
@@ -59,25 +57,8 @@ fn write_first(entries: &Entries<'_>, done: u64, k: u64, out: &mut [u64])
     rows::write_row(out, done, k + 2 * done, entries.row(0));
 }
 
-// The first entry of each selected item, where these are the k rows.
-fn write_firsts(st: &Store<'_>, selection: u64, k: u64, out: &mut [u64])
-    requires k_value { (k ≡ length (first_rows st.now (item_count st.now) selection)) × (3 * k ≤ length out.old) }
-    ensures { out.new ≡ rows_into out.old k (first_rows st.now (item_count st.now) selection) }
-{
-    let words = st.slice();
-    let m = st.items();
-    let latest = st.latest();
-    let mut c: u64 = 0;
-    for i in 0..m {
-        if selection::has(selection, i) {
-            write_first(&Entries::of(words, latest, i), c, k, out);
-            c += 1;
-        }
-    }
-}
-
-// The rows of the selected items' latest entries, which are k: of each as many as it has.
-fn write_each(source: Modelled<'_>, selection: u64, k: u64, out: &mut [u64])
+// Current: the rows of the selected items' latest entries, which are k: of each as many as it has.
+pub fn write_latest(source: Modelled<'_>, selection: u64, k: u64, out: &mut [u64])
     requires k_value { k ≡ length (latest_in source.model.now source.store.now selection) }
     requires k_in_bounds { 3 * k ≤ length out.old }
     ensures { out.new ≡ rows_into out.old k (latest_in source.entry.model.now source.entry.store.now selection) }
@@ -96,21 +77,5 @@ fn write_each(source: Modelled<'_>, selection: u64, k: u64, out: &mut [u64])
                 c += 1;
             }
         }
-    }
-}
-
-// Current: the rows of the selected items' latest entries, which are k. Most often there is one to an item, whatever
-// its category.
-pub fn write_latest(source: Modelled<'_>, selection: u64, k: u64, out: &mut [u64])
-    requires fact { (selection < 2 ^ items source.model.now)
-        × (latest_ok source.model.now source.store.now selection ≡ true) }
-    requires k_value { k ≡ length (latest_in source.model.now source.store.now selection) }
-    requires k_in_bounds { 3 * k ≤ length out.old }
-    ensures { out.new ≡ rows_into out.old k (latest_in source.entry.model.now source.entry.store.now selection) }
-{
-    if k == selection::count(selection) {
-        write_firsts(source.store, selection, k, out);
-    } else {
-        write_each(source, selection, k, out);
     }
 }

@@ -3,7 +3,7 @@ use mathlib.Core.Path.{ap, ◌∙◌}
 use native.Mathlib.Omega.{arith}
 use Rattle.spec.specs.Model.{category}
 use Rattle.std.specs.Prelude.{is_ok}
-use Rattle.latest.proofs.Laws.{extra-few, extra-ok}
+use Rattle.latest.proofs.Laws.{extra-few}
 use Rattle.reply.proofs.Laws.{behind, lends, both, some-of, refused, none-refused}
 use Rattle.observation_reply.proofs.Laws.{current-broken, current-many, current-short, current-whole}
 use Rattle.observation_reply.proofs.reply_current.Goals as goal
@@ -44,7 +44,6 @@ pub write_latest-requires : goal.write_latest-requires
 write_latest-requires c =
     let n = some-of c.extra.result _ c.ok_or.ensures.value c.in_ok-extra.was ∙ c.extra.ensures in
     record {
-      fact = (c.requires.selection_bound, extra-ok (category c.args.source.model.now) _ _ _ n);
       k_value = current-many _ _ c.args.source.store.now c.args.selection c.args.reply.now n c.requires.selection_bound
           c.count.ensures.0;
       k_in_bounds = lends c.fit_sizes.ensures.fitted (ap is_ok c.in_ok-fit_sizes.was) _ (omega arith);

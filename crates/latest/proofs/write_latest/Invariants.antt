@@ -1,7 +1,7 @@
 -- The invariant: the first c rows, those of the selected items below i, are written.
 use Rattle.spec.specs.Model.{items, category}
 use Rattle.latest.proofs.Laws.{Written}
-use Rattle.latest.proofs.write_each.Given as goal
+use Rattle.latest.proofs.write_latest.Given as goal
 
 abbrev pub invariant-loop-i : goal.invariant-loop-i
 invariant-loop-i l =
