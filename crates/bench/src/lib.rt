@@ -13,7 +13,7 @@ const STORE_WORDS: usize = 106;
 const STORE_BYTES: usize = 546;
 
 // The words of a reply's buffer.
-const REPLY_WORDS: usize = 64;
+pub const REPLY_WORDS: usize = 64;
 
 // Two components and two items.
 fn model() -> [u32; 6]
@@ -42,25 +42,14 @@ fn prepare(model: &[u32], names: &[u8], observations: &mut [u64], assets: &mut [
     ensures assets_after { assets.new ≡ bench_stores.assets }
 {
     let _ = agent::start(model, names, observations, assets, 3, 1, 1, 1000);
-    let _ = agent::observe(
-        model,
-        names,
-        observations,
-        1,
-        1010,
-        1010,
-        Value::Sample(5000),
-    );
-    let _ = agent::observe(
-        model,
-        names,
-        observations,
-        1,
-        1020,
-        1020,
-        Value::Sample(5000),
-    );
-    let _ = agent::observe(model, names, observations, 1, 0, 1030, Value::Sample(-1));
+    let observes = [
+        (1010, 1010, Value::Sample(5000)),
+        (1020, 1020, Value::Sample(5000)),
+        (0, 1030, Value::Sample(-1)),
+    ];
+    for (time, host, value) in observes {
+        let _ = agent::observe(model, names, observations, 1, time, host, value);
+    }
 }
 
 // The words of a reply of k rows, whose fourth word is 0 only in an asset reply.
