@@ -1,5 +1,6 @@
 // A table of the store takes an observation, and the entry that a number overwrites goes to its item's checkpoint.
-// The store's numbers go beside it, since no type holds them and a `&mut` of its words: recording.
+// Between two writes what the head said goes beside the store, as n, b, s and p: why no type holds both stands at
+// recording's head.
 #![tactic(auto)]
 
 ghost use Rattle.std.specs.Prelude.{◌≡◌, [], ◌∷◌, ◌<◌};

@@ -4,9 +4,9 @@
 
 ghost use Rattle.std.specs.Prelude.{◌≡◌, ◌<◌, true};
 ghost use Rattle.spec.specs.Model.{items, category};
-ghost use Rattle.history.specs.Observations.{Head, ring_size, latest_ok};
-ghost use Rattle.history.specs.Calls.{room_for, observe_by};
-ghost use Rattle.short_way.specs.Found.{found, observed_by, NewIfPlain};
+ghost use Rattle.history.specs.Observations.{Head};
+ghost use Rattle.plain.specs.Short.{formed_in};
+ghost use Rattle.short_way.specs.Found.{found_in, observed_in, recorded_in, NewIfPlain};
 
 use entries::Entries;
 use judging::Judged;
@@ -24,12 +24,8 @@ fn record(
 ) -> ObserveAnswer
     requires head { Head (items model.now) observations.old }
     requires item_bound { item < items model.now }
-    requires item_value { let st = observations.old in
-        latest_ok (category model.now) (ring_size st) (items model.now) st item ≡ true }
-    ensures { let st = observations.old in
-        let cat = category model.now in
-        let m = items model.now in
-        let x = observe_by (room_for cat m st) cat m st item time word in
+    requires item_value { formed_in model.now observations.old item ≡ true }
+    ensures { let x = recorded_in model.now observations.old item time word in
         (result ≡ x.answer) × (observations.new ≡ x.observations) }
 {
     let before = Store::of_model(model, observations);
@@ -43,12 +39,9 @@ fn record(
 // What is found in an item's latest, of a packed word that is known to be new where the item has no conditions.
 fn judge_latest(source: Modelled<'_>, item: u64, word: u64) -> Result<Judged, Refusal>
     requires item_bound { item < items source.model.now }
-    requires new_if_plain { let model = source.model.now in
-        let st = source.store.now in
-        NewIfPlain (category model item) (found (category model) (ring_size st) (items model) st item word) }
-    ensures { let model = source.entry.model.now in
-        let st = source.entry.store.now in
-        result ≡ found (category model) (ring_size st) (items model) st item word }
+    requires new_if_plain { let is = found_in source.model.now source.store.now item word in
+        NewIfPlain (category source.model.now item) is }
+    ensures { result ≡ found_in source.entry.model.now source.entry.store.now item word }
 {
     if source.model.category(item) != spec::CONDITION {
         return Ok(Judged::New);
@@ -68,11 +61,8 @@ pub fn observe_long(
 ) -> ObserveAnswer
     requires head { Head (items model.now) observations.old }
     requires item_bound { item < items model.now }
-    requires new_if_plain { let st = observations.old in
-        let is = found (category model.now) (ring_size st) (items model.now) st item word in
-        NewIfPlain (category model.now item) is }
-    ensures { let of = category model.now in
-        let x = observed_by of (items model.now) observations.old item time word in
+    requires new_if_plain { NewIfPlain (category model.now item) (found_in model.now observations.old item word) }
+    ensures { let x = observed_in model.now observations.old item time word in
         (result ≡ x.answer) × (observations.new ≡ x.observations) }
 {
     let before = Store::of_model(model, observations);

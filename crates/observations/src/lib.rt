@@ -4,10 +4,9 @@
 ghost use Rattle.std.specs.Prelude.{◌≡◌, [], ◌∷◌, ◌+◌, ◌*◌, ◌≤◌, ◌<◌, length, set};
 ghost use Rattle.spec.specs.Words.{row, put};
 ghost use Rattle.spec.specs.Model.{max_items};
-ghost use Rattle.history.specs.Observations.{max_ring, max_number, ring_size, base, last, last_at, ring_at};
-ghost use Rattle.history.specs.Observations.{latest_at, checkpoint_at, store_words, place};
-ghost use Rattle.history.specs.Observations.{head_ok, Head, blank};
-ghost use Rattle.history.specs.Calls.{first};
+ghost use Rattle.history.specs.Observations.{max_ring, last_at, ring_at, latest_at};
+ghost use Rattle.history.specs.Observations.{checkpoint_at, store_words, place};
+ghost use Rattle.history.specs.Observations.{head_ok, blank};
 ghost use Rattle.observations.specs.Ring.{ring_time, ring_word};
 ghost use Rattle.observations.specs.Rows.{words_of};
 
@@ -89,36 +88,6 @@ pub fn checkpoint_table(n: u64, m: u64) -> Table
     }
 }
 
-// What the head says, over words: those who write a store hold them alone, and their clause is Head. No type holds it
-// there: a struct around a `&mut` needs a clause in each function that the reference is still the same. `Store`'s
-// methods are these.
-
-// How many observations the ring holds at most.
-pub fn ring_size(st: &[u64], m: u64) -> u64
-    requires { Head m st.now }
-    ensures is { result ≡ ring_size st.now }
-    ensures bounds { (1 ≤ result) × (result ≤ max_ring) }
-{
-    st[RING_SIZE_AT]
-}
-
-// The first number.
-pub fn base(st: &[u64], m: u64) -> u64
-    requires { Head m st.now }
-    ensures { result ≡ base st.now }
-{
-    st[BASE_AT]
-}
-
-// The newest number.
-pub fn last(st: &[u64], m: u64) -> u64
-    requires { Head m st.now }
-    ensures is { result ≡ last st.now }
-    ensures high { result ≤ max_number }
-{
-    st[LAST_AT]
-}
-
 // Whether the head and the length are right for m items.
 #[tactic(auto, unfolding(history::specs::Observations::head_ok))]
 pub fn head_ok(st: &[u64], m: u64) -> bool
@@ -135,19 +104,6 @@ pub fn head_ok(st: &[u64], m: u64) -> bool
         && last <= spec::MAX_NUMBER
         && b + m <= last + 1
         && st.len() as u64 == words_for(n, m)
-}
-
-// The lowest number that the ring holds.
-pub fn first(st: &[u64], m: u64) -> u64
-    requires { Head m st.now }
-    ensures is { result ≡ first st.now }
-    ensures low { base st.now ≤ result }
-    ensures high { result ≤ last st.now + 1 }
-{
-    let n = ring_size(st, m);
-    let b = base(st, m);
-    let next = last(st, m) + 1;
-    b.max(next.saturating_sub(n))
 }
 
 // The ring place of number s, for a ring of n entries and the first number b.

@@ -11,7 +11,7 @@ ghost use Rattle.observations.specs.Headed.{Headed};
 ghost use Rattle.observations.specs.Ring.{ring_word};
 ghost use Rattle.observations.specs.Rows.{words_of};
 
-use super::{ITEM_COUNT_AT, RING_AT, Row, Table, head_ok};
+use super::{BASE_AT, ITEM_COUNT_AT, LAST_AT, RING_AT, RING_SIZE_AT, Row, Table, head_ok};
 use model::Words;
 use spec::Refusal;
 use std::marker::Model;
@@ -70,14 +70,14 @@ impl<'a> Store<'a> {
         ensures is { result ≡ ring_size self.now }
         ensures bounds { (1 ≤ result) × (result ≤ max_ring) }
     {
-        super::ring_size(self.words, self.items())
+        self.words[RING_SIZE_AT]
     }
 
     // The first number.
     pub fn base(&self) -> u64
         ensures { result ≡ base self.now }
     {
-        super::base(self.words, self.items())
+        self.words[BASE_AT]
     }
 
     // The newest number.
@@ -85,7 +85,7 @@ impl<'a> Store<'a> {
         ensures is { result ≡ last self.now }
         ensures high { result ≤ max_number }
     {
-        super::last(self.words, self.items())
+        self.words[LAST_AT]
     }
 
     // The lowest number that the ring holds.
@@ -94,7 +94,8 @@ impl<'a> Store<'a> {
         ensures low { base self.now ≤ result }
         ensures high { result ≤ last self.now + 1 }
     {
-        super::first(self.words, self.items())
+        let next = self.words[LAST_AT] + 1;
+        self.base().max(next.saturating_sub(self.ring_size()))
     }
 
     // The ring place of number s.

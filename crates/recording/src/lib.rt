@@ -1,14 +1,14 @@
 // Numbers given to observations: whether one is left, and adding with eviction. plain has the short way of both, and
 // says why.
-// What is read of the head before a write goes beside the store, as n, b, s and p: observations says why no type holds
-// it, and a struct of the numbers alone would need a clause for each that it is the store's.
+// What only reads takes a Store or a Modelled. Between two writes what the head said goes beside the store, as n, b, s
+// and p: a struct around the `&mut` would need a clause in each function that the reference is still the same, and one
+// of the numbers alone a clause for each that it is the store's.
 #![tactic(auto)]
 
 ghost use Rattle.std.specs.Prelude.{◌≡◌, true, suc, ◌<◌, Ok};
 ghost use Rattle.spec.specs.Model.{items, category};
-ghost use Rattle.history.specs.Observations.{Head, ring_size, last, latest_at, add, latest_ok};
-ghost use Rattle.history.specs.Calls.{room_for, added};
-ghost use Rattle.plain.specs.Short.{overwritable};
+ghost use Rattle.history.specs.Observations.{Head, ring_size, last, latest_at, add};
+ghost use Rattle.plain.specs.Short.{overwritable, room_in, added_in, formed_in};
 ghost use Rattle.evicting.specs.Writing.{Overwriting, InTable};
 
 use entries::Entries;
@@ -35,8 +35,7 @@ fn may_overwrite(source: Modelled<'_>, word: u64) -> bool
 
 // Whether a number is left, and the entry that it overwrites, if any, may go to its item's checkpoint.
 pub fn room_for(source: Modelled<'_>) -> Result<(), Refusal>
-    ensures { let model = source.entry.model.now in
-        result ≡ room_for (category model) (items model) source.entry.store.now }
+    ensures { result ≡ room_in source.entry.model.now source.entry.store.now }
 {
     let words = source.store.slice();
     let n = source.store.ring_size();
@@ -72,12 +71,11 @@ fn write(model: &Words<'_>, st: &mut [u64], n: u64, b: u64, item: u64, row: Row)
 // One observation more, as last + 1, which is answered: a row without its number, which isn't known before.
 pub fn add(model: &Words<'_>, st: &mut [u64], item: u64, time: u64, word: u64) -> u64
     requires head { Head (items model.now) st.old }
-    requires st_value { room_for (category model.now) (items model.now) st.old ≡ Ok tt }
+    requires st_value { room_in model.now st.old ≡ Ok tt }
     requires item_bound { item < items model.now }
-    requires item_value { latest_ok (category model.now) (ring_size st.old) (items model.now) st.old item ≡ true }
+    requires item_value { formed_in model.now st.old item ≡ true }
     ensures value { result ≡ suc (last st.old) }
-    ensures st_after { st.new
-        ≡ added (category model.now) (items model.now) st.old item time word }
+    ensures st_after { st.new ≡ added_in model.now st.old item time word }
 {
     let before = Store::of_model(model, st);
     let n = before.ring_size();

@@ -6,7 +6,7 @@ ghost use Rattle.std.specs.Prelude.{◌≡◌, ◌<◌, get_or};
 ghost use Rattle.spec.specs.Value.{repeats};
 ghost use Rattle.spec.specs.Model.{items, category};
 ghost use Rattle.history.specs.Observations.{Head, ring_size, latest_at, item_row};
-ghost use Rattle.short_way.specs.Found.{found, observed_by, Shortened};
+ghost use Rattle.short_way.specs.Found.{found_in, observed_in, Shortened};
 
 use model::Words;
 use observations::{Modelled, Store};
@@ -24,7 +24,8 @@ fn repeats(source: Modelled<'_>, item: u64, word: u64) -> bool
 }
 
 // The short way: a value of an item without conditions that takes it, whose one latest word decides. None, and nothing
-// is changed, where there is more to it.
+// is changed, where there is more to it. Item, time and word stand apart: an addition needs the three by themselves,
+// and a clause of who hands them on would name each all the same.
 pub fn observe_short(
     model: &Words<'_>,
     observations: &mut [u64],
@@ -35,10 +36,9 @@ pub fn observe_short(
     requires head { Head (items model.now) observations.old }
     requires item_bound { item < items model.now }
     ensures { let st = observations.old in
-        let of = category model.now in
-        let m = items model.now in
-        let is = found of (ring_size st) m st item word in
-        Shortened result (of item) is (observed_by of m st item time word) st observations.new }
+        let is = found_in model.now st item word in
+        let x = observed_in model.now st item time word in
+        Shortened result (category model.now item) is x st observations.new }
 {
     if model.category(item) == spec::CONDITION {
         return None;

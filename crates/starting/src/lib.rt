@@ -4,8 +4,8 @@
 ghost use Rattle.std.specs.Prelude.{◌≡◌, ◌≤◌, length};
 ghost use Rattle.spec.specs.Model.{max_items, items, category};
 ghost use Rattle.history.specs.Observations.{store_words, start_store};
-ghost use Rattle.history.specs.Calls.{start_ok, start_both};
-ghost use Rattle.starting.specs.Start.{Starting};
+ghost use Rattle.history.specs.Calls.{start_ok};
+ghost use Rattle.starting.specs.Start.{Starting, started_by};
 
 use model::Words;
 use spec::{Answer, MAX_ASSETS, MAX_NUMBER, MAX_RING, Refusal, Row, Value};
@@ -60,9 +60,7 @@ pub fn start_both(
     b: u64,
     host: u64,
 ) -> Answer
-    ensures { let m = items model.now in
-        let cat = category model.now in
-        let x = start_both cat m observations.old assets.old n a b host in
+    ensures { let x = started_by model.now observations.old assets.old n a b host in
         (result ≡ x.answer) × (observations.new ≡ x.observations) × (assets.new ≡ x.assets) }
 {
     let m = model.items();
