@@ -3,7 +3,7 @@
 #![tactic(auto)]
 
 ghost use Rattle.std.specs.Prelude.{◌≡◌, true, ◌<◌};
-ghost use Rattle.spec.specs.Model.{max_items, items, category, change_item};
+ghost use Rattle.spec.specs.Model.{items, category, change_item};
 ghost use Rattle.history.specs.Observations.{Head};
 ghost use Rattle.spec.specs.Assets.{AssetHead, asset_ok};
 ghost use Rattle.history.specs.Calls.{room_for, keep_by, keep_asset};
@@ -27,12 +27,13 @@ fn keep_changed(
     requires asset_head { AssetHead assets.old }
     requires body_value { asset_ok id.now body.now ≡ true }
     requires change_value { (change ≡ change_item model.now) × (change < items model.now) }
-    requires change_low { change < max_items }
     ensures { let st = observations.old in
         let room = room_for (category model.now) (items model.now) st in
         let x = keep_by room model.now st assets.old id.now body.now host in
         (result ≡ x.answer) × (observations.new ≡ x.observations) × (assets.new ≡ x.assets) }
 {
+    // behind it the sizes are known
+    let _ = model.slice();
     let before = Store::of_model(model, observations);
     recording::room_for(Modelled {
         model: &*model,

@@ -1,5 +1,4 @@
 -- The tests decide, and behind them the stage answers.
-use native.Mathlib.Omega.{arith}
 use mathlib.Core.Path.{refl, ap}
 use Rattle.history.specs.Calls.{keep_asset}
 use Rattle.std.specs.Prelude.{Ok}
@@ -31,7 +30,6 @@ keep_changed-requires c =
       asset_head = c.requires.asset_head;
       body_value = ok;
       change_value = f;
-      change_low = omega (arith, f.1, c.in-Some.ensures.1);
     }
 
 pub returns : goal.returns

@@ -7,6 +7,10 @@ use Rattle.spec.proofs.Words.{told}
 use Rattle.storing.proofs.Laws.{cell_below, change-latest, event-added}
 use Rattle.storing.proofs.keep_changed.Goals as goal
 
+pub pack-word-requires : goal.pack-word-requires
+pack-word-requires c =
+    omega (arith, c.slice.ensures.sizes.m_max, c.requires.change_value.1)
+
 pub store-cell-requires : goal.store-cell-requires
 store-cell-requires c =
     record { asset_head = c.requires.asset_head; body_value = c.requires.body_value }
