@@ -7,6 +7,9 @@ ghost use Rattle.std.specs.Prelude.{◌≤◌, length, IfOk};
 use std::io;
 use std::io::Read;
 
+// One byte more than a request may have, so that a longer line is noticed.
+const LINE_BYTES: usize = asking::LONGEST_TEXT + 1;
+
 // The next byte of the line; a line feed ends the line as the end of the input does.
 fn next_byte<R: Read>(input: &mut R) -> io::Result<Option<u8>> {
     let next = input.by_ref().bytes().next().transpose()?;
@@ -26,49 +29,30 @@ fn read_line<R: Read>(input: &mut R, line: &mut [u8]) -> io::Result<usize>
     Ok(line.len())
 }
 
-fn space(rt: &impl Print) -> io::Result<()> {
-    print!(rt; " ")
-}
-
-fn line_feed(rt: &impl Print) -> io::Result<()> {
-    println!(rt; "")
-}
-
 // The words on a line.
 fn print_words(rt: &impl Print, words: &[u64]) -> io::Result<()> {
-    for (i, word) in words.iter().enumerate() {
-        if 0 < i {
-            space(rt)?;
+    if let Some((first, others)) = words.split_first() {
+        print!(rt; "{first}")?;
+        for word in others {
+            print!(rt; " {word}")?;
         }
-        print!(rt; "{word}")?;
     }
-    line_feed(rt)
-}
-
-// The answer's number and k on a line.
-fn print_answer(rt: &impl Print, number: u64, k: u64) -> io::Result<()> {
-    print!(rt; "{number}")?;
-    space(rt)?;
-    print!(rt; "{k}")?;
-    line_feed(rt)
+    println!(rt; "")
 }
 
 // Asks the bench case, and prints the answer and the reply.
 fn answer(rt: &impl Print, text: &[u8]) -> io::Result<()> {
-    let mut reply = [0u64; 64];
+    let mut reply = [0u64; bench::REPLY_WORDS];
     let answer = bench::ask(text, &mut reply);
-    print_answer(
-        rt,
-        answers::answer_number(answer),
-        answers::answer_count(answer),
-    )?;
+    let number = answers::answer_number(answer);
+    let k = answers::answer_count(answer);
+    println!(rt; "{number} {k}")?;
     let n = bench::word_count(answer, &reply);
     print_words(rt, &reply[..n])
 }
 
 fn main(rt: HostRuntime) -> io::Result<()> {
-    // one byte more than a request may have, so that a longer line is noticed
-    let mut line = [0u8; 257];
+    let mut line = [0u8; LINE_BYTES];
     let n = read_line(&mut rt.reader(), &mut line)?;
     answer(&rt, &line[..n])
 }
