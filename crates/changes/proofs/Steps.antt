@@ -8,8 +8,7 @@ use lib.Dec.{leb, ltb, eqb}
 use lib.ListN.{length, get_or, set, length-append, length-drop, length-set}
 use lib.Seq.{set_out, length-take-le}
 use Rattle.std.proofs.lemmas.List.{map-set}
-use borrow.Author.Tests.{leb-true, leb-false, eqb-true, eqb-false, le-ltb, le-leb, lt-leb}
-use borrow.Author.Tests.{not-true, not-false}
+use borrow.Author.Tests.{leb-true, leb-false, eqb-true, eqb-false, le-ltb, le-leb}
 use Rattle.spec.specs.Entries.{active, active_as, normal, code_field, packed, any_entry, has_code, any_active}
 use Rattle.spec.specs.Entries.{entered, cleared, or_alone, step_active, step}
 use Rattle.spec.specs.Blocks.{padded, unused}

@@ -76,6 +76,7 @@ fn is_place(key: u64, mark: u64) -> bool
 }
 
 // The place of the key among marks, from 0 on: that of the first mark with it or, before that, of the first that is 0.
+// Over a slice: it asks nothing of their number, and an array would ask more of callers.
 pub fn find(marks: &[u64], key: u64) -> Option<usize>
     ensures place { result ≡ found_at key marks.now }
     ensures below { IfSome result (λ j. j < length marks.now) }

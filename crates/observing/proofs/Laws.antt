@@ -3,7 +3,6 @@ use Prim.Native.Nat.{ℕ, ◌≤◌, ◌<◌}
 use mathlib.Core.Path.{◌≡◌, refl}
 use mathlib.Core.Bool.{Bool, true, false, cond}
 use mathlib.Core.List.{List}
-use native.Mathlib.Omega.{arith}
 use borrow.Author.Tests.{lt-ltb, le-ltb}
 use Rattle.spec.specs.Model.{items, category}
 use Rattle.spec.specs.Value.{takes, pack}
@@ -13,30 +12,31 @@ use Rattle.spec.specs.declared.Value.{Value}
 use Rattle.spec.specs.declared.Refusal.TheVariants.{Item, Kind}
 use Rattle.spec.proofs.Words.{told, by-test}
 use Rattle.std.specs.Prelude.{Some, None}
+use Rattle.std.specs.Bool.{then_some}
 use Rattle.short_way.specs.Found.{found, observed_by}
 use Rattle.observing.specs.Taken.{taken}
 
 -- ---- the ways out
 
-module _ (model st : List ℕ) (item time : ℕ) (v : Value) (m : ℕ) (em : m ≡ items model) where
-  pub item_refused : m ≤ item → observe_item model st item time v ≡ not_observed Item st
+module _ (model st : List ℕ) (item time : ℕ) (v : Value) where
+  pub item_refused : items model ≤ item → observe_item model st item time v ≡ not_observed Item st
   unfolding observe_item
-  item_refused h = rw (← em, le-ltb _ _ h)
+  item_refused h = rw (le-ltb _ _ h)
 
-  module _ (h : item < m) (k : ℕ) (ek : k ≡ category model item) {t : Bool} (et : t ≡ takes k v) where
+  module _ (h : item < items model) (k : ℕ) (ek : k ≡ category model item) {t : Bool} (et : t ≡ takes k v) where
     kind-told : {b : Bool} → t ≡ b → takes (category model item) v ≡ b
     kind-told f = rw (← ek) (told et f)
 
     pub kind-refused : t ≡ false → observe_item model st item time v ≡ not_observed Kind st
     unfolding observe_item
-    kind-refused f = rw (← em, lt-ltb _ _ h, kind-told f)
+    kind-refused f = rw (lt-ltb _ _ h, kind-told f)
 
     -- behind the two, what is found decides
     pub passed : t ≡ true → (w : ℕ) → w ≡ pack item v
         → observe_item model st item time v ≡ observed_by (category model) (items model) st item time w
     unfolding observe_item observed_by found
     passed f w ew =
-        rw (ew, lt-ltb item (items model) (omega (arith, em)), kind-told f)
+        rw (ew, lt-ltb item (items model) h, kind-told f)
         (by-test (latest_ok (category model) (ring_size st) (items model) st item)
         (λ a.
         by-test (repeats_at (category model) (ring_size st) (items model) st item (pack item v))
@@ -50,13 +50,13 @@ module _ (model st : List ℕ) (item time : ℕ) (v : Value) (m : ℕ) (em : m �
 -- ---- a value by what is made of it
 
 module _ (k item : ℕ) (v : Value) where
-  pub not_taken : takes k v ≡ false → None ≡ taken k item v
+  pub taken-is : {b : Bool} {w : ℕ} → b ≡ takes k v → w ≡ pack item v → then_some b w ≡ taken k item v
   unfolding taken
-  not_taken f = rw f
-
-  pub taken_is : takes k v ≡ true → {w : ℕ} → w ≡ pack item v → Some w ≡ taken k item v
-  unfolding taken
-  taken_is f e = rw (f, e)
+  taken-is e q = rw (e, q) (some-by (takes k v))
+    where
+      some-by : (b : Bool) → then_some b (pack item v) ≡ cond b (Some (pack item v)) None
+      some-by true = refl
+      some-by false = refl
 
   pub taken-none : None ≡ taken k item v → takes k v ≡ false
   unfolding taken

@@ -25,10 +25,7 @@ fn taken(category: u64, item: u64, value: Value) -> Option<u64>
     requires { item < 2 ^ 24 }
     ensures { result ≡ taken category item value }
 {
-    if !value::takes(category, value) {
-        return None;
-    }
-    Some(value::pack(item, value))
+    value::takes(category, value).then_some(value::pack(item, value))
 }
 
 // An observation of an item: refused, Same where it repeats the item's latest, or recorded. Item, time and value stand
@@ -44,10 +41,7 @@ pub fn observe_item(
     ensures { let x = observe_item model.now observations.old item time value in
         (result ≡ x.answer) × (observations.new ≡ x.observations) }
 {
-    if model.items() <= item {
-        return Err(Refusal::Item);
-    }
-    let category = model.category(item);
+    let category = model.category_at(item).ok_or(Refusal::Item)?;
     let word = taken(category, item, value).ok_or(Refusal::Kind)?;
     match observe_short(model, observations, item, time, word) {
         Some(noted) => Ok(noted),

@@ -13,7 +13,7 @@ use element::put_element;
 use figures::put_value;
 use spec::{Level, Row, Value};
 use streams::Group;
-use value::{decode, item_of};
+use value::{decode, item_of, word_of};
 use writer::Output;
 
 // dataItemId, sequence, timestamp.
@@ -35,7 +35,7 @@ fn put_text_row(out: &mut Output, t: &[u8], row: &Row)
     put_element(out, t);
     put_attributes(out, row);
     out.put_byte(b'>');
-    put_value(out, decode(row.packed % value::ITEM));
+    put_value(out, decode(word_of(row.packed)));
     out.put_bytes(b"</");
     put_element(out, t);
     out.put_bytes(b">\n");
@@ -69,7 +69,7 @@ fn put_condition_row(out: &mut Output, t: &[u8], row: &Row)
         (condition_line t.now (shown row.now) ++ 10 ∷ [])
         out.new }
 {
-    let v = decode(row.packed % value::ITEM);
+    let v = decode(word_of(row.packed));
     out.put_byte(b'<');
     put_state(out, v);
     put_attributes(out, row);

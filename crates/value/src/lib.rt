@@ -1,7 +1,7 @@
 // The value of an observation: which an item takes, its packed word, and back.
 #![tactic(auto)]
 
-ghost use Rattle.std.specs.Prelude.{◌≡◌, ◌+◌, ◌*◌, ◌<◌, ◌^◌};
+ghost use Rattle.std.specs.Prelude.{◌≡◌, ◌%◌, ◌<◌, ◌^◌};
 ghost use Rattle.spec.specs.Value.{low_word, level_number, value_word, pack, item_of, native_ok, takes};
 ghost use Rattle.spec.specs.Value.{decode_kind, decode};
 
@@ -27,12 +27,12 @@ pub const EVENT_KIND: u64 = 2;
 pub const CONDITION_KIND: u64 = 3;
 
 // The highest level, a Fault's.
-pub const TOP_LEVEL: u64 = 2;
+pub const TOP_LEVEL: u64 = Level::Fault as u64;
 
 // The kind and the level of a condition in one number, in units of the level.
 pub const NORMAL: u64 = CONDITION_KIND * (KIND / LEVEL);
 
-pub const WARNING: u64 = NORMAL + 1;
+pub const WARNING: u64 = NORMAL + Level::Warning as u64;
 
 pub const FAULT: u64 = NORMAL + TOP_LEVEL;
 
@@ -83,6 +83,13 @@ pub fn item_of(word: u64) -> u64
     ensures { result ≡ item_of word }
 {
     word / ITEM
+}
+
+// The value's word of a packed word.
+pub fn word_of(word: u64) -> u64
+    ensures { result ≡ word % 2 ^ 40 }
+{
+    word % ITEM
 }
 
 // Whether a condition may have the native code c.

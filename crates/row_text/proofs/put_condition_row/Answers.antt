@@ -5,7 +5,7 @@ use Rattle.row_text.proofs.put_condition_row.Goals as goal
 
 pub returns : goal.returns
 returns c =
-    condition-put _ _ _ c.decode-v.ensures
+    condition-put _ _ _ (rw c.word_of.ensures at c.decode-v.ensures)
     (put-append c.put_byte.ensures
     (put-append c.put_state.ensures
     (put-append c.put_attributes.ensures

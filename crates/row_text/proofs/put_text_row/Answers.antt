@@ -5,7 +5,7 @@ use Rattle.row_text.proofs.put_text_row.Goals as goal
 
 pub returns : goal.returns
 returns c =
-    text-put _ _ _ c.decode.ensures
+    text-put _ _ _ (rw c.word_of.ensures at c.decode.ensures)
     (put-append c.put_byte.ensures
     (put-append c.put_element.ensures
     (put-append c.put_attributes.ensures
