@@ -15,7 +15,7 @@ use Rattle.observing.proofs.Laws.{item_refused, kind-refused}
 -- an item that there isn't
 pub no-item : (model st : List ℕ) (item time : ℕ) (v : Value) → items model ≤ item
     → observe_item model st item time v ≡ not_observed Item st
-no-item model st item time v h = item_refused model st item time v (items model) refl h
+no-item model st item time v h = item_refused model st item time v h
 
 -- a number that is too large for its kind
 pub too-large : (model st : List ℕ) (item time : ℕ) (form : Form) → item < items model
@@ -23,7 +23,7 @@ pub too-large : (model st : List ℕ) (item time : ℕ) (form : Form) → item <
     → observe_item model st item time (value_for (category model item) form) ≡ not_observed Kind st
 too-large model st item time form h e =
     let k = category model item in
-    kind-refused model st item time (value_for k form) (items model) refl h k refl
+    kind-refused model st item time (value_for k form) h k refl
     (sym (ap (takes k) (sym e) ∙ and-false _)) refl
 
 pub ruleset refused = (no-item, too-large)
