@@ -92,7 +92,7 @@ module _ {bs : List ℕ} {ids rest : List (List ℕ)} {cells : List ℕ} (w : Fi
         }
 
 pub finding-last : {bs : List ℕ} {ids rest : List (List ℕ)} {cells : List ℕ}
-    → Finding bs ids rest cells → rest ≡ [] → FoundAll bs ids cells (Ok tt)
+    → Finding bs ids rest cells → rest ≡ [] → FoundAll bs ids cells
 unfolding find_all all_cells
 finding-last {bs} {ids} {rest} {cells} w none = (
   record { few = omega (arith, w.few); below = w.below },

@@ -1,13 +1,13 @@
 // The reply of the assets that a text names, in its order.
 #![tactic(auto)]
 
-ghost use Rattle.std.specs.Prelude.{[], ◌≡◌, true, ◌<◌, ◌≤◌, List, ℕ, length, set, take, MatchResult};
+ghost use Rattle.std.specs.Prelude.{◌≡◌, true, ◌<◌, ◌≤◌, List, ℕ, length, set, take, MatchResult};
 ghost use Rattle.spec.specs.Bytes.{split};
 ghost use Rattle.spec.specs.declared.Refusal.TheVariants.{AssetNotFound};
 ghost use Rattle.spec.specs.Text.{id_texts, longest_text};
 ghost use Rattle.spec.specs.Assets.{used, capacity, find};
 ghost use Rattle.history.specs.Calls.{named_reply};
-ghost use Rattle.named_reply.specs.Cells.{FoundAll};
+ghost use Rattle.named_reply.specs.Cells.{FoundAll, NotAll};
 
 use arrayvec::ArrayVec;
 use assets::Assets;
@@ -24,21 +24,19 @@ fn cell_of(assets: &Assets, id: &[u8]) -> Result<u64, Refusal>
 
 // The cells of the ids joined by ';', in their order, or refusal AssetNotFound by the first that isn't stored. No id is
 // empty, so a text has at most 128.
-fn find_all(
-    assets: &Assets,
-    ids: &[u8],
-    found: &mut ArrayVec<u64, ASSET_SLOTS>,
-) -> Result<(), Refusal>
+fn find_all(assets: &Assets, ids: &[u8]) -> Result<ArrayVec<u64, ASSET_SLOTS>, Refusal>
     requires ids_length { length ids.now ≤ longest_text }
     requires ids_value { id_texts (split 59 ids.now) ≡ true }
-    requires none_found { found.old.items ≡ [] }
-    ensures { FoundAll assets.now (split 59 ids.now) found.new.items result }
+    ensures { MatchResult result
+        (λ found. FoundAll assets.now (split 59 ids.now) found.items)
+        (λ r. (r ≡ AssetNotFound) × NotAll assets.now (split 59 ids.now)) }
 {
+    let mut found = ArrayVec::new();
     for id in ids.split(|x| *x == b';') {
         let cell = cell_of(assets, id)?;
         found.push(cell);
     }
-    Ok(())
+    Ok(found)
 }
 
 // The reply of the assets whose ids the text has, joined by ';': refusal AssetNotFound by any of them, then Store by a
@@ -49,7 +47,6 @@ pub fn reply_named(assets: &Assets, ids: &[u8], reply: &mut [u64]) -> Answer
     ensures { let x = named_reply assets.now (split 59 ids.now) reply.old in
         (result ≡ x.answer) × (reply.new ≡ x.reply) }
 {
-    let mut found = ArrayVec::new();
-    find_all(assets, ids, &mut found)?;
+    let found = find_all(assets, ids)?;
     asset_reply::reply_cells(assets, &found, reply)
 }

@@ -22,7 +22,7 @@ loop-id-init c =
             YieldsList-from_slice_split _ (λ x. eqb x 59) ids (search rules) (search rules) (search rules)
                 (λ x b q k. search (rules, tests)),
             rw (split-is 59 ids)
-                (finding-none _ _ _ c.requires.ids_length c.requires.none_found c.requires.ids_value),
+                (finding-none _ _ _ c.requires.ids_length c.new-found.ensures c.requires.ids_value),
           ),
         ),
       ),

@@ -1,6 +1,6 @@
 -- The rows that the marks hold are written behind the sizes; they are as many as was counted.
 use Prim.Native.Nat.{◌+◌}
-use mathlib.Core.Path.{sym, ap, ◌∙◌}
+use mathlib.Core.Path.{refl, sym, ap, ◌∙◌}
 use Rattle.std.specs.Prelude.{is_ok, is_some}
 use native.Mathlib.Omega.{arith}
 use Rattle.reply.proofs.Laws.{behind, lends, both, some-of, refused, none-refused}
@@ -24,26 +24,26 @@ returns-in_err-ok_or c =
     at-broken _ _ c.args.source.store.now c.args.selection c.args.number _ c.args.reply.now
     c.first-first.ensures.is c.hold.ensures.result_value (sym (ap is_some n)))
 
-pub returns-in_err-fit_sizes : goal.returns-in_err-fit_sizes
-returns-in_err-fit_sizes c =
-    let w = c.in_err-fit_sizes.was in
-    refused _ c.from_residual-in_err-fit_sizes.ensures.1 (c.fit_sizes.ensures.refused _ w)
+pub returns-in_err-fit_rows : goal.returns-in_err-fit_rows
+returns-in_err-fit_rows c =
+    let w = c.in_err-fit_rows.was in
+    refused _ c.from_residual-in_err-fit_rows.ensures.1 (c.fit_rows.ensures.refused _ w)
     (at-short _ _ c.args.source.store.now c.args.selection c.args.number _ c.args.reply.now
     c.first-first.ensures.is c.hold.ensures.result_value (sym (ap is_some (some-of c.hold.result _ c.ok_or.ensures.value c.in_ok-ok_or.was))) c.hold.ensures.fact
-    (held-many (c.items.ensures.0 ∙ c.args.source.agree) _ _ _ _ _ c.count-k.ensures.0) c.last-last.ensures.is
-    c.fit_sizes.ensures.fitted (ap is_ok w))
+    (held-many (c.items.ensures.0 ∙ c.args.source.agree) _ _ _ _ _ c.count-k.ensures.0) refl
+    (rw (← c.first-first.ensures.is, c.last-next.ensures.is) at c.fit_rows.ensures.fitted) (ap is_ok w))
 
 pub slice_bounds-write_held-count : goal.slice_bounds-write_held-count
 slice_bounds-write_held-count c =
-    omega (arith, behind c.fit_sizes.ensures.fitted (ap is_ok c.in_ok-fit_sizes.was))
+    omega (arith, behind c.fit_rows.ensures.fitted (ap is_ok c.in_ok-fit_rows.was))
 
 pub write_held-requires : goal.write_held-requires
 write_held-requires c =
     let k = held-many c.items.ensures.0 c.args.source.store.now _ _ _ _ c.count-k.ensures.0 in
-    let y = (ap is_ok c.in_ok-fit_sizes.was) in
+    let y = (ap is_ok c.in_ok-fit_rows.was) in
     record {
       st_bound = (c.first-first.ensures.low, omega (arith, c.first-first.ensures.high));
-      k_value = (k, lends c.fit_sizes.ensures.fitted y _ (omega arith));
+      k_value = (k, lends c.fit_rows.ensures.fitted y _ (omega arith));
     }
 
 pub returns : goal.returns
@@ -51,5 +51,5 @@ returns c =
     both _
     (at-whole _ _ c.args.source.store.now c.args.selection c.args.number _ c.args.reply.now
     c.first-first.ensures.is c.hold.ensures.result_value (sym (ap is_some (some-of c.hold.result _ c.ok_or.ensures.value c.in_ok-ok_or.was))) c.hold.ensures.fact
-    (held-many (c.items.ensures.0 ∙ c.args.source.agree) _ _ _ _ _ c.count-k.ensures.0) c.last-last.ensures.is
-    c.fit_sizes.ensures.fitted _ (ap is_ok c.in_ok-fit_sizes.was) (rw c.args.source.agree at c.write_held.ensures))
+    (held-many (c.items.ensures.0 ∙ c.args.source.agree) _ _ _ _ _ c.count-k.ensures.0) refl
+    (rw (← c.first-first.ensures.is, c.last-next.ensures.is) at c.fit_rows.ensures.fitted) _ (ap is_ok c.in_ok-fit_rows.was) (rw c.args.source.agree at c.write_held.ensures))

@@ -1,5 +1,5 @@
 -- A row for each of the selected items, and the further ones that were counted, are written behind the sizes.
-use mathlib.Core.Path.{ap, ◌∙◌}
+use mathlib.Core.Path.{refl, ap, ◌∙◌}
 use native.Mathlib.Omega.{arith}
 use Rattle.spec.specs.Model.{category}
 use Rattle.std.specs.Prelude.{is_ok}
@@ -18,27 +18,22 @@ overflow_add-k c =
     let n = some-of c.extra.result _ c.ok_or.ensures.value c.in_ok-extra.was ∙ c.extra.ensures in
     omega (arith, extra-few (category c.args.source.model.now) _ _ _ n c.slice.ensures.sizes.m_max)
 
-pub overflow_mul-k : goal.overflow_mul-k
-overflow_mul-k c =
+pub fit_rows-requires : goal.fit_rows-requires
+fit_rows-requires c =
     let n = some-of c.extra.result _ c.ok_or.ensures.value c.in_ok-extra.was ∙ c.extra.ensures in
     omega (arith, extra-few (category c.args.source.model.now) _ _ _ n c.slice.ensures.sizes.m_max)
 
-pub fit_sizes-requires : goal.fit_sizes-requires
-fit_sizes-requires c =
+pub returns-in_err-fit_rows : goal.returns-in_err-fit_rows
+returns-in_err-fit_rows c =
     let n = some-of c.extra.result _ c.ok_or.ensures.value c.in_ok-extra.was ∙ c.extra.ensures in
-    omega (arith, extra-few (category c.args.source.model.now) _ _ _ n c.slice.ensures.sizes.m_max)
-
-pub returns-in_err-fit_sizes : goal.returns-in_err-fit_sizes
-returns-in_err-fit_sizes c =
-    let n = some-of c.extra.result _ c.ok_or.ensures.value c.in_ok-extra.was ∙ c.extra.ensures in
-    let w = c.in_err-fit_sizes.was in
-    refused _ c.from_residual-in_err-fit_sizes.ensures.1 (c.fit_sizes.ensures.refused _ w)
+    let w = c.in_err-fit_rows.was in
+    refused _ c.from_residual-in_err-fit_rows.ensures.1 (c.fit_rows.ensures.refused _ w)
     (current-short _ _ c.args.source.store.now c.args.selection c.args.reply.now n c.requires.selection_bound
-    c.count.ensures.0 c.first-first.ensures.is c.last-last.ensures.is c.fit_sizes.ensures.fitted (ap is_ok w))
+    c.count.ensures.0 refl refl (rw c.last.ensures.is at c.fit_rows.ensures.fitted) (ap is_ok w))
 
 pub slice_bounds-write_latest-count : goal.slice_bounds-write_latest-count
 slice_bounds-write_latest-count c =
-    omega (arith, behind c.fit_sizes.ensures.fitted (ap is_ok c.in_ok-fit_sizes.was))
+    omega (arith, behind c.fit_rows.ensures.fitted (ap is_ok c.in_ok-fit_rows.was))
 
 pub write_latest-requires : goal.write_latest-requires
 write_latest-requires c =
@@ -46,7 +41,7 @@ write_latest-requires c =
     record {
       k_value = current-many _ _ c.args.source.store.now c.args.selection c.args.reply.now n c.requires.selection_bound
           c.count.ensures.0;
-      k_in_bounds = lends c.fit_sizes.ensures.fitted (ap is_ok c.in_ok-fit_sizes.was) _ (omega arith);
+      k_in_bounds = lends c.fit_rows.ensures.fitted (ap is_ok c.in_ok-fit_rows.was) _ (omega arith);
     }
 
 pub returns : goal.returns
@@ -54,5 +49,5 @@ returns c =
     let n = some-of c.extra.result _ c.ok_or.ensures.value c.in_ok-extra.was ∙ c.extra.ensures in
     both _
     (current-whole _ _ c.args.source.store.now c.args.selection c.args.reply.now n c.requires.selection_bound
-    c.count.ensures.0 c.first-first.ensures.is c.last-last.ensures.is c.fit_sizes.ensures.fitted _
-    (ap is_ok c.in_ok-fit_sizes.was) c.write_latest.ensures)
+    c.count.ensures.0 refl refl (rw c.last.ensures.is at c.fit_rows.ensures.fitted) _
+    (ap is_ok c.in_ok-fit_rows.was) c.write_latest.ensures)

@@ -1,5 +1,5 @@
 -- The rows that were counted are written behind the sizes.
-use mathlib.Core.Path.{ap, ◌∙◌}
+use mathlib.Core.Path.{refl, ap, ◌∙◌}
 use native.Mathlib.Omega.{arith}
 use Rattle.std.specs.Prelude.{is_ok}
 use Rattle.history.specs.Observations.{item_count}
@@ -20,38 +20,33 @@ returns-in_err-k c =
     sample-broken (item_count c.args.st.now) c.args.st.now c.args.selection c.args.f c.args.e
     c.args.reply.now (n ∙ c.count_rows.ensures))
 
-pub overflow_mul-k : goal.overflow_mul-k
-overflow_mul-k c =
+pub fit_rows-requires : goal.fit_rows-requires
+fit_rows-requires c =
     let n = some-of c.count_rows.result _ c.ok_or.ensures.value c.in_ok-k.was ∙ c.count_rows.ensures in
     omega (arith, in-ring-few _ _ _ _ _ c.slice.ensures.head.head c.requires.st_bound.0 c.requires.st_bound.1.1 n)
 
-pub fit_sizes-requires : goal.fit_sizes-requires
-fit_sizes-requires c =
+pub returns-in_err-fit_rows : goal.returns-in_err-fit_rows
+returns-in_err-fit_rows c =
     let n = some-of c.count_rows.result _ c.ok_or.ensures.value c.in_ok-k.was ∙ c.count_rows.ensures in
-    omega (arith, in-ring-few _ _ _ _ _ c.slice.ensures.head.head c.requires.st_bound.0 c.requires.st_bound.1.1 n)
-
-pub returns-in_err-fit_sizes : goal.returns-in_err-fit_sizes
-returns-in_err-fit_sizes c =
-    let n = some-of c.count_rows.result _ c.ok_or.ensures.value c.in_ok-k.was ∙ c.count_rows.ensures in
-    let w = c.in_err-fit_sizes.was in
-    refused _ c.from_residual-in_err-fit_sizes.ensures.1 (c.fit_sizes.ensures.refused _ w)
+    let w = c.in_err-fit_rows.was in
+    refused _ c.from_residual-in_err-fit_rows.ensures.1 (c.fit_rows.ensures.refused _ w)
     (sample-short (item_count c.args.st.now) c.args.st.now c.args.selection c.args.f c.args.e
-    c.args.reply.now n c.first-first.ensures.is c.last-last.ensures.is c.fit_sizes.ensures.fitted (ap is_ok w))
+    c.args.reply.now n refl refl c.fit_rows.ensures.fitted (ap is_ok w))
 
 pub slice_bounds-write_rows-count : goal.slice_bounds-write_rows-count
 slice_bounds-write_rows-count c =
-    omega (arith, behind c.fit_sizes.ensures.fitted (ap is_ok c.in_ok-fit_sizes.was))
+    omega (arith, behind c.fit_rows.ensures.fitted (ap is_ok c.in_ok-fit_rows.was))
 
 pub write_rows-requires : goal.write_rows-requires
 write_rows-requires c =
     let r = in-ring c.args.st.now c.args.f c.args.e c.requires.st_bound.0 c.requires.st_bound.1.1 in
     let g = counted-count (item_count c.args.st.now) c.args.st.now c.args.selection c.args.f c.args.e
     (some-of c.count_rows.result _ c.ok_or.ensures.value c.in_ok-k.was ∙ c.count_rows.ensures) in
-    let y = (ap is_ok c.in_ok-fit_sizes.was) in
+    let y = (ap is_ok c.in_ok-fit_rows.was) in
     record {
       st_bound = (r.0, (c.requires.st_bound.1.0, r.1));
       e_value = g.0;
-      k_value = (g.1, lends c.fit_sizes.ensures.fitted y _ (omega arith));
+      k_value = (g.1, lends c.fit_rows.ensures.fitted y _ (omega arith));
     }
 
 pub returns : goal.returns
@@ -59,5 +54,5 @@ returns c =
     let n = some-of c.count_rows.result _ c.ok_or.ensures.value c.in_ok-k.was ∙ c.count_rows.ensures in
     both _
     (sample-whole (item_count c.args.st.now) c.args.st.now c.args.selection c.args.f c.args.e
-    c.args.reply.now n c.first-first.ensures.is c.last-last.ensures.is c.fit_sizes.ensures.fitted _
-    (ap is_ok c.in_ok-fit_sizes.was) c.write_rows.ensures)
+    c.args.reply.now n refl refl c.fit_rows.ensures.fitted _
+    (ap is_ok c.in_ok-fit_rows.was) c.write_rows.ensures)
