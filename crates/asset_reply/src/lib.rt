@@ -42,7 +42,9 @@ fn write_cells(assets: &Assets, cells: &[u64], out: &mut [u64])
     }
 }
 
-// The reply of the cells: a wrong length (refusal Store) goes before a buffer that is too short (Space).
+// The reply of the cells: a wrong length (refusal Store) goes before a buffer that is too short (Space). Its code stands
+// once for both its calls.
+#[inline(never)]
 pub fn reply_cells(assets: &Assets, cells: &[u64], reply: &mut [u64]) -> Answer
     requires { Cells assets.now cells.now }
     ensures { let x = cells_reply assets.now cells.now reply.old in
