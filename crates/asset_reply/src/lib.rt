@@ -72,6 +72,8 @@ fn newest(used: u64) -> ArrayVec<u64, ASSET_SLOTS>
 }
 
 // The reply of all assets.
+// Its arrays stand on the stack for it alone.
+#[inline(never)]
 pub fn reply_all(assets: &Assets, reply: &mut [u64]) -> Answer
     ensures { let x = cells_reply assets.now (down_from (used assets.now)) reply.old in
         (result ≡ x.answer) × (reply.new ≡ x.reply) }

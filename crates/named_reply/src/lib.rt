@@ -41,6 +41,8 @@ fn find_all(assets: &Assets, ids: &[u8]) -> Result<ArrayVec<u64, ASSET_SLOTS>, R
 
 // The reply of the assets whose ids the text has, joined by ';': refusal AssetNotFound by any of them, then Store by a
 // cell's length.
+// Its arrays stand on the stack for it alone.
+#[inline(never)]
 pub fn reply_named(assets: &Assets, ids: &[u8], reply: &mut [u64]) -> Answer
     requires ids_length { length ids.now ≤ longest_text }
     requires ids_value { id_texts (split 59 ids.now) ≡ true }
