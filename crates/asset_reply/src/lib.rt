@@ -42,8 +42,8 @@ fn write_cells(assets: &Assets, cells: &[u64], out: &mut [u64])
     }
 }
 
-// The reply of the cells: a wrong length (refusal Store) goes before a buffer that is too short (Space). Its code stands
-// once for both its calls.
+// The reply of the cells: a wrong length (refusal Store) goes before a buffer that is too short (Space). Its code
+// stands once for both its calls.
 #[inline(never)]
 pub fn reply_cells(assets: &Assets, cells: &[u64], reply: &mut [u64]) -> Answer
     requires { Cells assets.now cells.now }
