@@ -1,6 +1,7 @@
 -- Discrete events: document 02, Req 02. What such an item takes and in which order it refuses; that behind every list
 -- of calls each of its observations is recorded; and worked calls, equal values at each turn.
-use Prim.Native.Nat.{ℕ, zero, suc, ◌+◌, ◌≤◌, ◌<◌}
+use Prim.Native.Nat.{ℕ, suc, ◌+◌, ◌≤◌, ◌<◌}
+use native.Mathlib.Numerals.{add-one}
 use native.Mathlib.Omega.{arith}
 use mathlib.Core.Path.{◌≡◌, refl, sym, ap, ◌∙◌}
 use mathlib.Core.Bool.{true, cond}
@@ -24,6 +25,8 @@ use Rattle.spec.specs.declared.Value.{Value}
 use Rattle.spec.specs.declared.Value.TheVariants.{Unavailable, Sample, Event, Condition}
 use Rattle.spec.specs.declared.Refusal.TheVariants.{Store, Item, Kind, Spent}
 use Rattle.std.specs.Prelude.{Ok, Err}
+use Rattle.std.specs.List.{AllByRecursion as Each, range_with_len}
+use Rattle.std.proofs.lemmas.List.Elements.{All-replicate, recursion_from_All}
 use Rattle.spec.specs.declared.Noted.TheVariants.{Recorded, Same}
 use Rattle.history.proofs.Recorded.{last_or-append}
 use Rattle.history.proofs.Agree.{observe-agree, store-last}
@@ -64,33 +67,21 @@ unfolding observe_answer
 counted model names p item v m h k g l =
     rw (m, lt-leb _ _ h, k, discrete-takes v, g, ne_eqb (last_of p) max_number (omega arith))
 
--- k numbers from n on
-abbrev rising : ℕ → ℕ → List ℕ
-rising zero n = []
-rising (suc k) n = n ∷ rising k (suc n)
-
--- each offer is to a discrete item, of a value that it takes
-abbrev Discrete : List ℕ → List Offer → Type 0
-Discrete model [] = Unit {0}
-Discrete model (o ∷ os) =
-    (o.item < items model) × (category model o.item ≡ discrete) × (takes 1 o.value ≡ true) × Discrete model os
-
--- one offer again and again
-again : (model : List ℕ) (o : Offer) (k : ℕ) → Discrete model (o ∷ []) → Discrete model (replicate k o)
-again model o zero d = tt
-again model o (suc k) (h, c, g, d) = (h, c, g, again model o k (h, c, g, d))
+-- the offer is to a discrete item, of a value that it takes
+abbrev Discrete : List ℕ → Offer → Type 0
+Discrete model o = (o.item < items model) × (category model o.item ≡ discrete) × (takes 1 o.value ≡ true)
 
 -- so many offers in a row, equal or not, have so many numbers in a row
 pub discrete-all : (model names : List ℕ) → model_ok model names ≡ true → (os : List Offer) (p : State)
-    → Discrete model os → last_of p + length os ≤ max_number
-    → offers_answers model names p os ≡ map (λ (n : ℕ). Ok (Recorded n)) (rising (length os) (suc (last_of p)))
+    → Each (Discrete model) os → last_of p + length os ≤ max_number
+    → offers_answers model names p os ≡ map (λ (n : ℕ). Ok (Recorded n)) (range_with_len (suc (last_of p)) (length os))
 unfolding offers_answers
 discrete-all model names m [] p d l = refl
-discrete-all model names m (o ∷ os) p (h, k, g, d) l =
+discrete-all model names m (o ∷ os) p ((h, k, g), d) l =
     let a = counted model names p o.item o.value m h k g (omega arith) in
     let q = offer_next model names p o in
     let z : last_of q ≡ suc (last_of p) = rw a (last_or-append p.H 0 _) in
-    rw (discrete-all model names m os q d (omega (arith, z)), z, a)
+    rw (discrete-all model names m os q d (omega (arith, z)), z, a, add-one (suc (last_of p)))
 
 -- while a number is left, it goes to the observation, whatever stood before
 pub discrete-recorded : (a : Start) (p : State) → begins a ≡ begun p → (cs : List Call) → AllTyped cs
@@ -231,15 +222,16 @@ pulse = record { item = 0; time = 10; host = 77; value = Event 7 }
 pub discrete-most :
     StoresGive one_model one_name
     (record { observations = 1 ∷ 1 ∷ 1 ∷ 1 ∷ 1000 ∷ 0 ∷ firsts (1 ∷ 1000 ∷ 0 ∷ 0 ∷ 0 ∷ 0 ∷ []); assets = no_assets })
-    (gives-in (replicate 256 (at 0 10 8589934599)) 256 (Ok 256) (rising 256 2)
+    (gives-in (replicate 256 (at 0 10 8589934599)) 256 (Ok 256) (range_with_len 2 256)
     ∷ shows "/sample" (1 ∷ 257 ∷ 257 ∷ 258 ∷ 257 ∷ 10 ∷ 8589934599 ∷ []) ∷ [])
     × (offers_answers one_model one_name one_state (replicate 256 pulse)
-    ≡ map (λ (n : ℕ). Ok (Recorded n)) (rising 256 2))
+    ≡ map (λ (n : ℕ). Ok (Recorded n)) (range_with_len 2 256))
 unfolding opened
 discrete-most = (
   refl,
   discrete-all one_model one_name refl (replicate 256 pulse) one_state
-      (again one_model pulse 256 (omega arith, refl, refl, tt)) (omega arith),
+      (recursion_from_All (Discrete one_model) (replicate 256 pulse)
+      (All-replicate (Discrete one_model) 256 pulse (omega arith, refl, refl))) (omega arith),
 )
 
 -- ---- stores that start did not make
