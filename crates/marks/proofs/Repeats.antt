@@ -1,4 +1,4 @@
--- What eight marks tell of a packed word: Same and 19, as the definitions have them of the entries.
+-- What eight marks tell of a packed word: Same and Crowded, as the definitions have them of the entries.
 use mathlib.Core.Path.{◌≡◌, refl, sym, ap, ◌∙◌}
 use mathlib.Core.Logic.{inl, inr}
 use mathlib.Core.Bool.{true, false, not, true≢false, false≢true, or-false}
@@ -105,7 +105,7 @@ code-active own c (e ∷ es) h =
     (λ a. rw a)
     (λ a. rw a (code-active own c es (rw a at h)))
 
--- ---- Same and 19
+-- ---- Same and Crowded
 
 -- what isn't active is never a ninth
 pub idle-fits : (own : ℕ) (es : List (List ℕ)) (word : ℕ) → active own word ≡ false → crowded own es word ≡ false

@@ -11,6 +11,7 @@ use lib.ListN.{length, get_or, set, take, drop, length-set}
 use lib.Seq.{take-set-le, take-suc-set, drop-cons, length-take-le}
 use borrow.Author.Tests.{lt-ltb, le-ltb, ltb-true, ne_eqb}
 use Rattle.std.specs.Int.{from_bool}
+use Rattle.std.specs.List.{AllByRecursion as Each}
 use Rattle.spec.specs.Words.{bit, every}
 use Rattle.spec.specs.Value.{item_of}
 use Rattle.history.specs.Observations.{ring_size, base, place, ring_ok}
@@ -22,7 +23,7 @@ use Rattle.rows.specs.declared.Run.{Run}
 use Rattle.rows.proofs.Ranges.{run-next}
 use Rattle.rows.proofs.Laws.{word_at, ok_step, one-at-most}
 use Rattle.picks.specs.Pass.{stepped_eight, stepped_at, stepped_ok, fits, word_of, pass_marks, pass_ok, seen_from, Part, Passed}
-use Rattle.picks.specs.Picks.{block, picked, listed, Gathered, Pick, Each, number_at, pick_marks, pick_ok}
+use Rattle.picks.specs.Picks.{block, picked, listed, Gathered, Pick, number_at, pick_marks, pick_ok}
 use Rattle.picks.proofs.Numbers.{seen_step, seen_end, run_at}
 
 -- ---- what is picked

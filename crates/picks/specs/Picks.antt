@@ -37,11 +37,6 @@ pub record Pick (m : ℕ) (st : List ℕ) (f : ℕ) (r : Run) (j : ℕ) : Type 0
   pub near : r.from + j - f < ring_size st
   pub item : item_of (word_of st (r.from + j)) < m
 
--- every one of them has P
-abbrev pub Each : (ℕ → Type 0) → List ℕ → Type 0
-Each P [] = Unit {0}
-Each P (x ∷ xs) = P x × Each P xs
-
 -- the marks behind number s
 abbrev pub number_at : List ℕ → ℕ → ℕ → List (List ℕ) → List (List ℕ)
 number_at st f s l = stepped_at (item_of (word_of st s)) (s - f + 9) (word_of st s) l

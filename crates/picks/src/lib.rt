@@ -5,12 +5,13 @@
 #![tactic(auto)]
 
 ghost use Rattle.std.specs.Prelude.{◌≡◌, true, is_some, not, ◌-◌, ◌^◌, ◌<◌, ◌≤◌, length};
+ghost use Rattle.std.specs.List.{AllByRecursion};
 ghost use Rattle.spec.specs.Model.{max_items};
 ghost use Rattle.history.specs.Observations.{item_count};
 ghost use Rattle.changes.specs.Changes.{change_for, is_full};
 ghost use Rattle.rows.specs.Rows.{items_ok};
 ghost use Rattle.picks.specs.Pass.{stepped_eight, Part, Passed};
-ghost use Rattle.picks.specs.Picks.{block, listed, Gathered, Pick, Each, pick_marks, pick_ok};
+ghost use Rattle.picks.specs.Picks.{block, listed, Gathered, Pick, pick_marks, pick_ok};
 
 use marks::Marks;
 use observations::Store;
@@ -87,7 +88,7 @@ fn step_picks(
     marks: &mut Marks,
 ) -> Option<()>
     requires f_le_from { (f ≤ run.from) × (length (listed picks.now) < length picks.now) }
-    requires each { Each (Pick (item_count st.now) st.now f run) (listed picks.now) }
+    requires each { AllByRecursion (Pick (item_count st.now) st.now f run) (listed picks.now) }
     ensures value { is_some result ≡ pick_ok st.now f run.from (listed picks.now) marks.old }
     ensures marks_after { is_some result ≡ true →
         marks.new ≡ pick_marks st.now f run.from (listed picks.now) marks.old }
