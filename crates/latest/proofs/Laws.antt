@@ -1,7 +1,7 @@
 -- Laws of the latest entries: an item's used rows one after another, and the rows beyond the first of each item.
 use Prim.Native.Nat.{ℕ, zero, suc, ◌+◌, ◌-◌, ◌*◌, ◌^◌, ◌≤◌, ◌<◌}
-use mathlib.Core.Path.{◌≡◌, refl, sym, ap, ◌∙◌}
-use mathlib.Core.Logic.{◌≢◌, ◌⊎◌, inl, inr}
+use mathlib.Core.Path.{◌≡◌, refl, sym, ◌∙◌}
+use mathlib.Core.Logic.{◌⊎◌, inl, inr}
 use mathlib.Core.Bool.{Bool, true, false, cond, ◌&&◌, ◌||◌, not, and-false}
 use mathlib.Core.List.{List, [], ◌∷◌}
 use Rattle.std.specs.Prelude.{min, Option, Some, None}
@@ -9,18 +9,17 @@ use Rattle.std.proofs.lemmas.List.{nil_from_length}
 use native.Mathlib.Numerals.{add-one}
 use native.Mathlib.Omega.{arith}
 use lib.Count.{ones}
-use lib.Dec.{leb, eqb}
-use lib.ListN.{length, get_or, set, drop, drop_of_length-le}
+use lib.Dec.{leb}
+use lib.ListN.{length, get_or, drop, drop_of_length-le}
 use lib.Seq.{drop-cons}
-use borrow.Author.Tests.{eq-eqb, ne_eqb, le-leb, lt-leb, leb-true, leb-false, eqb-true, eqb-false}
-use Rattle.spec.specs.Words.{every, bit, row}
+use borrow.Author.Tests.{eq-eqb, ne_eqb, le-leb, lt-leb, leb-true, leb-false}
+use Rattle.spec.specs.Words.{every, bit}
 use Rattle.spec.specs.Blocks.{table_rows, extra_rows}
 use Rattle.spec.specs.Entries.{used_rows, form_ok}
 use Rattle.spec.specs.Model.{max_items}
 use Rattle.history.specs.Observations.{Head, ring_size, latest_at, is_condition, item_rows, latest_rows}
 use Rattle.history.specs.Observations.{current_ok, current_rows}
-use Rattle.spec.specs.Reply.{numbers, pairs}
-use Rattle.spec.proofs.Words.{by-test, and_left, and_right, by_cond, every-at, every-no, every-yes, every-end}
+use Rattle.spec.proofs.Words.{by-test, and_right, by_cond, every-no, every-yes, every-end}
 use Rattle.spec.proofs.Bits.{rows-ones}
 use Rattle.history.proofs.Pass.{current-count}
 use Rattle.entries.proofs.Filling.{rows-many}
@@ -28,8 +27,7 @@ use Rattle.entries.proofs.Laws.{filled-broken, filled-used}
 use Rattle.entries.proofs.Marks.{used-max}
 use Rattle.entries.specs.Forms.{EightRows, filled}
 use Rattle.rows.specs.Rows.{rows_at, rows_into}
-use Rattle.rows.proofs.Writing.{rows_more}
-use Rattle.rows.proofs.Flat.{Left, left-start, FlatWriting, flat_start, flat-room, flat-more, flat-skip, flat-end, flat-same}
+use Rattle.rows.proofs.Flat.{Left, left-start, FlatWriting, flat_start, flat-room, flat-more, flat-skip, flat-end}
 use Rattle.rows.proofs.Laws.{count-is, broken-is}
 use Rattle.latest.specs.Latest.{extra_in}
 
@@ -276,14 +274,7 @@ pub written_start : (cat : ℕ → ℕ) (m : ℕ) (st : List ℕ) (selection k :
 unfolding current_rows
 written_start cat m st selection k o e = record { put = flat_start _ _ m k o e }
 
--- one row
-pub first-written : (r : List ℕ) {n u p c a : ℕ} (l : List ℕ) {b : List ℕ}
-    → r ≡ n ∷ u ∷ p ∷ [] → c < a → b ≡ set (set (set l c n) a u) (a + 1) p
-    → b ≡ rows_at l c a (r ∷ [])
-unfolding numbers pairs
-first-written r {n} {u} {p} {c} {a} l e h eb =
-    rw e (eb ∙ sym (rows_more l c a (n ∷ u ∷ p ∷ []) [] (omega arith)))
-
+-- the first of a table's eight rows is its one row
 pub first-of : (st : List ℕ) (t w x : ℕ) → get_or (table_rows st t w 8 x) 0 [] ∷ [] ≡ table_rows st t w 1 x
 unfolding table_rows
 first-of st t w x = refl

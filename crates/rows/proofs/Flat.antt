@@ -5,7 +5,7 @@ use mathlib.Core.Bool.{Bool, true, false}
 use mathlib.Core.List.{List, [], ◌∷◌, ◌++◌}
 use native.Mathlib.Numerals.{add-one}
 use native.Mathlib.Omega.{arith}
-use lib.ListN.{length, set, length-set, length-append}
+use lib.ListN.{length, length-append}
 use Rattle.spec.specs.Blocks.{flat_rows}
 use Rattle.spec.specs.Reply.{numbers, pairs}
 use Rattle.spec.proofs.Words.{by-test}
@@ -26,24 +26,21 @@ left-start rs k d o h = record { rows = refl; fits = h; len = refl; all = refl }
 module _ {rs : List (List ℕ)} {k d : ℕ} {o l : List ℕ} {c : ℕ} {left : List (List ℕ)}
     (v : Left rs k d o l c left) where
   module _ {r : List ℕ} {rest : List (List ℕ)} (e : left ≡ r ∷ rest) where
-    pub left-room : 3 * k ≤ length o → (c < length l) × (k + 2 * c + 1 < length l)
-    left-room h =
-        let n = ap length e in
-        (omega (arith, v.fits, v.len), omega (arith, v.fits, v.len))
+    pub left-room : 3 * k ≤ length o → k + 2 * c + 1 < length l
+    left-room h = omega (arith, v.fits, v.len, ap length e)
 
-    pub left-more : {x y z : ℕ} {b : List ℕ} → r ≡ x ∷ y ∷ z ∷ []
-        → b ≡ set (set (set l c x) (k + 2 * c) y) (k + 2 * c + 1) z → Left rs k d o b (c + 1) rest
-    left-more {x} {y} {z} {b} er eb =
+    pub left-more : {b : List ℕ} → b ≡ rows_at l c (k + 2 * c) (r ∷ []) → Left rs k d o b (c + 1) rest
+    left-more {b} eb =
         let n = ap length e in
         let q : k + 2 * (c + 1) ≡ k + 2 * c + 2 = omega arith in
         record {
           rows = omega (arith, v.rows);
           fits = omega (arith, v.fits);
-          len = rw eb (simp length-set v.len);
+          len = rw eb (length-rows l c (k + 2 * c) (r ∷ []) ∙ v.len);
           all =
               v.all
-              ∙ (ap (rows_at l c (k + 2 * c)) (e ∙ ap (λ (i : List ℕ). i ∷ rest) er)
-              ∙ rw (eb, q) (rows_more l c (k + 2 * c) (x ∷ y ∷ z ∷ []) rest (omega (arith, v.fits))));
+              ∙ (ap (rows_at l c (k + 2 * c)) e
+              ∙ rw (eb, q) (rows_more l c (k + 2 * c) r rest (omega (arith, v.fits))));
         }
 
   pub left_end : left ≡ [] → (c ≡ d + length rs) × (l ≡ rows_at o d (k + 2 * d) rs)

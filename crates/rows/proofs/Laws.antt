@@ -7,7 +7,7 @@ use Rattle.std.specs.Prelude.{Some, None}
 use Rattle.std.specs.Int.{from_bool}
 use native.Mathlib.Omega.{arith}
 use lib.Dec.{ltb}
-use lib.ListN.{length, set, length-append}
+use lib.ListN.{length, length-append}
 use borrow.Author.Tests.{lt-ltb, le-ltb, ltb-true}
 use Rattle.spec.specs.Words.{bit, row}
 use Rattle.spec.specs.Value.{item_of}
@@ -16,8 +16,8 @@ use Rattle.spec.proofs.Words.{and_left, and_right, every-step, every-end}
 use Rattle.observations.specs.Ring.{ring_time, ring_word}
 use Rattle.rows.specs.Rows.{items_ok, sampled, counted, rows_at, rows_into, Unwrapped}
 use Rattle.rows.proofs.Ranges.{every-split, rows_in, rows_out, rows_end, rows_split, rows_few, run-next}
-use Rattle.rows.proofs.Writing.{rows_append, length-rows, Writing, writing_start, writing-room, writing_more}
-use Rattle.rows.proofs.Writing.{writing-skip, writing-end}
+use Rattle.rows.proofs.Writing.{rows_append, length-rows}
+use Rattle.rows.proofs.Flat.{Left, left-start, left-room, left-more, left_end}
 
 -- ---- what the words say of an entry, where number s is at place q
 
@@ -174,29 +174,24 @@ module _ (m : ℕ) (st : List ℕ) (selection f g e : ℕ) (h1 : f ≤ g) (h2 : 
         let y = counted-count m st selection g e b in
         rw (ok-split m st f g e h1 h2, x.0, y.0, sample-split st selection f g e h1 h2, length-append, x.1, y.1)
 
--- ---- the same for a sample's rows, where s is at place q
-pub record Sampling (st : List ℕ) (m selection f e k d z : ℕ) (o l : List ℕ) (c a s q : ℕ) : Type 0 where
+-- ---- the same for a sample's rows: c of the k are written, of them d before the run, and number s is at place q
+pub record Sampling (st : List ℕ) (m selection f e k d : ℕ) (o l : List ℕ) (c s q : ℕ) : Type 0 where
   pub run : Unwrapped (ring_size st) (base st) e s q
   pub ok : items_ok m st s e ≡ true
-  pub put : Writing (picked st selection) (numbered_in st) f e k d z o l c a s
+  pub put : Left (sampled st selection f e) k d o l c (sampled st selection s e)
 
 pub sampling-start : (st : List ℕ) (m selection f e k d q : ℕ) (o : List ℕ) → Unwrapped (ring_size st) (base st) e f q
     → items_ok m st f e ≡ true
-    → d + length (sampled st selection f e) ≤ k → Sampling st m selection f e k d (k + 2 * d) o o d (k + 2 * d) f q
-unfolding sample_rows
+    → d + length (sampled st selection f e) ≤ k → Sampling st m selection f e k d o o d f q
 sampling-start st m selection f e k d q o r t h =
-    record {
-      run = r;
-      ok = t;
-      put = writing_start (picked st selection) (numbered_in st) f e k d (k + 2 * d) o h refl;
-    }
+    record { run = r; ok = t; put = left-start (sampled st selection f e) k d o h }
 
-module _ {st : List ℕ} {m selection f e k d z : ℕ} {o l : List ℕ} {c a s q : ℕ}
-    (v : Sampling st m selection f e k d z o l c a s q) where
+module _ {st : List ℕ} {m selection f e k d : ℕ} {o l : List ℕ} {c s q : ℕ}
+    (v : Sampling st m selection f e k d o l c s q) where
   pub sampling-end : e ≤ s → (c ≡ d + length (sampled st selection f e))
-      × (l ≡ rows_at o d z (sampled st selection f e))
+      × (l ≡ rows_at o d (k + 2 * d) (sampled st selection f e))
   unfolding sample_rows
-  sampling-end h = writing-end v.put h
+  sampling-end h = left_end v.put (rows_end (picked st selection) (numbered_in st) s e h)
 
   module _ (h : s < e) {n x i : ℕ} (hn : n ≡ ring_size st) (hx : x ≡ ring_word st n q) (hi : i ≡ item_of x) where
     w : i ≡ item_of (word_at st q)
@@ -212,28 +207,36 @@ module _ {st : List ℕ} {m selection f e k d z : ℕ} {o l : List ℕ} {c a s q
     ok-more = and_right (ltb i m) (items_ok m st (s + 1) e) ok-both
 
     module _ {y : Bool} (b : y ≡ bit selection i) where
-      selected : bit selection (item_in st s) ≡ y
+      selected : picked st selection s ≡ y
       selected = rw (item-is st s q (v.run.is h), ← w) (sym b)
 
-      pub sampling-room : y ≡ true → 3 * k ≤ length o → (c < length l) × (a + 1 < length l)
-      sampling-room t = writing-room v.put h (selected ∙ t)
+      one : y ≡ true → sampled st selection s e ≡ numbered_in st s ∷ sampled st selection (s + 1) e
+      unfolding sample_rows
+      one t = rows_in (picked st selection) (numbered_in st) s e h (selected ∙ t)
+
+      none : y ≡ false → sampled st selection s e ≡ sampled st selection (s + 1) e
+      unfolding sample_rows
+      none t = rows_out (picked st selection) (numbered_in st) s e h (selected ∙ t)
+
+      pub sampling-room : y ≡ true → 3 * k ≤ length o → k + 2 * c + 1 < length l
+      sampling-room t = left-room v.put (one t)
 
       pub sampling-more : {u : ℕ} {r : List ℕ} → y ≡ true → u ≡ ring_time st n q
-          → r ≡ set (set (set l c s) a u) (a + 1) x
-          → Sampling st m selection f e k d z o r (c + 1) (a + 2) (s + 1) (q + 1)
+          → r ≡ rows_at l c (k + 2 * c) ((s ∷ u ∷ x ∷ []) ∷ [])
+          → Sampling st m selection f e k d o r (c + 1) (s + 1) (q + 1)
       sampling-more t hu g =
           record {
             run = run-next v.run h;
             ok = ok-more;
-            put = writing_more v.put h (selected ∙ t) (numbered_is st s q (v.run.is h)) (g ∙ rw (hu, hx, hn));
+            put = left-more v.put (one t) (rw (numbered_is st s q (v.run.is h), ← hn, ← hu, ← hx) g);
           }
 
-      pub sampling-skip : y ≡ false → Sampling st m selection f e k d z o l c a (s + 1) (q + 1)
+      pub sampling-skip : y ≡ false → Sampling st m selection f e k d o l c (s + 1) (q + 1)
       sampling-skip t =
           record {
             run = run-next v.run h;
             ok = ok-more;
-            put = writing-skip v.put h (selected ∙ t);
+            put = rw (none t) at v.put;
           }
 
 -- ---- a sample written in two parts

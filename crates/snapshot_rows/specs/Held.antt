@@ -1,9 +1,13 @@
 -- The rows that marks hold, eight of each item.
-use Rattle.std.specs.Prelude.{ℕ, zero, suc, ◌+◌, ◌-◌, ◌*◌, cond, List, [], ◌∷◌, map, ltb, eqb, length}
+use Rattle.std.specs.Prelude.{ℕ, zero, suc, ◌+◌, ◌-◌, ◌*◌, ◌≤◌, cond, List, [], ◌∷◌, map, ltb, eqb, length}
 use Rattle.spec.specs.Words.{bit, row}
 use Rattle.spec.specs.Blocks.{flat_rows}
-use Rattle.history.specs.Observations.{ring_size, base, numbered, checkpoint_at}
+use Rattle.history.specs.Observations.{ring_size, base, last, numbered, checkpoint_at}
 use Rattle.marks.specs.Marks.{place_in, eight_of}
+
+-- a pass's first number: one that the store has given from its base on, or the next
+abbrev pub PassStart : List ℕ → ℕ → Type 0
+PassStart st f = (base st ≤ f) × (f ≤ suc (last st))
 
 -- item i's entry at a place: of its checkpoint up to 8, of the ring behind them
 abbrev pub row_of : ℕ → List ℕ → ℕ → ℕ → ℕ → List ℕ

@@ -2,13 +2,13 @@
 // checkpoint, from place 1 on, or of the ring, where a pass's first number has place 9.
 #![tactic(auto)]
 
-ghost use Rattle.std.specs.Prelude.{◌≡◌, ℕ, [], ◌∷◌, suc, ◌+◌, ◌*◌, ◌^◌, ◌<◌, ◌≤◌, get_or, length, map, position, ◌==◌};
+ghost use Rattle.std.specs.Prelude.{◌≡◌, ℕ, ◌+◌, ◌*◌, ◌^◌, ◌<◌, ◌≤◌, get_or, length, map, position, ◌==◌};
 ghost use Rattle.spec.specs.Model.{max_items};
-ghost use Rattle.history.specs.Observations.{item_count, base, last};
+ghost use Rattle.history.specs.Observations.{item_count};
 ghost use Rattle.marks.specs.Marks.{place_in};
 ghost use Rattle.observations.specs.Rows.{words_of};
 ghost use Rattle.rows.specs.Rows.{rows_at, rows_into};
-ghost use Rattle.snapshot_rows.specs.Held.{row_of, used_places, eight_rows, held_by, held_count};
+ghost use Rattle.snapshot_rows.specs.Held.{PassStart, row_of, used_places, eight_rows, held_by, held_count};
 
 use marks::Marks;
 use observations::{Row, Store};
@@ -34,7 +34,8 @@ fn used(eight: &[u64; ENTRY_SLOTS]) -> &[u64]
     &eight[..n]
 }
 
-// How many rows the marks of the selected items are.
+// How many rows the marks of the selected items are. No plainer with the store in place of m: it would be read for its
+// number of items alone, and so a right head would be asked for where a small number serves.
 pub fn count(m: u64, selection: u64, marks: &Marks) -> u64
     requires { m ≤ max_items }
     ensures { (result ≡ held_count selection marks.now m 0) × (result ≤ 8 * m) }
@@ -51,7 +52,7 @@ pub fn count(m: u64, selection: u64, marks: &Marks) -> u64
 // The row at a place of item i: its checkpoint's entry, or a number of the ring.
 fn row_of(st: &Store<'_>, f: u64, i: u64, place: u64) -> Row
     requires i_lt_items { i < item_count st.now }
-    requires st_bound { (base st.now ≤ f) × (f ≤ suc (last st.now)) }
+    requires st_bound { PassStart st.now f }
     requires le_place { (1 ≤ place) × (place < 2 ^ 32) }
     ensures { row_of (item_count st.now) st.now f i place ≡ words_of result }
 {
@@ -76,26 +77,25 @@ fn write_item(
     out: &mut [u64],
 ) -> u64
     requires i_lt_items { i < item_count st.now }
-    requires st_bound { (base st.now ≤ f) × (f ≤ suc (last st.now)) }
+    requires st_bound { PassStart st.now f }
     requires i_bound { (done + length (eight_rows (item_count st.now) st.now f i eight.now) ≤ k)
         × (3 * k ≤ length out.old) }
     ensures value { result ≡ done + length (eight_rows (item_count st.now) st.now f i eight.now) }
     ensures out_after { out.new
         ≡ rows_at out.old done (k + 2 * done) (eight_rows (item_count st.now) st.now f i eight.now) }
 {
-    let mut c = done;
-    for &mark in used(eight) {
-        let place = marks::place_in(mark);
+    let used = used(eight);
+    for (j, mark) in used.iter().enumerate() {
+        let place = marks::place_in(*mark);
         let row = row_of(st, f, i, place);
-        rows::write_row(out, c, k + 2 * c, row);
-        c += 1;
+        rows::write_row(out, done + j as u64, k, row);
     }
-    c
+    done + used.len() as u64
 }
 
 // Current with at: the rows that the marks hold of the selected items, which are k; f is the pass's first number.
 pub fn write_held(st: &Store<'_>, f: u64, selection: u64, marks: &Marks, k: u64, out: &mut [u64])
-    requires st_bound { (base st.now ≤ f) × (f ≤ suc (last st.now)) }
+    requires st_bound { PassStart st.now f }
     requires k_value { (k ≡ length (held_by (item_count st.now) st.now f marks.now selection))
         × (3 * k ≤ length out.old) }
     ensures { out.new

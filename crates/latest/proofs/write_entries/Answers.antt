@@ -26,7 +26,7 @@ loop-j-preserved c =
     let e : c.args.done + (c.loop-j.j + 1) ≡ c.args.done + c.loop-j.j + 1 = omega arith in
     rw e
     (left-more c.loop-j.invariant
-    (used-more c.args.entries.now _ (omega (arith, c.len.ensures)) c.row-row.ensures c.if-row-eq0.false) refl
+    (used-more c.args.entries.now _ (omega (arith, c.len.ensures)) c.row-row.ensures c.if-row-eq0.false)
     c.write_row.ensures)
 
 pub returns : goal.returns

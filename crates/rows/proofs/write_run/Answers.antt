@@ -1,4 +1,4 @@
-use Prim.Native.Nat.{◌+◌, ◌*◌, ◌-◌}
+use Prim.Native.Nat.{◌+◌, ◌-◌}
 use mathlib.Core.Path.{◌≡◌, ◌∙◌}
 use native.Mathlib.Omega.{arith}
 use Rattle.rows.proofs.Laws.{sampling-start, sampling-item, sampling-room}
@@ -32,11 +32,10 @@ loop-number-preserved c =
     let r = c.args.run in
     let q : r.place + (c.loop-number.number + 1 - r.from) ≡ r.place + (c.loop-number.number - r.from) + 1 =
     omega arith in
-    let a : c.args.k + 2 * (c.loop-number.c + 1) ≡ c.args.k + 2 * c.loop-number.c + 2 = omega arith in
     let p = rw c.slice-words.ensures.value at c.ring_word-packed.ensures in
     elim c.if-has.branch [
       | then-has w ↦
-          rw (w.c-is, q, a)
+          rw (w.c-is, q)
           (sampling-more v h c.ring_size-n.ensures.is p c.item_of.ensures c.has.ensures w.if-has.true
           (rw c.slice-words.ensures.value at w.ring_time-time.ensures) (w.out-is ∙ w.write_row.ensures))
       | else-has w ↦

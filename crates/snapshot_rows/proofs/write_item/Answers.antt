@@ -1,17 +1,14 @@
-use Rattle.history.specs.Observations.{item_count}
+use native.Mathlib.Nat.{add_assoc}
 use Rattle.rows.proofs.Flat.{left-more, left_end}
 use Rattle.snapshot_rows.proofs.Laws.{rows_more, rows_end}
 use Rattle.snapshot_rows.proofs.write_item.Goals as goal
 
-pub loop-mark-preserved : goal.loop-mark-preserved
-loop-mark-preserved c =
-    left-more c.loop-mark.invariant
-    (rows_more (item_count c.args.st.now) c.args.st.now c.args.f c.args.i c.used-mark-items.result.now _ c.loop-mark-test.true
-    c.place_in-place.ensures)
-    c.row_of-row.ensures c.write_row.ensures
+pub loop-j-preserved : goal.loop-j-preserved
+loop-j-preserved c =
+    rw (← add_assoc c.args.done c.loop-j.j 1)
+    (left-more c.loop-j.invariant
+    (rows_more _ _ _ _ c.used-used.result.now _ c.loop-j-test.true c.place_in-place.ensures)
+    (rw (← c.row_of-row.ensures) at c.write_row.ensures))
 
 pub returns-clause-out_after : goal.returns-clause-out_after
-returns-clause-out_after c =
-    let e = rows_end (item_count c.args.st.now) c.args.st.now c.args.f c.args.i c.used-mark-items.result.now _ c.loop-mark-test.false in
-    let whole = left_end c.loop-mark.invariant e in
-    whole.1
+returns-clause-out_after c = (left_end c.loop-j.invariant (rows_end _ _ _ _ _ _ c.loop-j-test.false)).1
