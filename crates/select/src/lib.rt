@@ -47,11 +47,9 @@ fn takes(model: &Named<'_>, j: u64, set: u64, y: Option<&[u8]>) -> bool
     requires { j < items model.now.words }
     ensures { result ≡ chosen model.now.words model.now.names.now set (type_given y.entry) j }
 {
+    let cell = model.item_cell(j);
     selection::has(set, model::component_of(model.words.item_word(j)))
-        && match y {
-            Some(y) => is_named(model.item_cell(j), y),
-            None => true,
-        }
+        && y.is_none_or(|y| is_named(cell, y))
 }
 
 // The items of the components in the set; where a type is given, only those of item type y.

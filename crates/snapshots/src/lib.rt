@@ -22,7 +22,7 @@ use spec::{ENTRY_SLOTS, ITEM_SLOTS};
 fn steps_of(model: &Words<'_>, selection: u64) -> u64
     ensures { result ≡ steps_of (category model.now) selection (items model.now) }
 {
-    let mut set: u64 = 0;
+    let mut set = selection::NONE;
     for i in 0..model.items() {
         let steps = selection::has(selection, i) && model.category(i) == spec::CONDITION;
         set = selection::with_if(steps, set, i);
