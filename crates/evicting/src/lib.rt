@@ -3,9 +3,10 @@
 // recording's head.
 #![tactic(auto)]
 
-ghost use Rattle.std.specs.Prelude.{◌≡◌, [], ◌∷◌, ◌<◌};
+ghost use Rattle.std.specs.Prelude.{◌≡◌, ◌<◌};
 ghost use Rattle.spec.specs.Model.{items, category};
 ghost use Rattle.history.specs.Observations.{place, set_newest, evict};
+ghost use Rattle.observations.specs.Rows.{words_of};
 ghost use Rattle.evicting.specs.Writing.{Overwriting, InTable};
 
 use model::Words;
@@ -17,8 +18,7 @@ use spec::Row;
 pub fn set_newest(model: &Words<'_>, st: &mut [u64], t: u64, item: u64, row: Row)
     requires in_table { InTable (category model.now) (items model.now) t item st.old }
     ensures { st.new
-        ≡ set_newest (category model.now) st.old t (items model.now) item
-        (row.number ∷ row.time ∷ row.packed ∷ []) }
+        ≡ set_newest (category model.now) st.old t (items model.now) item (words_of row) }
 {
     let table = Table {
         at: t,

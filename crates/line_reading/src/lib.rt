@@ -23,10 +23,7 @@ fn observe_reading(
     ensures { let x = observe_reading (Ok line) model.now observations.old host in
         (result ≡ x.answer) × (observations.new ≡ x.observations) }
 {
-    if model.items() <= line.item {
-        return Err(Refusal::Item);
-    }
-    let category = model.category(line.item);
+    let category = model.category_at(line.item).ok_or(Refusal::Item)?;
     let value = line_value::value_for(category, line.form).ok_or(Refusal::Kind)?;
     let time = observing::time_or(line.time, host);
     observing::observe_item(model, observations, line.item, time, value)
