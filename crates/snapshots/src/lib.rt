@@ -9,6 +9,7 @@ ghost use Rattle.spec.specs.Model.{max_items, items, category};
 ghost use Rattle.spec.specs.Entries.{form_ok};
 ghost use Rattle.history.specs.Observations.{ring_size, item_count, base, checkpoint_at, item_rows, item_row};
 ghost use Rattle.entries.specs.Forms.{marks_of};
+ghost use Rattle.rows.specs.Rows.{RingRange};
 ghost use Rattle.snapshot_rows.specs.Held.{held_by};
 ghost use Rattle.snapshots.specs.Snapshots.{at_right, at_held, steps_of, begun, forms_ok, plain_place, settled};
 
@@ -90,7 +91,7 @@ fn settle(st: &Store<'_>, selection: u64, steps: u64, seen: &[u64; ITEM_SLOTS], 
 // has no item of the model, a selected condition item's checkpoint isn't in its written form, or one comes to nine
 // entries.
 pub fn hold(source: Modelled<'_>, selection: u64, f: u64, e: u64, marks: &mut Marks) -> Option<()>
-    requires st_bound { let st = source.store.now in (base st ≤ f) × ((f ≤ e) × (e - f ≤ ring_size st)) }
+    requires st_bound { RingRange source.store.now f e }
     requires marks_value { marks.old ≡ replicate max_items (replicate 8 0) }
     ensures result_value { is_some result ≡ at_right source.entry.model.now source.entry.store.now selection f e }
     ensures fact { is_some result ≡ true →

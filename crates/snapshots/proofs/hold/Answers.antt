@@ -17,10 +17,6 @@ returns-in_err-begin c =
       fact = λ z. absurd (false≢true z);
     })
 
-pub pass-requires : goal.pass-requires
-pass-requires c =
-    c.requires.st_bound
-
 pub returns-in_err-pass : goal.returns-in_err-pass
 returns-in_err-pass c =
     let model = c.args.source.model.now in
