@@ -10,12 +10,12 @@ use lib.ListN.{length, set, take, drop, length-append, length-take, length-drop,
 use lib.Seq.{sets, sets-eq, set_comm, length-sets, take_all, take_at, drop-append-add, drop-drop}
 use borrow.Author.Tests.{leb-true}
 use Rattle.spec.specs.Reply.{Replied, over, written}
-use Rattle.std.specs.Prelude.{Option, Some, None, Result, Ok, Err, IsErrAnd}
+use Rattle.std.specs.Prelude.{Option, None, Result, Ok, Err, IsErrAnd}
 use Rattle.std.specs.Option.{ok_or}
 use Rattle.spec.specs.declared.Refusal.{Refusal}
 use Rattle.spec.specs.declared.Refusal.TheVariants.{Space}
 use Rattle.spec.specs.Answers.{Answer}
-use Rattle.spec.proofs.Refused.{handed-on}
+use Rattle.spec.proofs.Refused.{handed-on, none-handed}
 use Rattle.reply.specs.Fitted.{Fitted}
 
 -- a word behind those that are set
@@ -123,24 +123,16 @@ pub passed : (o p : Replied) {x : Answer} {y : List ℕ} → o ≡ p → (x ≡ 
     → (x ≡ p.answer) × (y ≡ p.reply)
 passed o p {x} {y} e h = (h.0 ∙ ap (λ (z : Replied). z.answer) e, h.1 ∙ ap (λ (z : Replied). z.reply) e)
 
--- ---- what `?` hands on of an option that a refusal stands in for
-
-pub none-of : {A : Type 0} (o : Option A) {e d : Refusal} {r : Result A Refusal} → r ≡ ok_or o e → r ≡ Err d
-    → (None ≡ o) × (d ≡ e)
-none-of None h g = (refl, cc)
-none-of (Some x) h g = cc
-
-pub some-of : {A : Type 0} (o : Option A) (e : Refusal) {x : A} {r : Result A Refusal} → r ≡ ok_or o e → r ≡ Ok x
-    → Some x ≡ o
-some-of None e h g = cc
-some-of (Some y) e h g = cc
+-- ---- what `?` hands on
 
 -- the refusal is the call's answer
 pub refused : (o : Replied) {r : Answer} {d e : Refusal} {y : List ℕ} → IsErrAnd r (λ z. z ≡ d) → d ≡ e
     → o ≡ record { answer = Err e; reply = y } → (r ≡ o.answer) × (y ≡ o.reply)
 refused o {r} h g w = rw (handed-on r h g) (both o w)
 
+-- and so is the one that stands in for a missing value
 pub none-refused : {A : Type 0} (x : Option A) {e d : Refusal} {q : Result A Refusal} (o : Replied) {r : Answer}
     {y : List ℕ} → IsErrAnd r (λ z. z ≡ d) → q ≡ ok_or x e → q ≡ Err d
     → (None ≡ x → o ≡ record { answer = Err e; reply = y }) → (r ≡ o.answer) × (y ≡ o.reply)
-none-refused x o h g was w = let n = none-of x g was in refused o h n.1 (w n.0)
+none-refused x o {r} {y} h g was w =
+    none-handed (λ a. (a ≡ o.answer) × (y ≡ o.reply)) x r h g was (λ n. both o (w n))

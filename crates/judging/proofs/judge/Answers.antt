@@ -5,7 +5,7 @@ use Rattle.entries.specs.declared.Filled.{Filled}
 use Rattle.entries.proofs.Kept.{kept-none}
 use Rattle.judging.proofs.Laws.{some-filled, judged-unused, judged-raised, judged-first, judged-idle}
 use Rattle.std.proofs.Common.{rules, tests}
-use Rattle.spec.proofs.Refused.{handed-on, refusal-is}
+use Rattle.spec.proofs.Refused.{handed-on, none-of}
 use Rattle.judging.proofs.Laws.{judged-cleared, judged-all}
 use Prim.Native.Nat.{suc}
 use mathlib.Core.Path.{sym, ap, ◌∙◌}
@@ -16,9 +16,9 @@ use Rattle.judging.proofs.judge.Goals as goal
 pub returns-in_err-filled : goal.returns-in_err-filled
 returns-in_err-filled c =
     let e = c.in_err-filled.ensures.ok_part in
-    let r = refusal-is c.filter.result (sym c.in_err-filled.was ∙ c.ok_or.ensures.value) e in
+    let r = none-of c.filter.result c.ok_or.ensures.value c.in_err-filled.was in
     let k = kept-none (λ (f : Filled). f.used) c.fill.result c.filter.result _ c.filter.ensures (λ f b q. search (rules, tests)) e in
-    handed-on _ c.from_residual.ensures.1 r ∙ judged-unused _ _ _ c.fill.ensures k
+    handed-on _ c.from_residual.ensures.1 r.1 ∙ judged-unused _ _ _ c.fill.ensures k
 
 pub returns-then-key-ne0 : goal.returns-then-key-ne0
 returns-then-key-ne0 c =

@@ -1,7 +1,7 @@
 -- The place of the key decides, and the row there.
 use mathlib.Core.Path.{refl, sym, ◌∙◌}
 use native.Mathlib.Omega.{arith}
-use Rattle.spec.proofs.Refused.{handed-on, refusal-is}
+use Rattle.spec.proofs.Refused.{handed-on, none-of}
 use Rattle.marks.proofs.Laws.{found-some, found-none}
 use Rattle.judging.proofs.Laws.{raised-none, raised-free, raised_by}
 use Rattle.judging.proofs.judge_raised.Goals as goal
@@ -10,7 +10,7 @@ pub returns-in_err-j : goal.returns-in_err-j
 returns-in_err-j c =
     let e = c.in_err-j.ensures.ok_part in
     let n = found-none c.args.key c.args.marks.now (sym e ∙ c.find.ensures.place) in
-    handed-on _ c.from_residual.ensures.1 (refusal-is c.find.result (sym c.in_err-j.was ∙ c.ok_or.ensures.value) e)
+    handed-on _ c.from_residual.ensures.1 (none-of c.find.result c.ok_or.ensures.value c.in_err-j.was).1
     ∙ raised-none _ _ refl _ _ (sym n ∙ c.told-marks)
 
 pub returns-then-marks-j-eq0 : goal.returns-then-marks-j-eq0

@@ -1,6 +1,6 @@
 -- The tests decide, and behind them the line is written where there is room.
 use mathlib.Core.Path.{refl, sym, ◌∙◌}
-use Rattle.spec.proofs.Refused.{handed-on, refusal-is}
+use Rattle.spec.proofs.Refused.{handed-on, none-of}
 use Rattle.history.specs.Calls.{write_line}
 use Rattle.line_writing.proofs.Laws.{item_refused, kind-refused, time-refused, passed}
 use Rattle.writer.proofs.Whole.{written_is}
@@ -16,8 +16,8 @@ pub returns-in_err-category : goal.returns-in_err-category
 returns-in_err-category c =
     let n = rw c.in_ok-words.was at c.checked.ensures in
     let o = c.in_err-category.ensures.ok_part in
-    let r = refusal-is c.category_at.result (sym c.in_err-category.was ∙ c.ok_or.ensures.value) o in
-    rw (item_refused _ _ _ _ _ _ n.2 (rw (o, n.0) at c.category_at.ensures), handed-on _ c.from_residual-in_err-category.ensures.1 r)
+    let r = none-of c.category_at.result c.ok_or.ensures.value c.in_err-category.was in
+    rw (item_refused _ _ _ _ _ _ n.2 (rw (o, n.0) at c.category_at.ensures), handed-on _ c.from_residual-in_err-category.ensures.1 r.1)
     (refl, refl)
 
 pub returns-then-not-takes : goal.returns-then-not-takes

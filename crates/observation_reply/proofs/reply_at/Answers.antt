@@ -3,7 +3,7 @@ use Prim.Native.Nat.{◌+◌}
 use mathlib.Core.Path.{refl, sym, ap, ◌∙◌}
 use Rattle.std.specs.Prelude.{is_ok, is_some}
 use native.Mathlib.Omega.{arith}
-use Rattle.reply.proofs.Laws.{behind, lends, both, some-of, refused, none-refused}
+use Rattle.reply.proofs.Laws.{behind, lends, both, refused, none-refused}
 use Rattle.observation_reply.proofs.Laws.{in-ring, at-broken, at-short, at-whole, held-many}
 use borrow.Author.Rules.{rules}
 use Rattle.observation_reply.proofs.reply_at.Goals as goal
@@ -29,7 +29,7 @@ returns-in_err-fit_rows c =
     let w = c.in_err-fit_rows.was in
     refused _ c.from_residual-in_err-fit_rows.ensures.1 (c.fit_rows.ensures.refused _ w)
     (at-short _ _ c.args.source.store.now c.args.selection c.args.number _ c.args.reply.now
-    c.first-first.ensures.is c.hold.ensures.result_value (sym (ap is_some (some-of c.hold.result _ c.ok_or.ensures.value c.in_ok-ok_or.was))) c.hold.ensures.fact
+    c.first-first.ensures.is c.hold.ensures.result_value (ap is_some c.in_ok-ok_or.ensures.ok_part) c.hold.ensures.fact
     (held-many (c.items.ensures.0 ∙ c.args.source.agree) _ _ _ _ _ c.count-k.ensures.0) refl
     (rw (← c.first-first.ensures.is, c.last-next.ensures.is) at c.fit_rows.ensures.fitted) (ap is_ok w))
 
@@ -50,6 +50,6 @@ pub returns : goal.returns
 returns c =
     both _
     (at-whole _ _ c.args.source.store.now c.args.selection c.args.number _ c.args.reply.now
-    c.first-first.ensures.is c.hold.ensures.result_value (sym (ap is_some (some-of c.hold.result _ c.ok_or.ensures.value c.in_ok-ok_or.was))) c.hold.ensures.fact
+    c.first-first.ensures.is c.hold.ensures.result_value (ap is_some c.in_ok-ok_or.ensures.ok_part) c.hold.ensures.fact
     (held-many (c.items.ensures.0 ∙ c.args.source.agree) _ _ _ _ _ c.count-k.ensures.0) refl
     (rw (← c.first-first.ensures.is, c.last-next.ensures.is) at c.fit_rows.ensures.fitted) _ (ap is_ok c.in_ok-fit_rows.was) (rw c.args.source.agree at c.write_held.ensures))

@@ -1,10 +1,10 @@
 -- The rows that were counted are written behind the sizes.
-use mathlib.Core.Path.{refl, ap, ◌∙◌}
+use mathlib.Core.Path.{refl, sym, ap, ◌∙◌}
 use native.Mathlib.Omega.{arith}
 use Rattle.std.specs.Prelude.{is_ok}
 use Rattle.history.specs.Observations.{item_count}
 use Rattle.rows.proofs.Laws.{counted-count}
-use Rattle.reply.proofs.Laws.{behind, lends, both, some-of, refused, none-refused}
+use Rattle.reply.proofs.Laws.{behind, lends, both, refused, none-refused}
 use Rattle.observation_reply.proofs.Laws.{in-ring, in-ring-few, sample-broken, sample-short, sample-whole}
 use Rattle.observation_reply.proofs.reply_sample.Goals as goal
 
@@ -22,12 +22,12 @@ returns-in_err-k c =
 
 pub fit_rows-requires : goal.fit_rows-requires
 fit_rows-requires c =
-    let n = some-of c.count_rows.result _ c.ok_or.ensures.value c.in_ok-k.was ∙ c.count_rows.ensures in
+    let n = sym c.in_ok-k.ensures.ok_part ∙ c.count_rows.ensures in
     omega (arith, in-ring-few _ _ _ _ _ c.slice.ensures.head.head c.requires.st_bound.0 c.requires.st_bound.1.1 n)
 
 pub returns-in_err-fit_rows : goal.returns-in_err-fit_rows
 returns-in_err-fit_rows c =
-    let n = some-of c.count_rows.result _ c.ok_or.ensures.value c.in_ok-k.was ∙ c.count_rows.ensures in
+    let n = sym c.in_ok-k.ensures.ok_part ∙ c.count_rows.ensures in
     let w = c.in_err-fit_rows.was in
     refused _ c.from_residual-in_err-fit_rows.ensures.1 (c.fit_rows.ensures.refused _ w)
     (sample-short (item_count c.args.st.now) c.args.st.now c.args.selection c.args.f c.args.e
@@ -41,7 +41,7 @@ pub write_rows-requires : goal.write_rows-requires
 write_rows-requires c =
     let r = in-ring c.args.st.now c.args.f c.args.e c.requires.st_bound.0 c.requires.st_bound.1.1 in
     let g = counted-count (item_count c.args.st.now) c.args.st.now c.args.selection c.args.f c.args.e
-    (some-of c.count_rows.result _ c.ok_or.ensures.value c.in_ok-k.was ∙ c.count_rows.ensures) in
+    (sym c.in_ok-k.ensures.ok_part ∙ c.count_rows.ensures) in
     let y = (ap is_ok c.in_ok-fit_rows.was) in
     record {
       st_bound = (r.0, (c.requires.st_bound.1.0, r.1));
@@ -51,7 +51,7 @@ write_rows-requires c =
 
 pub returns : goal.returns
 returns c =
-    let n = some-of c.count_rows.result _ c.ok_or.ensures.value c.in_ok-k.was ∙ c.count_rows.ensures in
+    let n = sym c.in_ok-k.ensures.ok_part ∙ c.count_rows.ensures in
     both _
     (sample-whole (item_count c.args.st.now) c.args.st.now c.args.selection c.args.f c.args.e
     c.args.reply.now n refl refl c.fit_rows.ensures.fitted _
