@@ -17,10 +17,9 @@ use Rattle.spec.specs.Reply.{refuse}
 use Rattle.history.specs.Calls.{all_cells, cells_reply, find_all, named_reply}
 use Rattle.spec.specs.declared.Refusal.TheVariants.{AssetNotFound}
 use Rattle.spec.proofs.Words.{and_left, and_right}
-use Rattle.std.specs.Prelude.{Ok}
 use Rattle.std.specs.List.{join_with_byte as join}
 use Rattle.named_reply.specs.Cells.{FoundAll}
-use Rattle.std.proofs.lemmas.List.{length-append}
+use Rattle.std.proofs.lemmas.List.{length-append, length_push}
 use Rattle.spec.proofs.Bytes.{join-split}
 
 -- ---- how many ids a text has
@@ -69,15 +68,12 @@ module _ {bs : List ℕ} {ids rest : List (List ℕ)} {cells : List ℕ} (w : Fi
   finding-missing h = w.all ∙ rw (cut, le-ltb _ _ h)
 
   module _ {cell : ℕ} (is : cell ≡ find bs id) (h : cell < used bs) (room : used bs ≤ capacity bs) where
-    one-more : length (cells ++ cell ∷ []) ≡ length cells + 1
-    one-more = length-append cells (cell ∷ [])
-
     inside : (i : ℕ) → i < length (cells ++ cell ∷ []) → get_or (cells ++ cell ∷ []) i 0 < capacity bs
     inside i l = go (ltb i (length cells)) refl
       where
         go : (t : Bool) → ltb i (length cells) ≡ t → get_or (cells ++ cell ∷ []) i 0 < capacity bs
         go true e = let k : i < length cells = ltb-true _ _ e in rw (get_or-append cells (cell ∷ []) 0 i k) (w.below i k)
-        go false e = let k : i ≡ length cells = omega (arith, ltb-false _ _ e, one-more) in
+        go false e = let k : i ≡ length cells = omega (arith, ltb-false _ _ e, length_push cells cell) in
             rw (k, get_or-append_seam cells cell [] 0) (omega arith)
 
     -- its cell moves from those to find to those found
@@ -86,7 +82,7 @@ module _ {bs : List ℕ} {ids rest : List (List ℕ)} {cells : List ℕ} (w : Fi
     finding-more =
         record {
           below = inside;
-          few = omega (arith, w.few, one-more, ap length cut);
+          few = omega (arith, w.few, length_push cells cell, ap length cut);
           done = w.done ∙ rw (cut, ← is) (sym (append_snoc cells cell (find_all bs more)));
           all = w.all ∙ rw (cut, ← is, lt-ltb _ _ h);
         }

@@ -3,6 +3,7 @@ use Prim.Native.Nat.{ℕ, zero, suc, ◌+◌, ◌-◌, ◌≤◌, ◌<◌}
 use mathlib.Core.Path.{◌≡◌, refl, sym, ap, ◌∙◌}
 use mathlib.Core.Bool.{Bool, true, false, ◌&&◌, and_assoc, false≢true}
 use mathlib.Core.List.{List}
+use native.Mathlib.Nat.{add-sub_of_le}
 use native.Mathlib.Numerals.{add-one}
 use native.Mathlib.Omega.{arith}
 use lib.Dec.{ltb}
@@ -61,19 +62,16 @@ module _ (steps m : ℕ) (st : List ℕ) (f : ℕ) where
     all : e - s ≡ (g - s) + (e - g)
     all = omega arith
 
-    turn : s + (g - s) ≡ g
-    turn = omega arith
-
     marks-split : (l : List (List ℕ))
         → pass_marks steps st f (e - s) s l ≡ pass_marks steps st f (e - g) g (pass_marks steps st f (g - s) s l)
-    marks-split l = rw all (rw turn at (marks-add (g - s) (e - g) s l))
+    marks-split l = rw all (rw (add-sub_of_le h1) at (marks-add (g - s) (e - g) s l))
 
     ok-split : (l : List (List ℕ)) → pass_ok steps m st f (e - s) s l
         ≡ pass_ok steps m st f (g - s) s l && pass_ok steps m st f (e - g) g (pass_marks steps st f (g - s) s l)
-    ok-split l = rw all (rw turn at (ok_add (g - s) (e - g) s l))
+    ok-split l = rw all (rw (add-sub_of_le h1) at (ok_add (g - s) (e - g) s l))
 
     seen-split : (w : List ℕ) → seen_from st f (e - s) s w ≡ seen_from st f (e - g) g (seen_from st f (g - s) s w)
-    seen-split w = rw all (rw turn at (seen-add (g - s) (e - g) s w))
+    seen-split w = rw all (rw (add-sub_of_le h1) at (seen-add (g - s) (e - g) s w))
 
 -- the front one answers t, with the marks x and the newest places y behind it
 module _ {steps m : ℕ} {st : List ℕ} {f s g e : ℕ} (h1 : s ≤ g) (h2 : g ≤ e) {l x : List (List ℕ)} {w y : List ℕ} {t : Bool}
@@ -143,7 +141,7 @@ module _ (steps m : ℕ) (st : List ℕ) (f s e q : ℕ) (l : List (List ℕ)) (
 module _ {N B e s q g : ℕ} (r : Unwrapped N B e s q) (h1 : s ≤ g) (h2 : g ≤ e) where
   -- from g on
   pub run_on : Unwrapped N B e g (q + (g - s))
-  run_on = let a : s + (g - s) ≡ g = omega arith in rw a at (run-add (g - s) r (omega arith))
+  run_on = rw (add-sub_of_le h1) at (run-add (g - s) r (omega arith))
 
   -- up to g
   pub run-to : Unwrapped N B g s q
