@@ -1,16 +1,32 @@
 -- The latest word decides; where the short way is not open nothing was changed.
 use mathlib.Core.Path.{◌≡◌, refl, ◌∙◌}
+use mathlib.Core.Logic.{◌≢◌}
 use borrow.Author.Tests.{ne_eqb}
 use Rattle.std.specs.Prelude.{Some, Ok}
 use Rattle.spec.specs.declared.Noted.{Noted}
 use Rattle.spec.specs.Answers.{ObserveAnswer}
-use Rattle.spec.specs.Model.{category}
+use Rattle.spec.specs.Model.{category, items}
+use Rattle.history.specs.Observations.{ring_size}
+use Rattle.judging.specs.declared.Judged.TheVariants.{New}
+use Rattle.short_way.specs.Found.{found}
 use Rattle.spec.proofs.Words.{told}
 use Rattle.short_way.proofs.Laws.{found-same, found-new, by-found}
 use Rattle.short_way.proofs.observe_short.Goals as goal
+use Rattle.short_way.proofs.observe_short.Goals.{After-repeats, After-add_plain}
 
 answered : {x y : Noted} → Some x ≡ Some y → ◌≡◌ {A = ObserveAnswer} (Ok y) (Ok x)
 answered e = cc
+
+-- behind the first test the item has no conditions
+plain : (c : After-repeats) → category c.args.model.now c.args.item ≢ 2
+plain c e = c.if-category-eq-CONDITION.false (c.category.ensures ∙ e)
+
+-- and behind the second it is new
+new : (c : After-add_plain) → let st = c.args.observations.now in let model = c.args.model.now in
+    Ok New ≡ found (category model) (ring_size st) (items model) st c.args.item c.args.word
+new c =
+    found-new (category c.args.model.now) _ _ _ _ _ (λ e. c.if-category-eq-CONDITION.false (c.category.ensures ∙ e))
+    (rw c.of_model-before.ensures.0 at c.repeats.ensures) c.if-repeats.false
 
 pub returns-then-category-eq-CONDITION : goal.returns-then-category-eq-CONDITION
 returns-then-category-eq-CONDITION c =
@@ -19,11 +35,9 @@ returns-then-category-eq-CONDITION c =
 
 pub returns-then-repeats : goal.returns-then-repeats
 returns-then-repeats c =
-    let plain = λ (e : category c.args.model.now c.args.item ≡ 2).
-    c.if-category-eq-CONDITION.false (c.category.ensures ∙ e) in
     let f =
-    found-same (category c.args.model.now) _ _ _ _ _ plain (rw c.of_model-before.ensures.0 at c.repeats.ensures)
-    c.if-repeats.true in
+    found-same (category c.args.model.now) _ _ _ _ _ (plain (goal.at.returns-then-repeats c).After-repeats)
+    (rw c.of_model-before.ensures.0 at c.repeats.ensures) c.if-repeats.true in
     record {
       done = λ a e. rw (by-found _ _ _ _ _ _ _ f) (answered e, refl);
       left = λ e. cc;
@@ -32,31 +46,23 @@ returns-then-repeats c =
 
 pub add_plain-requires : goal.add_plain-requires
 add_plain-requires c =
-    let plain = λ (e : category c.args.model.now c.args.item ≡ 2).
-    c.if-category-eq-CONDITION.false (c.category.ensures ∙ e) in
-    record { head = c.requires.head; item_bound = (c.requires.item_bound, ne_eqb _ 2 plain) }
+    record {
+      head = c.requires.head;
+      item_bound = (c.requires.item_bound, ne_eqb _ 2 (plain (goal.at.add_plain-requires c).After-repeats));
+    }
 
 pub returns-in_err-number : goal.returns-in_err-number
 returns-in_err-number c =
-    let plain = λ (e : category c.args.model.now c.args.item ≡ 2).
-    c.if-category-eq-CONDITION.false (c.category.ensures ∙ e) in
-    let f =
-    found-new (category c.args.model.now) _ _ _ _ _ plain (rw c.of_model-before.ensures.0 at c.repeats.ensures)
-    c.if-repeats.false in
     rw c.from_residual.ensures
     (record {
       done = λ a e. cc;
       left = λ e. rw c.in_err-number.was at c.add_plain.ensures;
-      new = λ e n. f;
+      new = λ e n. new (goal.at.returns-in_err-number c).After-add_plain;
     })
 
 pub returns : goal.returns
 returns c =
-    let plain = λ (e : category c.args.model.now c.args.item ≡ 2).
-    c.if-category-eq-CONDITION.false (c.category.ensures ∙ e) in
-    let f =
-    found-new (category c.args.model.now) _ _ _ _ _ plain (rw c.of_model-before.ensures.0 at c.repeats.ensures)
-    c.if-repeats.false in
+    let f = new (goal.at.returns c).After-add_plain in
     let d = rw c.in_ok-number.was at c.add_plain.ensures in
     record {
       done = λ a e. rw (by-found _ _ _ _ _ _ _ f, d.1.0) (rw d.0 at (answered e), d.1.1);
