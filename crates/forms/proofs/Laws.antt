@@ -9,6 +9,7 @@ use lib.ListN.{length, take, drop}
 use borrow.Author.Tests.{leb-true}
 use Rattle.std.specs.Cmp.Lexicographic.{pointwise}
 use Rattle.std.specs.Prelude.{Some, None}
+use Rattle.std.proofs.lemmas.Option.{cond_some}
 use Rattle.spec.specs.Bytes.{all, digit, split, value_from, is_number}
 use Rattle.lines.specs.Lines.{numeral, fraction, whole_form, point_form, by_point, decimal_form, coded_form}
 use Rattle.lines.specs.Lines.{plain_form, by_colon, state_form}
@@ -33,16 +34,12 @@ number_digits limit bound s h =
 
 pub numbered : (limit bound : ℕ) (s : List ℕ) (n : ℕ) → number_of limit bound s ≡ Some n → Numbered bound s n
 unfolding number_of is_number
-numbered limit bound s n e = go (is_number limit bound s) refl e
-  where
-    go : (t : Bool) → is_number limit bound s ≡ t → cond t (Some (value_from 0 s)) None ≡ Some n → Numbered bound s n
-    go true f q =
-        let w : n ≡ value_from 0 s = cc in
-        let z =
-        leb-true (value_from 0 s) bound
-        (and_right (all digit s) _ (and_right (leb (length s) limit) _ (and_right (leb 1 (length s)) _ f))) in
-        record { some-digit = leb-true _ _ (and_left (leb 1 (length s)) _ f); small = omega arith }
-    go false f q = let z : ◌≡◌ {A = ℕ} 0 1 = cc in absurd (omega arith)
+numbered limit bound s n e =
+    let w = cond_some (is_number limit bound s) (value_from 0 s) n e in
+    let z =
+    leb-true (value_from 0 s) bound
+    (and_right (all digit s) _ (and_right (leb (length s) limit) _ (and_right (leb 1 (length s)) _ w.0))) in
+    record { some-digit = leb-true _ _ (and_left (leb 1 (length s)) _ w.0); small = omega (arith, z, w.1) }
 
 -- ---- parts
 

@@ -1,6 +1,6 @@
 -- One law to each way out of observing an item.
 use Prim.Native.Nat.{ℕ, ◌≤◌, ◌<◌}
-use mathlib.Core.Path.{◌≡◌, refl}
+use mathlib.Core.Path.{◌≡◌, refl, sym}
 use mathlib.Core.Bool.{Bool, true, false, cond}
 use mathlib.Core.List.{List}
 use borrow.Author.Tests.{lt-ltb, le-ltb}
@@ -13,6 +13,7 @@ use Rattle.spec.specs.declared.Refusal.TheVariants.{Item, Kind}
 use Rattle.spec.proofs.Words.{told, by-test}
 use Rattle.std.specs.Prelude.{Some, None}
 use Rattle.std.specs.Bool.{then_some}
+use Rattle.std.proofs.lemmas.Option.{cond_some}
 use Rattle.short_way.specs.Found.{found, observed_by}
 use Rattle.observing.specs.Taken.{taken}
 
@@ -68,8 +69,4 @@ module _ (k item : ℕ) (v : Value) where
 
   pub taken-some : {w : ℕ} → Some w ≡ taken k item v → (takes k v ≡ true) × (w ≡ pack item v)
   unfolding taken
-  taken-some {w} e = some-by (takes k v) e
-    where
-      some-by : (b : Bool) → Some w ≡ cond b (Some (pack item v)) None → (b ≡ true) × (w ≡ pack item v)
-      some-by true q = (refl, cc)
-      some-by false q = cc
+  taken-some {w} e = let s = cond_some (takes k v) (pack item v) w (sym e) in (s.0, sym s.1)

@@ -1,13 +1,9 @@
 -- Laws of the set of all items.
-use Prim.Native.Nat.{ℕ, zero, suc, ◌-◌, ◌+◌, ◌/◌, ◌%◌, ◌^◌, ◌<◌, ◌≤◌}
-use mathlib.Core.Path.{◌≡◌, refl, sym, ap, ◌∙◌}
-use mathlib.Core.Bool.{Bool, true, false, cond}
-use native.Mathlib.Nat.{mod-lt}
+use Prim.Native.Nat.{ℕ, ◌-◌, ◌+◌, ◌/◌, ◌^◌, ◌≤◌}
+use mathlib.Core.Path.{◌≡◌, sym, ap, ◌∙◌}
 use native.Mathlib.Omega.{arith}
-use borrow.Author.Tests.{ne_eqb}
-use lib.Dec.{eqb}
 use lib.Pow.{ones_split, ones_lt, high}
-use Rattle.spec.specs.Words.{bit, set_of}
+use Rattle.spec.specs.Words.{set_of}
 use Rattle.spec.specs.Model.{max_items}
 use Rattle.spec.specs.Path.{any_item}
 use Rattle.spec.proofs.Bits.{set_all}

@@ -1,7 +1,7 @@
 -- Bytes against a form, and the numbers that stand in them.
 use Prim.Native.Nat.{ℕ, suc, ◌+◌, ◌-◌, ◌*◌, ◌^◌, ◌≤◌, ◌<◌}
 use mathlib.Core.Path.{◌≡◌, refl, sym, ap}
-use mathlib.Core.Bool.{Bool, true, false, cond, ◌&&◌, and-false, true≢false}
+use mathlib.Core.Bool.{Bool, true, false, cond, ◌&&◌, true≢false}
 use mathlib.Core.List.{List, [], ◌∷◌}
 use native.Mathlib.Nat.{pow-suc, pow-le-pow_right, add-suc, suc-add, add-zero, zero-add}
 use native.Mathlib.Omega.{arith}
@@ -12,7 +12,7 @@ use mir.Syntax.{w8}
 use Rattle.std.specs.List.{list_all, zip}
 use Rattle.spec.specs.Bytes.{digit, value_from}
 use Rattle.lines.specs.Stamps.{formed, stamp_form}
-use Rattle.spec.proofs.Words.{and_right}
+use Rattle.spec.proofs.Words.{and_right, not_so}
 
 -- ---- a form
 
@@ -26,20 +26,16 @@ formed_zip [] (y ∷ s) e = absurd (omega arith)
 formed_zip (x ∷ f) [] e = absurd (omega arith)
 formed_zip (x ∷ f) (y ∷ s) e = ap (λ b. fit x y && b) (formed_zip f s (omega arith))
 
--- bytes of another length have another form
-pub formed_length : (f s : List ℕ) → (length f ≡ length s → ⊥) → formed f s ≡ false
-unfolding formed
-formed_length [] [] n = absurd (n refl)
-formed_length [] (x ∷ s) n = refl
-formed_length (x ∷ f) [] n = refl
-formed_length (x ∷ f) (y ∷ s) n = simp (formed_length f s (λ e. n (ap suc e)), and-false)
-
 formed-same : (f s : List ℕ) → formed f s ≡ true → length s ≡ length f
 unfolding formed
 formed-same [] [] h = refl
 formed-same [] (x ∷ s) h = absurd (true≢false (sym h))
 formed-same (y ∷ f) [] h = absurd (true≢false (sym h))
 formed-same (y ∷ f) (x ∷ s) h = ap suc (formed-same f s (and_right (fit y x) (formed f s) h))
+
+-- bytes of another length have another form
+pub formed_length : (f s : List ℕ) → (length f ≡ length s → ⊥) → formed f s ≡ false
+formed_length f s n = sym (not_so _ (λ h. n (sym (formed-same f s h))))
 
 -- a stamp has 24
 pub formed_24 : (s : List ℕ) → formed stamp_form s ≡ true → length s ≡ 24
