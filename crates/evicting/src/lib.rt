@@ -39,8 +39,7 @@ pub fn evict(model: &Words<'_>, st: &mut [u64], n: u64, b: u64, s: u64, p: u64)
     requires p_value { (p ≡ place n b s) × (p < n) }
     ensures { st.new ≡ evict (category model.now) n (items model.now) b s st.old }
 {
-    if n <= s - b {
-        let evicted = observations::ring_row(st, n, p, s - n);
+    if let Some(evicted) = observations::overwritten(st, n, b, s, p) {
         let item = value::item_of(evicted.packed);
         let checkpoint = observations::checkpoint_at(n, model.items());
         set_newest(model, st, checkpoint, item, evicted);

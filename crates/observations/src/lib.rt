@@ -1,13 +1,13 @@
 // The observation store: its head, and the places of ring and tables, read and written.
 #![tactic(auto)]
 
-ghost use Rattle.std.specs.Prelude.{◌≡◌, [], ◌∷◌, ◌+◌, ◌*◌, ◌≤◌, ◌<◌, length, set};
+ghost use Rattle.std.specs.Prelude.{◌≡◌, [], ◌∷◌, ◌+◌, ◌*◌, ◌≤◌, ◌<◌, ◌^◌, length, set};
 ghost use Rattle.spec.specs.Words.{row, put};
 ghost use Rattle.spec.specs.Model.{max_items};
 ghost use Rattle.history.specs.Observations.{max_ring, last_at, ring_at, latest_at};
 ghost use Rattle.history.specs.Observations.{checkpoint_at, store_words, place};
 ghost use Rattle.history.specs.Observations.{head_ok, blank};
-ghost use Rattle.observations.specs.Ring.{ring_time, ring_word};
+ghost use Rattle.observations.specs.Ring.{ring_time, ring_word, overwritten_at};
 ghost use Rattle.observations.specs.Rows.{words_of};
 
 mod modelled;
@@ -62,6 +62,20 @@ pub fn checkpoint_at(n: u64, m: u64) -> u64
 pub struct Table {
     pub at: u64,
     pub rows: u64,
+}
+
+impl Table {
+    // The places of row k's number, time and packed word: each stands in a column of its own.
+    pub fn columns(self, k: u64) -> [usize; 3]
+        requires { (k < self.rows) × (self.at + 3 * self.rows < 2 ^ 64) }
+        ensures { let time_at = self.at + k + self.rows in
+            result ≡ (self.at + k) ∷ time_at ∷ (time_at + self.rows) ∷ [] }
+    {
+        let number_at = (self.at + k) as usize;
+        let time_at = number_at + self.rows as usize;
+        let word_at = time_at + self.rows as usize;
+        [number_at, time_at, word_at]
+    }
 }
 
 // The latest table of a store of n observations and m items.
@@ -148,17 +162,29 @@ pub fn ring_row(st: &[u64], n: u64, p: u64, number: u64) -> Row
     }
 }
 
+// What number s is about to overwrite at its place p, if the ring of n entries from number b on is full.
+pub fn overwritten(st: &[u64], n: u64, b: u64, s: u64, p: u64) -> Option<Row>
+    requires ring { (p < n) × (latest_at n ≤ length st.now) }
+    requires b_le_s { b ≤ s }
+    ensures { result ≡ overwritten_at st.now n b s p }
+{
+    if s - b < n {
+        return None;
+    }
+    Some(ring_row(st, n, p, s - n))
+}
+
 // Row k of a table.
 #[tactic(auto, unfolding(spec::specs::Words::row))]
 pub fn row_at(st: &[u64], table: Table, k: u64) -> Row
     requires { (k < table.rows) × (table.at + 3 * table.rows ≤ length st.now) }
     ensures { row st.now table.at table.rows k 3 ≡ words_of result }
 {
-    let Table { at, rows } = table;
+    let [number_at, time_at, word_at] = table.columns(k);
     Row {
-        number: st[(at + k) as usize],
-        time: st[(at + rows + k) as usize],
-        packed: st[(at + rows + rows + k) as usize],
+        number: st[number_at],
+        time: st[time_at],
+        packed: st[word_at],
     }
 }
 
@@ -180,10 +206,10 @@ pub fn put_row(st: &mut [u64], table: Table, k: u64, row: Row)
     requires { (k < table.rows) × (table.at + 3 * table.rows ≤ length st.old) }
     ensures { st.new ≡ put st.old table.at table.rows k (words_of row) }
 {
-    let Table { at, rows } = table;
-    st[(at + k) as usize] = row.number;
-    st[(at + rows + k) as usize] = row.time;
-    st[(at + rows + rows + k) as usize] = row.packed;
+    let [number_at, time_at, word_at] = table.columns(k);
+    st[number_at] = row.number;
+    st[time_at] = row.time;
+    st[word_at] = row.packed;
 }
 
 // The newest number becomes s.

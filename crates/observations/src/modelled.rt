@@ -1,4 +1,5 @@
-// A model and an observation store for as many items as it has.
+// A model and an observation store for as many items as it has. It lends its Store: with one of its own, which can't be
+// Copy, each function would take it by reference.
 ghost use Rattle.std.specs.Prelude.{◌≡◌};
 ghost use Rattle.spec.specs.Model.{items};
 ghost use Rattle.history.specs.Observations.{item_count};

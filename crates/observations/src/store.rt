@@ -8,7 +8,7 @@ ghost use Rattle.history.specs.Observations.{latest_at, checkpoint_at, item_row,
 ghost use Rattle.spec.specs.Words.{row};
 ghost use Rattle.history.specs.Calls.{first};
 ghost use Rattle.observations.specs.Headed.{Headed};
-ghost use Rattle.observations.specs.Ring.{ring_word};
+ghost use Rattle.observations.specs.Ring.{ring_word, overwritten_at};
 ghost use Rattle.observations.specs.Rows.{words_of};
 
 use super::{BASE_AT, ITEM_COUNT_AT, LAST_AT, RING_AT, RING_SIZE_AT, Row, Table, head_ok};
@@ -83,6 +83,7 @@ impl<'a> Store<'a> {
     // The newest number.
     pub fn last(&self) -> u64
         ensures is { result ≡ last self.now }
+        ensures low { base self.now ≤ result + 1 }
         ensures high { result ≤ max_number }
     {
         self.words[LAST_AT]
@@ -94,7 +95,7 @@ impl<'a> Store<'a> {
         ensures low { base self.now ≤ result }
         ensures high { result ≤ last self.now + 1 }
     {
-        let next = self.words[LAST_AT] + 1;
+        let next = self.last() + 1;
         self.base().max(next.saturating_sub(self.ring_size()))
     }
 
@@ -113,6 +114,17 @@ impl<'a> Store<'a> {
         ensures { numbered (ring_size self.now) (base self.now) self.now s ≡ words_of result }
     {
         super::ring_row(self.words, self.ring_size(), self.place(s), s)
+    }
+
+    // What number s is about to overwrite, if the ring is full.
+    pub fn overwritten(&self, s: u64) -> Option<Row>
+        requires { base self.now ≤ s }
+        ensures { let n = ring_size self.now in
+            let b = base self.now in
+            result ≡ overwritten_at self.now n b s (place n b s) }
+    {
+        let p = self.place(s);
+        super::overwritten(self.words, self.ring_size(), self.base(), s, p)
     }
 
     // The packed words of k entries of the ring, from place p on.

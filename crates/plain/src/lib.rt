@@ -5,7 +5,7 @@
 
 ghost use Rattle.std.specs.Prelude.{◌≡◌, true, false, suc, ◌≤◌, ◌<◌, length, MatchOption, Ok};
 ghost use Rattle.spec.specs.Model.{max_items, items, category};
-ghost use Rattle.history.specs.Observations.{max_ring, Head, last, store_words, is_condition};
+ghost use Rattle.history.specs.Observations.{max_ring, Head, last, store_words, place, is_condition};
 ghost use Rattle.plain.specs.Short.{InRing, put_number, may_evict, evicted_in, room_in, added_in};
 
 use model::Words;
@@ -26,24 +26,22 @@ pub fn put_number(st: &mut [u64], n: u64, m: u64, p: u64, item: u64, row: Row)
     observations::set_last(st, row.number);
 }
 
-// The entry that number s is about to overwrite, if any, goes to its item's checkpoint as its one row. None, and
+// The entry at place p that number s is about to overwrite, if any, goes to its item's checkpoint as its one row. None, and
 // nothing is changed, where it has no item of the model or one with conditions.
-fn evict_plain(model: &Words<'_>, st: &mut [u64], n: u64, b: u64, s: u64) -> Option<()>
+fn evict_plain(model: &Words<'_>, st: &mut [u64], n: u64, b: u64, s: u64, p: u64) -> Option<()>
     requires in_ring { InRing n (items model.now) b s st.old }
+    requires p_value { (p ≡ place n b s) × (p < n) }
     ensures { MatchOption result (st.new ≡ st.old)
         (λ _. (may_evict model.now n b s st.old ≡ true) × (st.new ≡ evicted_in model.now n b s st.old)) }
 {
-    if s - b < n {
+    let Some(evicted) = observations::overwritten(st, n, b, s, p) else {
         return Some(());
-    }
-    let m = model.items();
-    let at = observations::place(n, b, s);
-    let evicted = observations::ring_row(st, n, at, s - n);
+    };
     let item = value::item_of(evicted.packed);
     if model.category_at(item)? == spec::CONDITION {
         return None;
     }
-    let checkpoint = observations::checkpoint_table(n, m);
+    let checkpoint = observations::checkpoint_table(n, model.items());
     observations::put_row(st, checkpoint, spec::ENTRIES * item, evicted);
     Some(())
 }
@@ -65,8 +63,8 @@ pub fn add_plain(model: &Words<'_>, st: &mut [u64], item: u64, time: u64, word: 
     if spec::MAX_NUMBER < s {
         return None;
     }
-    evict_plain(model, st, n, b, s)?;
-    let p = observations::place(n, b, s);
+    let p = before.place(s);
+    evict_plain(model, st, n, b, s, p)?;
     let row = Row {
         number: s,
         time,

@@ -37,17 +37,14 @@ fn may_overwrite(source: Modelled<'_>, word: u64) -> bool
 pub fn room_for(source: Modelled<'_>) -> Result<(), Refusal>
     ensures { result ≡ room_in source.entry.model.now source.entry.store.now }
 {
-    let words = source.store.slice();
-    let n = source.store.ring_size();
     let last = source.store.last();
     if spec::MAX_NUMBER <= last {
         return Err(Refusal::Spent);
     }
-    if last + 1 - source.store.base() < n {
+    let Some(evicted) = source.store.overwritten(last + 1) else {
         return Ok(());
-    }
-    let p = source.store.place(last + 1);
-    if !may_overwrite(source, observations::ring_word(words, n, p)) {
+    };
+    if !may_overwrite(source, evicted.packed) {
         return Err(Refusal::Store);
     }
     Ok(())

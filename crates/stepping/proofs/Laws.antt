@@ -114,15 +114,16 @@ module _ (st : List ℕ) (t w k : ℕ) (inside : k + 8 ≤ w) (room : t + 3 * w 
 
   -- where h is the change that the marks give, the step of the rows is put
   pub step-put : (own : ℕ) → form_ok own 0 rows ≡ true → {ms : List ℕ} → ms ≡ marks_of own 1 rows
-      → h ≡ change_for own ms word → {a b d : List ℕ}
-      → a ≡ sets st (t + k) (changed 0 h number (eight_at st (t + k)))
-      → b ≡ sets a (t + k + w) (changed 0 h time (eight_at a (t + k + w)))
-      → d ≡ sets b (t + k + w + w) (changed 0 h word (eight_at b (t + k + w + w)))
+      → h ≡ change_for own ms word → {at : List ℕ} → at ≡ (t + k) ∷ (t + k + w) ∷ (t + k + w + w) ∷ []
+      → {a b d : List ℕ}
+      → a ≡ sets st (get_or at 0 0) (changed 0 h number (eight_at st (get_or at 0 0)))
+      → b ≡ sets a (get_or at 1 0) (changed 0 h time (eight_at a (get_or at 1 0)))
+      → d ≡ sets b (get_or at 2 0) (changed 0 h word (eight_at b (get_or at 2 0)))
       → d ≡ put_rows st t w k (padded 8 (step own (used_rows rows) new))
-  step-put own form is e ea eb ed =
+  step-put own form is e places ea eb ed =
       let three = rows-three st t w 8 k in
       let q : changed unused h new rows ≡ padded 8 (step own (used_rows rows) new) =
       rw e (rows-stepped own rows (rows-many st t w 8 k) three form is new) in
       let f : Threes (changed unused h new rows) =
       rw q (padded-threes 8 _ (step-three own (used_rows rows) new refl (used-three rows three))) in
-      columns-changed ea eb ed f ∙ ap (put_rows st t w k) q
+      columns-changed (rw places at ea) (rw places at eb) (rw places at ed) f ∙ ap (put_rows st t w k) q

@@ -50,9 +50,7 @@ pub fn step(st: &mut [u64], table: Table, k: u64, own: u64, row: Row)
         unreachable!()
     };
     let change = changes::change_for(&filled.marks, own, row.packed);
-    let numbers = (table.at + k) as usize;
-    let times = numbers + (table.rows as usize);
-    let words = times + (table.rows as usize);
+    let [numbers, times, words] = table.columns(k);
     change_front(&mut st[numbers..numbers + ENTRY_SLOTS], change, row.number);
     change_front(&mut st[times..times + ENTRY_SLOTS], change, row.time);
     change_front(&mut st[words..words + ENTRY_SLOTS], change, row.packed);

@@ -13,7 +13,10 @@ evict_plain-requires c =
     let n = rw c.of_model-before.ensures.0 at c.ring_size-n.ensures.is in
     let b = rw c.of_model-before.ensures.0 at c.base-b.ensures in
     let l = rw c.of_model-before.ensures.0 at c.last-s.ensures.is in
-    record { in_ring = next-ring n b l c.requires.head }
+    record {
+      in_ring = next-ring n b l c.requires.head;
+      p_value = (rw (c.ring_size-n.ensures.is, c.base-b.ensures) c.place-p.ensures.is, rw c.ring_size-n.ensures.is c.place-p.ensures.low);
+    }
 
 pub returns-in_err-evict_plain : goal.returns-in_err-evict_plain
 returns-in_err-evict_plain c =
@@ -24,7 +27,7 @@ put_number-requires c =
     let x = rw c.in_ok-evict_plain.was at c.evict_plain.ensures in
     let n = rw c.of_model-before.ensures.0 at c.ring_size-n.ensures.is in
     record {
-      p_lt_n = (c.place-p.ensures.low, omega arith);
+      p_lt_n = (rw c.ring_size-n.ensures.is c.place-p.ensures.low, omega arith);
       item_lt_m = (omega (arith, c.requires.item_bound.0), omega arith);
       st_len = rw (x.1, n, c.items-m.ensures.0) (length-evict _ _ _ _ _ _ ∙ c.requires.head.len);
     }
@@ -40,6 +43,6 @@ returns c =
     newest-row (category c.args.model.now) _ _ _ _ _ refl _ _ (eqb-false _ 2 c.requires.item_bound.1) refl in
     let after =
     added_next _ _ _ _ _ _ _ _ _ _ n b l
-    (numbered _ _ _ _ _ _ _ _ _ _ _ _ x.1 c.place-p.ensures.is row
+    (numbered _ _ _ _ _ _ _ _ _ _ _ _ x.1 (rw (c.ring_size-n.ensures.is, c.base-b.ensures) c.place-p.ensures.is) row
     (rw c.items-m.ensures.0 at c.put_number.ensures)) in
     (rw l (add-one _), (room, after))
