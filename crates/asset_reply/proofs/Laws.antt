@@ -5,8 +5,10 @@ use mathlib.Core.Bool.{Bool, true, false}
 use mathlib.Core.List.{List, [], ◌∷◌, ◌++◌}
 use native.Mathlib.Numerals.{add-one}
 use native.Mathlib.Omega.{arith}
-use lib.ListN.{length, get_or, set, take, drop, length-set, length-append, length-drop, drop_of_length-le}
-use lib.Seq.{sets, drop-cons, append_snoc}
+use lib.ListN.{length, get_or, set, take, drop, length-set, length-append, drop_of_length-le}
+use Rattle.std.specs.List.{list_all}
+use Rattle.std.proofs.lemmas.List.{get_or_default}
+use lib.Seq.{length-sets, sets-eq, sets, drop-cons, append_snoc}
 use Rattle.spec.specs.Assets.{max_assets, capacity, used, length_at, length_ok}
 use Rattle.asset_reply.specs.Cells.{Cells}
 use Rattle.spec.specs.Reply.{refuse, numbers, lengths, written, asset_words, asset_reply}
@@ -15,7 +17,7 @@ use Rattle.spec.specs.declared.Refusal.TheVariants.{Store, Space}
 use Rattle.std.specs.Prelude.{Ok, Err}
 use Rattle.spec.proofs.Reply.{length-numbers, length-lengths}
 use Rattle.reply.specs.Fitted.{Fitted}
-use Rattle.reply.proofs.Laws.{sets-set, short, whole}
+use Rattle.reply.proofs.Laws.{short, whole}
 
 -- ---- rows of cells
 
@@ -33,57 +35,54 @@ module _ (cells : List ℕ) {k : ℕ} (many : length cells ≡ k) where
   pub no_cell : (i : ℕ) → k ≤ i → drop i cells ≡ []
   no_cell i h = drop_of_length-le cells {i = i} (omega arith)
 
--- a turn of a loop that tests cells: whole is what it is to answer, rest are those that it has not tested
-module _ (p : ℕ → Bool) (whole : Bool) {rest : List ℕ} (is : whole ≡ all_cells p rest) where
-  pub test-no : {c : ℕ} {more : List ℕ} → rest ≡ c ∷ more → p c ≡ false → false ≡ whole
-  unfolding all_cells
-  test-no s e = sym (is ∙ rw (s, e))
+-- all cells, in the library's words
+pub cells-all : (p : ℕ → Bool) (cells : List ℕ) → list_all p cells ≡ all_cells p cells
+unfolding all_cells
+cells-all p [] = refl
+cells-all p (c ∷ cells) = rw (cells-all p cells)
 
-  pub test-yes : {c : ℕ} {more : List ℕ} → rest ≡ c ∷ more → p c ≡ true → whole ≡ all_cells p more
-  unfolding all_cells
-  test-yes s e = is ∙ rw (s, e)
+-- a word that stands at a place of the cells is one of the store's
+pub below-at : {bs cells : List ℕ} → Cells bs cells → (x k : ℕ) → k < length cells → x ≡ get_or cells k x
+    → x < capacity bs
+below-at {cells = cells} h x k l e = rw (e, get_or_default cells k x 0 l) (h.below k l)
 
-  pub test-end : rest ≡ [] → true ≡ whole
-  unfolding all_cells
-  test-end s = sym (is ∙ rw s)
+-- the cells are their rows' numbers
+numbers-are : (bs cells : List ℕ) → numbers (cell_rows bs cells) ≡ cells
+unfolding numbers cell_rows
+numbers-are bs [] = refl
+numbers-are bs (c ∷ cells) = ap (λ (l : List ℕ). c ∷ l) (numbers-are bs cells)
 
--- two runs of words: what the first word of each leaves to store
-two-more : (l : List ℕ) (i q c x : ℕ) (C L : List ℕ) → suc i + length C ≤ q
-    → sets (sets l i (c ∷ C)) q (x ∷ L) ≡ sets (sets (set (set l i c) q x) (i + 1) C) (q + 1) L
-two-more l i q c x C L h =
-    rw (add-one i, add-one q) (ap (λ (y : List ℕ). sets y (suc q) L) (sym (sets-set C (set l i c) (suc i) q x h)))
-
--- a turn of a loop that writes k cells from word 0 and their lengths from word k: l is what it has of o
+-- a turn of a loop that writes the lengths of k cells from word k, behind the cells: l is what it has of o
 pub record Writing (bs cells : List ℕ) (k : ℕ) (o l : List ℕ) (i : ℕ) : Type 0 where
-  pub below : i ≤ k
   pub size : length l ≡ length o
   pub all : sets (sets o 0 (numbers (cell_rows bs cells))) k (lengths (cell_rows bs cells))
-      ≡ sets (sets l i (numbers (cell_rows bs (drop i cells)))) (k + i) (lengths (cell_rows bs (drop i cells)))
+      ≡ sets l (k + i) (lengths (cell_rows bs (drop i cells)))
+
+-- the cells are copied: v is the front as it comes back
+pub writing-none : (bs cells o v : List ℕ) → v ≡ cells → length cells ≤ length o
+    → Writing bs cells (length cells) o (v ++ drop (length cells) o) 0
+writing-none bs cells o v e h =
+    let y : 0 + length cells ≡ length cells = omega arith in
+    let z : length cells + 0 ≡ length cells = omega arith in
+    let put : sets o 0 cells ≡ cells ++ drop (length cells) o = sets-eq cells o 0 (omega arith) ∙ rw y in
+    record {
+      size = rw (e, ← put) (length-sets o 0 cells);
+      all = rw (numbers-are bs cells, e, ← put, z) refl;
+    }
 
 module _ {bs cells o l : List ℕ} {k i : ℕ} (w : Writing bs cells k o l i) (many : length cells ≡ k) where
   pub writing_more : i < k → (c n : ℕ) → get_or cells i 0 ≡ c → n ≡ length_at bs c
-      → Writing bs cells k o (set (set l i c) (k + i) n) (i + 1)
-  unfolding numbers lengths cell_rows
+      → Writing bs cells k o (set l (k + i) n) (i + 1)
+  unfolding lengths cell_rows
   writing_more h c n is e =
-      let more = cell_rows bs (drop (i + 1) cells) in
-      let z : k + (i + 1) ≡ k + i + 1 = omega arith in
+      let z : k + (i + 1) ≡ suc (k + i) = omega arith in
       record {
-        below = omega arith;
         size = simp length-set w.size;
-        all =
-            w.all
-            ∙ rw (next-cell cells many i h is, ← e, z)
-            (two-more l i (k + i) c n (numbers more) (lengths more)
-            (omega (
-              arith,
-              length-numbers more,
-              length-rows bs (drop (i + 1) cells),
-              length-drop (i + 1) cells,
-            )));
+        all = w.all ∙ rw (next-cell cells many i h is, ← e, z) refl;
       }
 
   pub writing-end : k ≤ i → l ≡ sets (sets o 0 (numbers (cell_rows bs cells))) k (lengths (cell_rows bs cells))
-  unfolding numbers lengths cell_rows
+  unfolding lengths cell_rows
   writing-end h = sym (w.all ∙ rw (no_cell cells many i h))
 
 -- ---- the reply of k cells whose lengths are right

@@ -1,10 +1,10 @@
 // The reply of cells of the asset store, and of all of them, newest first.
 #![tactic(auto)]
 
-ghost use Rattle.std.specs.Prelude.{◌≡◌, ◌*◌, ◌≤◌, true, false, length, MatchResult};
+ghost use Rattle.std.specs.Prelude.{◌≡◌, ◌*◌, ◌≤◌, ◌<◌, true, false, length, MatchResult};
 ghost use Rattle.std.proofs.lemmas.List.Edits.{sets};
 ghost use Rattle.spec.specs.declared.Refusal.TheVariants.{Store};
-ghost use Rattle.spec.specs.Assets.{max_assets, used, length_at, length_ok};
+ghost use Rattle.spec.specs.Assets.{max_assets, capacity, used, length_at, length_ok};
 ghost use Rattle.spec.specs.Reply.{numbers, lengths};
 ghost use Rattle.history.specs.Calls.{cell_rows, all_cells, cells_reply, down_from};
 ghost use Rattle.asset_reply.specs.Cells.{Cells};
@@ -20,10 +20,13 @@ fn check_lengths(assets: &Assets, cells: &[u64]) -> Result<(), Refusal>
     ensures { let right = all_cells (λ i. length_ok (length_at assets.now i)) cells.now in
         MatchResult result (λ _. right ≡ true) (λ r. (r ≡ Store) × (right ≡ false)) }
 {
-    for cell in cells {
-        if !assets::length_ok(assets.length_at(*cell)) {
-            return Err(Refusal::Store);
-        }
+    let right = cells.iter().all(
+        |cell|
+            requires { cell.now < capacity assets.now }
+        { assets::length_ok(assets.length_at(*cell)) },
+    );
+    if !right {
+        return Err(Refusal::Store);
     }
     Ok(())
 }
@@ -36,8 +39,8 @@ fn write_cells(assets: &Assets, cells: &[u64], out: &mut [u64])
         out.new ≡ sets (sets out.old 0 (numbers rows)) (length cells.now) (lengths rows) }
 {
     let k = cells.len();
+    out[..k].copy_from_slice(cells);
     for (i, cell) in cells.iter().enumerate() {
-        out[i] = *cell;
         out[k + i] = assets.length_at(*cell);
     }
 }

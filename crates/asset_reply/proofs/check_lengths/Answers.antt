@@ -1,26 +1,29 @@
-use mathlib.Core.Path.{refl, sym, ap, ◌∙◌}
-use native.Mathlib.Omega.{arith}
-use Rattle.spec.specs.Assets.{length_ok}
-use Rattle.asset_reply.proofs.Laws.{next-cell, no_cell, test-no, test-yes, test-end}
+-- The library tests the cells, each of them one of the store's.
+use Rattle.std.proofs.Common.{refl, sym, rules, tests, ◌∙◌}
+use Rattle.std.proofs.lemmas.Iterator.{YieldsList-from_slice}
+use Rattle.std.proofs.lemmas.Iterator.Adapters.{serves_from_places}
+use Rattle.std.proofs.lemmas.Iterator.Search.{all_from_yields_List}
+use Rattle.spec.specs.Assets.{length_at, length_ok}
+use Rattle.asset_reply.proofs.Laws.{cells-all, below-at}
 use Rattle.asset_reply.proofs.check_lengths.Goals as goal
 
-pub length_at-requires : goal.length_at-requires
-length_at-requires c = c.requires.below _ (omega arith)
+pub all-right-requires-clause-callable : goal.all-right-requires-clause-callable
+all-right-requires-clause-callable c =
+    serves_from_places (YieldsList-from_slice c.args.cells.now cc) (λ x q h. search rules)
+    (λ x k l e. below-at c.requires x.now k l e)
 
-pub returns-then-not-length_ok : goal.returns-then-not-length_ok
-returns-then-not-length_ok c = (
+pub returns-then-not-right : goal.returns-then-not-right
+returns-then-not-right c = (
   refl,
-  sym (test-no _ _ c.loop-cell.invariant
-      (next-cell c.args.cells.now refl _ (omega arith) refl)
-      (sym (c.length_ok.ensures ∙ ap length_ok c.length_at.ensures.value) ∙ c.if-not-length_ok.true)),
+  sym (all_from_yields_List (λ i. length_ok (length_at c.args.assets.now i)) _ _ _ c.all-right.ensures.ran
+      (YieldsList-from_slice c.args.cells.now cc) (λ x b q k. search (rules, tests))
+      ∙ cells-all _ _)
+      ∙ c.if-not-right.true,
 )
-
-pub loop-cell-preserved : goal.loop-cell-preserved
-loop-cell-preserved c =
-    test-yes _ _ c.loop-cell.invariant
-    (next-cell c.args.cells.now refl _ (omega arith) refl)
-    (sym (c.length_ok.ensures ∙ ap length_ok c.length_at.ensures.value) ∙ c.if-not-length_ok.false)
 
 pub returns : goal.returns
 returns c =
-    sym (test-end _ _ c.loop-cell.invariant (no_cell c.args.cells.now refl _ (omega arith)))
+    sym (all_from_yields_List (λ i. length_ok (length_at c.args.assets.now i)) _ _ _ c.all-right.ensures.ran
+    (YieldsList-from_slice c.args.cells.now cc) (λ x b q k. search (rules, tests))
+    ∙ cells-all _ _)
+    ∙ c.if-not-right.false

@@ -1,7 +1,11 @@
 use mathlib.Core.Path.{refl}
 use native.Mathlib.Omega.{arith}
-use Rattle.asset_reply.proofs.Laws.{writing_more, writing-end}
+use Rattle.asset_reply.proofs.Laws.{writing-none, writing_more, writing-end}
 use Rattle.asset_reply.proofs.write_cells.Goals as goal
+
+pub loop-i-init : goal.loop-i-init
+loop-i-init c =
+    writing-none _ _ _ _ c.copy_from_slice.ensures.after (omega arith)
 
 pub loop-i-preserved : goal.loop-i-preserved
 loop-i-preserved c =

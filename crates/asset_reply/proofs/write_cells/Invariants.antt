@@ -1,6 +1,6 @@
--- What is left to write from i on makes the whole.
+-- The cells are written, and the lengths before place i.
 use Rattle.asset_reply.proofs.Laws.{Writing}
 use Rattle.asset_reply.proofs.write_cells.Given as goal
 
 abbrev pub invariant-loop-i : goal.invariant-loop-i
-invariant-loop-i l = Writing l.assets l.cells l.k l.initial.out l.out l.i
+invariant-loop-i l = Writing l.assets l.cells l.k l.fn.out l.out l.i
