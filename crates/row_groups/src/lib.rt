@@ -3,10 +3,10 @@
 
 ghost use Rattle.std.specs.Prelude.{true, false, [], ◌∷◌, ◌++◌, ◌≡◌, ◌<◌, take, get_or, MatchResult};
 ghost use Rattle.spec.specs.declared.Refusal.TheVariants.{Store as Refused};
-ghost use Rattle.spec.specs.Model.{letters};
+ghost use Rattle.spec.specs.Model.{letters, items, item_word, component_of, category_of};
 ghost use Rattle.spec.specs.Reply.{rows_of};
 ghost use Rattle.streams.specs.Groups.{group_number};
-ghost use Rattle.streams.specs.Streams.{row_in, reply_ok, each, groups, group_name, group_lines, ended};
+ghost use Rattle.streams.specs.Streams.{row_in, reply_ok, group_of, each, groups, group_name, group_lines, ended};
 ghost use Rattle.writer.specs.Puts.{Put};
 ghost use Rattle.row_groups.specs.Groups.{reply_rows, kept, kept_text, filled, any_kept};
 ghost use Rattle.row_groups.specs.Groups.{Marked, Placed};
@@ -19,34 +19,43 @@ use std::marker::Model;
 use streams::{GROUPS, Group};
 use writer::Output;
 
-const GROUP_SLOTS: usize = GROUPS as usize;
-
 const COMPONENT_SLOTS: usize = spec::MAX_COMPONENTS as usize;
 
-// A mark for each group of each component.
-type Marks = [[bool; GROUP_SLOTS]; COMPONENT_SLOTS];
+// For each group of each component whether it has rows.
+type Present = [[bool; GROUPS]; COMPONENT_SLOTS];
 
 // ---- which groups have rows
 
-// Where a group's mark stands among a component's.
-fn mark_of(g: Group) -> usize
+// Where a group stands among a component's.
+fn slot_of(g: Group) -> usize
     ensures { (result ≡ group_number g) × (result < groups) }
 {
     g as usize
 }
 
+// The component and the group that an item's rows stand in.
+fn home_of(model: &Words<'_>, item: u64) -> (u64, Group)
+    requires { item < items model.now }
+    ensures component { result.0 ≡ component_of (item_word model.now item) }
+    ensures group { group_number result.1 ≡ group_of (category_of (item_word model.now item)) }
+{
+    let word = model.item_word(item);
+    (
+        model::component_of(word),
+        group_of(model::category_of(word)),
+    )
+}
+
 // Whether each group of each component has rows.
-fn groups_present(model: &Words<'_>, reply: &Reply<'_>) -> Marks
+fn groups_present(model: &Words<'_>, reply: &Reply<'_>) -> Present
     requires { Placed model.now reply.now }
     ensures { Marked model.now (reply_rows reply.now) result }
 {
-    let mut present = [[false; GROUP_SLOTS]; COMPONENT_SLOTS];
+    let mut present = [[false; GROUPS]; COMPONENT_SLOTS];
     for i in 0..reply.rows() {
         let item = value::item_of(reply.row_at(i).packed);
-        let word = model.item_word(item);
-        let c = model::component_of(word);
-        let g = group_of(model::category_of(word));
-        present[c as usize][mark_of(g)] = true;
+        let (c, g) = home_of(model, item);
+        present[c as usize][slot_of(g)] = true;
     }
     present
 }
@@ -88,7 +97,7 @@ fn put_tag(before: &[u8], g: Group, out: &mut Output)
 pub struct Document<'a> {
     pub model: Named<'a>,
     pub reply: Reply<'a>,
-    present: Marks,
+    present: Present,
 }
 
 impl<'a> Model for Document<'a> {
@@ -132,16 +141,16 @@ impl<'a> Document<'a> {
     {
         self.present
             .get(c as usize)
-            .is_some_and(|groups| groups[mark_of(g)])
+            .is_some_and(|groups| groups[slot_of(g)])
     }
 
     // Whether component c has rows.
     pub fn has_rows(&self, c: u64) -> bool
         ensures { result ≡ any_kept self.now.model c (reply_rows self.now.reply) }
     {
-        self.is_marked(c, Group::Samples)
-            || self.is_marked(c, Group::Events)
-            || self.is_marked(c, Group::Condition)
+        self.present
+            .get(c as usize)
+            .is_some_and(|groups| groups.contains(&true))
     }
 
     // Row i's line, if its item is of component c and group g.
@@ -153,8 +162,8 @@ impl<'a> Document<'a> {
             out.new }
     {
         let item = value::item_of(self.reply.row_at(i).packed);
-        let word = self.model.words.item_word(item);
-        if model::component_of(word) == c && group_of(model::category_of(word)) == g {
+        let (component, group) = home_of(&self.model.words, item);
+        if component == c && group == g {
             let t = name_text(self.model.item_cell(item));
             // read again, so that a row that isn't written costs its packed word alone
             put_row(out, g, t, &self.reply.row_at(i));

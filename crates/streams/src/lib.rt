@@ -10,4 +10,4 @@ pub enum Group {
 }
 
 // How many groups there are.
-pub const GROUPS: u64 = 3;
+pub const GROUPS: usize = 3;
