@@ -57,10 +57,10 @@ module _ (cat : ℕ → ℕ) (n m b s p w : ℕ) (st : List ℕ) (hp : p ≡ pla
       )
 
   module _ (i : ℕ) (hi : i ≡ item_of w) (u : n ≤ s - b) where
-    pub evicted : (e : List ℕ) (t : ℕ) → t ≡ ring_time st n p
-        → e ≡ set_newest cat st (checkpoint_at n m) m i ((s - n) ∷ t ∷ w ∷ []) → e ≡ evict cat n m b s st
+    pub evicted : (e : List ℕ) (k t : ℕ) → k ≡ s - n → t ≡ ring_time st n p
+        → e ≡ set_newest cat st (checkpoint_at n m) m i (k ∷ t ∷ w ∷ []) → e ≡ evict cat n m b s st
     unfolding evict row
-    evicted e t ht q = rw (le-leb _ _ u, q, ht, hi, hw, hp)
+    evicted e k t hk ht q = rw (le-leb _ _ u, q, hk, ht, hi, hw, hp)
 
     -- as its one row, where its item has no conditions
     pub plain-evicted : (e : List ℕ) (time rows t : ℕ) → i < m → cat i ≢ 2 → rows ≡ 8 * m → t ≡ checkpoint_at n m
@@ -68,7 +68,7 @@ module _ (cat : ℕ → ℕ) (n m b s p w : ℕ) (st : List ℕ) (hp : p ≡ pla
         → (evict_ok cat n m b s st ≡ true) × (e ≡ evict cat n m b s st)
     plain-evicted e time rows t l c er et ht q = (
       by_word u ∙ sym (over_plain cat n m st w i hi l c),
-      evicted e time ht (newest-row cat st (checkpoint_at n m) m rows i er _ e c (rw et at q)),
+      evicted e (s - n) time refl ht (newest-row cat st (checkpoint_at n m) m rows i er _ e c (rw et at q)),
     )
 
 pub not-evicted : (cat : ℕ → ℕ) (n m b s : ℕ) (st : List ℕ) → s - b < n → st ≡ evict cat n m b s st

@@ -17,8 +17,8 @@ set_newest-requires c =
 pub returns-in-Some : goal.returns-in-Some
 returns-in-Some c =
     let there = some-overwritten _ _ _ _ _ (sym c.in-Some.is ∙ c.overwritten.ensures) in
-    evicted _ _ _ _ _ _ _ _ c.requires.p_value.0 there.1.1.1 _ c.item_of-item.ensures there.0 _ _ there.1.1.0
-    (rw (there.1.0, c.checkpoint_at-checkpoint.ensures, c.items.ensures.0) at c.set_newest.ensures)
+    evicted _ _ _ _ _ _ _ _ c.requires.p_value.0 there.1.1.1 _ c.item_of-item.ensures there.0 _ _ _ there.1.0 there.1.1.0
+    (rw (c.checkpoint_at-checkpoint.ensures, c.items.ensures.0) at c.set_newest.ensures)
 
 pub returns-in_default : goal.returns-in_default
 returns-in_default c =
