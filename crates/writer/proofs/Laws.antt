@@ -8,8 +8,8 @@ use native.Mathlib.Numerals.{add-one}
 use native.Mathlib.Omega.{arith}
 use lib.Dec.{leb, lit<}
 use borrow.Author.Tests.{leb-true, leb-false, eq-eqb, ne_eqb}
-use lib.ListN.{length, get_or, set, take, drop, replicate, length-set, length-append, length-drop}
-use lib.Seq.{sets, set_out, take-suc, take_all, length-sets}
+use lib.ListN.{length, set, take, drop, replicate, length-set, length-append, length-drop}
+use lib.Seq.{sets, set_out, take_all, length-sets}
 use Rattle.std.proofs.lemmas.List.{drop-set}
 use Rattle.spec.specs.Bytes.{decimal}
 use Rattle.lines.specs.Digits.{fixed}
@@ -28,6 +28,14 @@ sets-append o at (x ∷ s) t =
 pub sets-out : (o : List ℕ) (at : ℕ) (s : List ℕ) → length o ≤ at → sets o at s ≡ o
 sets-out o at [] h = refl
 sets-out o at (x ∷ s) h = rw (set_out o at x h) (sets-out o (suc at) s (omega arith))
+
+-- what comes behind the buffer's end changes nothing of it
+pub sets-room : (n : ℕ) (o : List ℕ) (at : ℕ) (s : List ℕ) → length o ≤ at + n → sets o at (take n s) ≡ sets o at s
+sets-room zero o at s h = sym (sets-out o at s (omega arith))
+sets-room (suc n) o at [] h = refl
+sets-room (suc n) o at (x ∷ s) h =
+    let k = length-set o at x in
+    sets-room n (set o at x) (suc at) s (omega arith)
 
 pub put-none : (a : Output) → length a.bytes.now ≤ stop → Put a [] a
 put-none a h = record { same = refl; short = h; stands = refl; place = omega arith }
@@ -56,21 +64,6 @@ module _ {a : Output} {s : List ℕ} {b : Output} {t : List ℕ} {e : Output} (p
             sets-out (sets a.bytes.now a.at s) b.at t (omega (arith, p.short)),
             sets-out (sets a.bytes.now a.at s) (a.at + length s) t (omega (arith, p.short)),
           )
-
--- ---- the bytes of a list, from the front on
-
--- i bytes of s are put
-pub record Putting (entry : Output) (s : List ℕ) (i : ℕ) (exit : Output) : Type 0 where
-  pub inside : i ≤ length s
-  pub done : Put entry (take i s) exit
-
-module _ {a : Output} {s : List ℕ} {i : ℕ} {b : Output} (r : Putting a s i b) where
-  pub putting-more : {e : Output} → i < length s → Put b (get_or s i 0 ∷ []) e → Putting a s (i + 1) e
-  putting-more h q =
-      record {
-        inside = omega arith;
-        done = rw (add-one i, take-suc s i 0 h) (put-append r.done q);
-      }
 
 -- ---- the last k digits of a number, from the last one on
 
