@@ -176,7 +176,7 @@ impl<'a> Store<'a> {
 // The store of m items, or the refusal Store. Why no trait has this: model::checked. No function tests model and store
 // at once, which is no plainer: who writes the store lets the Store go behind its test, so a pair that callers take
 // apart would save one of two lines, each of which is one refusal.
-pub fn checked<'a>(words: &'a [u64], m: u64) -> Result<Store<'a>, Refusal>
+pub fn checked(words: &[u64], m: u64) -> Result<Store<'_>, Refusal>
     requires { m ≤ max_items }
     ensures { MatchResult result
         (λ s. (s ≡ words.entry.now) × (head_ok m words.entry.now ≡ true))
