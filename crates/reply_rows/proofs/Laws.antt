@@ -3,7 +3,7 @@ use Rattle.std.specs.Prelude.{Option, Some, None, MatchOption}
 use Prim.Native.Nat.{ℕ, suc, ◌+◌, ◌*◌, ◌/◌, ◌%◌, ◌^◌, ◌≤◌, ◌<◌}
 use mathlib.Core.Path.{◌≡◌, refl, sym, ap, ◌∙◌}
 use mathlib.Core.Logic.{◌≢◌}
-use mathlib.Core.Bool.{Bool, true, false, ◌&&◌, ◌||◌, not, or-false}
+use mathlib.Core.Bool.{Bool, true, false, ◌&&◌, ◌||◌, not}
 use mathlib.Core.List.{List}
 use native.Mathlib.Omega.{arith}
 use lib.Dec.{leb, eqb}
@@ -29,14 +29,24 @@ module _ (reply : List ℕ) where
 -- ---- a value's word
 
 module _ (c word : ℕ) where
-  pub word_none : word / 2 ^ 32 ≡ 0 → eqb (word % 2 ^ 32) 0 ≡ word_ok c word
+  pub word_none : word ≡ 0 → eqb word 0 ≡ word_ok c word
   unfolding word_ok
-  word_none e = rw (e, ne_eqb 0 (suc (group_of c)) (λ z. omega arith)) (sym (or-false _))
+  word_none e = rw e refl
+
+  -- a word that is not 0 is no Unavailable
+  other : word ≢ 0 → eqb (word / 2 ^ 32) 0 && eqb (word % 2 ^ 32) 0 ≡ false
+  other n = go (eqb (word / 2 ^ 32) 0) refl
+    where
+      go : (b : Bool) → eqb (word / 2 ^ 32) 0 ≡ b → b && eqb (word % 2 ^ 32) 0 ≡ false
+      go true e =
+          let z = eqb-true (word / 2 ^ 32) 0 e in
+          ne_eqb (word % 2 ^ 32) 0 (λ r. n (omega arith))
+      go false e = refl
 
   -- the kind of Samples, and of Events
-  pub word-kind : (g : ℕ) → g ≡ group_of c → g < 2 → word / 2 ^ 32 ≢ 0 → eqb (word / 2 ^ 32) (suc g) ≡ word_ok c word
+  pub word-kind : (g : ℕ) → g ≡ group_of c → g < 2 → word ≢ 0 → eqb (word / 2 ^ 32) (suc g) ≡ word_ok c word
   unfolding word_ok
-  word-kind g e h n = rw (ne_eqb (word / 2 ^ 32) 0 n, ← e) (go (word / 2 ^ 32) g _ h)
+  word-kind g e h n = rw (other n, ← e) (go (word / 2 ^ 32) g _ h)
     where
       go : (k g : ℕ) (t : Bool) → g < 2 → eqb k (suc g) ≡ eqb k (suc g) && (not (eqb k 3) || t)
       go k g t h =
@@ -44,13 +54,25 @@ module _ (c word : ℕ) where
           (λ e. rw (e, ne_eqb k 3 (λ q. omega (arith, eqb-true k (suc g) e))))
           (λ e. and_left _ _ e)
 
-  pub word-level : 2 ≡ group_of c → word / 2 ^ 32 ≡ 3 → leb (word % 2 ^ 32 / 2 ^ 24) 2 ≡ word_ok c word
+  -- a condition's kind and its level, as one number
+  pub word-level : 2 ≡ group_of c → word ≢ 0 → {b : Bool}
+      → b ≡ leb 768 (word / 2 ^ 24) && leb (word / 2 ^ 24) 770 → b ≡ word_ok c word
   unfolding word_ok
-  word-level e t = rw (t, ← e)
-
-  pub word-other : 2 ≡ group_of c → word / 2 ^ 32 ≢ 0 → word / 2 ^ 32 ≢ 3 → eqb (word / 2 ^ 32) 3 ≡ word_ok c word
-  unfolding word_ok
-  word-other e n o = rw (ne_eqb (word / 2 ^ 32) 0 n, ← e, ne_eqb (word / 2 ^ 32) 3 o)
+  word-level e n f =
+      f ∙ rw (other n, ← e) (go (word / 2 ^ 24) (word / 2 ^ 32) (word % 2 ^ 32 / 2 ^ 24)
+      (λ h g. (omega arith, omega arith)) (λ h g. (omega arith, omega arith)))
+    where
+      go : (q k r : ℕ) → (768 ≤ q → q ≤ 770 → (k ≡ 3) × (r ≤ 2)) → (k ≡ 3 → r ≤ 2 → (768 ≤ q) × (q ≤ 770))
+          → leb 768 q && leb q 770 ≡ eqb k 3 && (not (eqb k 3) || leb r 2)
+      go q k r f g =
+          both_ways _ _
+          (λ e.
+          let h = f (leb-true 768 q (and_left (leb 768 q) _ e)) (leb-true q 770 (and_right (leb 768 q) _ e)) in
+          rw (h.0, le-leb r 2 h.1) refl)
+          (λ e.
+          let a = eqb-true k 3 (and_left (eqb k 3) _ e) in
+          let h = g a (leb-true r 2 (rw a at (and_right (eqb k 3) _ e))) in
+          rw (le-leb 768 q h.0, le-leb q 770 h.1) refl)
 
 -- ---- a packed word
 

@@ -135,15 +135,12 @@ fn word_ok(category: u64, word: u64) -> bool
     ensures { result ≡ word_ok category word }
 {
     let kind = word / value::KIND;
-    let low = word % value::KIND;
-    if kind == 0 {
-        return low == 0;
-    }
-    match group_of(category) {
-        Group::Samples => kind == value::SAMPLE_KIND,
-        Group::Events => kind == value::EVENT_KIND,
-        Group::Condition => kind == value::CONDITION_KIND && low / value::LEVEL <= value::TOP_LEVEL,
-    }
+    word == 0
+        || match group_of(category) {
+            Group::Samples => kind == value::SAMPLE_KIND,
+            Group::Events => kind == value::EVENT_KIND,
+            Group::Condition => (value::NORMAL..=value::FAULT).contains(&(word / value::LEVEL)),
+        }
 }
 
 // Whether a packed word has an item of the model, and a value that it can have.
@@ -152,7 +149,7 @@ fn packed_ok(model: &Words<'_>, word: u64) -> bool
 {
     model
         .category_at(value::item_of(word))
-        .is_some_and(|category| word_ok(category, word % value::ITEM))
+        .is_some_and(|category| word_ok(category, value::word_of(word)))
 }
 
 // Whether a document can be made of the reply: the test of refusal Store.
