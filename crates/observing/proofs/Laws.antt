@@ -70,3 +70,11 @@ module _ (k item : ℕ) (v : Value) where
   pub taken-some : {w : ℕ} → Some w ≡ taken k item v → (takes k v ≡ true) × (w ≡ pack item v)
   unfolding taken
   taken-some {w} e = let s = cond_some (takes k v) (pack item v) w (sym e) in (s.0, sym s.1)
+
+-- an item whose category takes the value: behind the checks of both
+pub taken-on : (model st : List ℕ) (item time : ℕ) (v : Value) → item < items model → (k : ℕ) → k ≡ category model item
+    → {w : ℕ} → Some w ≡ taken k item v
+    → observe_item model st item time v ≡ observed_by (category model) (items model) st item time w
+taken-on model st item time v h k ek {w} q =
+    let e = taken-some k item v q in
+    passed model st item time v h k ek refl e.0 w e.1

@@ -1,7 +1,7 @@
 -- One law to each way out; behind the checks, what is found decides.
 use mathlib.Core.Path.{refl, sym, ◌∙◌}
 use Rattle.spec.proofs.Refused.{handed-on, none-of}
-use Rattle.observing.proofs.Laws.{item_refused, kind-refused, passed, taken-none, taken-some}
+use Rattle.observing.proofs.Laws.{item_refused, kind-refused, taken-none, taken-on}
 use Rattle.observing.proofs.observe_item.Goals as goal
 
 pub returns-in_err-category : goal.returns-in_err-category
@@ -25,17 +25,12 @@ returns-in_err-word c =
 
 pub returns-in-Some : goal.returns-in-Some
 returns-in-Some c =
-    let z = c.args in
     let i = rw c.in_ok-category.ensures.ok_part at c.category_at.ensures in
-    let b = rw i.0 at c.taken.ensures in
-    let e = taken-some _ _ z.value (sym c.in_ok-word.ensures.ok_part ∙ b) in
-    rw (passed _ _ z.item _ z.value i.1 _ refl refl e.0 _ e.1) (c.observe_short.ensures.done _ c.in-Some.is)
+    rw (taken-on _ _ _ _ c.args.value i.1 _ i.0 (sym c.in_ok-word.ensures.ok_part ∙ c.taken.ensures))
+    (c.observe_short.ensures.done _ c.in-Some.is)
 
 pub returns-in-None : goal.returns-in-None
 returns-in-None c =
-    let z = c.args in
     let i = rw c.in_ok-category.ensures.ok_part at c.category_at.ensures in
-    let b = rw i.0 at c.taken.ensures in
-    let e = taken-some _ _ z.value (sym c.in_ok-word.ensures.ok_part ∙ b) in
-    rw (passed _ _ z.item _ z.value i.1 _ refl refl e.0 _ e.1)
+    rw (taken-on _ _ _ _ c.args.value i.1 _ i.0 (sym c.in_ok-word.ensures.ok_part ∙ c.taken.ensures))
     (rw (c.observe_short.ensures.left c.in-None.is) at c.observe_long.ensures)
