@@ -6,7 +6,7 @@ use mathlib.Core.List.{List, [], ◌∷◌, ◌++◌}
 use native.Mathlib.Omega.{arith}
 use borrow.Author.Tests.{leb-true, ltb-true, lt-ltb, le-ltb, eq-eqb, ne_eqb}
 use Rattle.spec.proofs.Found.{found-is, found-not}
-use lib.Dec.{leb, ltb}
+use lib.Dec.{leb, ltb, eqb}
 use lib.ListN.{length, set, take, drop, replicate, length-drop}
 use Rattle.std.proofs.lemmas.List.{drop-replicate}
 use lib.Seq.{drop-drop, take_all, length-take-le}
@@ -18,9 +18,11 @@ use Rattle.spec.specs.Assets.{AssetHead, asset_head_ok, start_assets, id_ok, len
 use Rattle.spec.specs.Assets.{length_at, body_place}
 use Rattle.spec.specs.Assets.{renew, used_after, out_for, cell_for, store_cells}
 use Rattle.spec.proofs.Assets.{given-up-max}
+use Rattle.scan.proofs.Laws.{same-is}
 use Rattle.assets.specs.Cells.{with_asset}
 use Rattle.std.specs.Prelude.{Option, Some, None, Result, Ok, Err, MatchResult}
 use Rattle.std.specs.Result.{result_ok}
+use Rattle.std.specs.Cmp.Lexicographic.{pointwise}
 use Rattle.std.specs.List.{position_or_len}
 use Rattle.std.specs.Simd.{first_chunks}
 use Rattle.spec.specs.Found.{found_below}
@@ -84,14 +86,15 @@ first-chunk q w (suc k) (suc u) xs h =
 -- the id cells are the first chunks behind the head, and each is compared with the id's own cell
 pub find-is : (bs id key rest : List ℕ) (k : ℕ) → id_ok id ≡ true → key ≡ id_cell id
     → rest ≡ drop ids_at bs → used bs ≤ k
-    → position_or_len (λ c. same c key) (take (used bs) (first_chunks id_bytes k rest)) ≡ find bs id
+    → position_or_len (λ c. pointwise eqb c key) (take (used bs) (first_chunks id_bytes k rest)) ≡ find bs id
 unfolding find
 find-is bs id key rest k h e d l =
-    let is : (i : ℕ) → same (take id_bytes (drop (id_bytes * i) rest)) key ≡ same (cell id_bytes ids_at i bs) (id_cell id) =
+    let is : (i : ℕ) → pointwise eqb (take id_bytes (drop (id_bytes * i) rest)) key
+    ≡ same (cell id_bytes ids_at i bs) (id_cell id) =
     λ i.
     rw (e, d, drop-drop (id_bytes * i) ids_at bs)
-    (ap (λ (j : ℕ). same (take id_bytes (drop j bs)) (id_cell id)) (omega arith)) in
-    first-chunk (λ c. same c key) id_bytes k (used bs) rest l
+    (same-is _ _ ∙ ap (λ (j : ℕ). same (take id_bytes (drop j bs)) (id_cell id)) (omega arith)) in
+    first-chunk (λ c. pointwise eqb c key) id_bytes k (used bs) rest l
     ∙ first-same _ (λ i. same (cell id_bytes ids_at i bs) (id_cell id)) is (used bs) 0
     ∙ rw h
 
@@ -100,7 +103,7 @@ pub found-cell : (bs id key rest : List ℕ) (ids cells : List (List ℕ)) (r : 
     → key ≡ id_cell id → rest ≡ take (length bs - ids_at) (drop ids_at bs)
     → ids ≡ first_chunks id_bytes (length rest / id_bytes) rest → length ids ≡ length rest / id_bytes
     → cells ≡ take (used bs) ids → AssetHead bs
-    → r ≡ (let n = position_or_len (λ c. same c key) cells in cond (ltb n (length cells)) (Some n) None)
+    → r ≡ (let n = position_or_len (λ c. pointwise eqb c key) cells in cond (ltb n (length cells)) (Some n) None)
     → r ≡ found_below (used bs) (find bs id)
 found-cell bs id key rest ids cells r h e d f g l head p =
     let whole : rest ≡ drop ids_at bs = d ∙ take_all (length bs - ids_at) (drop ids_at bs) (omega (arith, length-drop ids_at bs)) in

@@ -63,9 +63,10 @@ impl<'a> Assets<'a> {
         let (ids, _) = bytes[IDS_AT..].as_chunks::<ID_BYTES>();
         // a byte as it stands, where `used` gives a number to be cast back
         let used = usize::from(bytes[USED_AT]);
+        // of arrays: as slices, which is scan::equal, 128 cells take 635 ns and not 141
         ids[..used]
             .iter()
-            .position(|cell| cells::same_bytes(cell, &key))
+            .position(|cell| *cell == key)
             .map(|i| i as u64)
     }
 

@@ -1,45 +1,19 @@
--- Runs of bytes compared or written front to back, and cells put together from such runs, at any place and width.
+-- Runs of bytes written front to back, and cells put together from such runs, at any place and width.
 use Prim.Native.Nat.{ℕ, suc, ◌+◌, ◌-◌, ◌*◌, ◌≤◌, ◌<◌}
 use mathlib.Core.Path.{◌≡◌, refl, sym, ap, ◌∙◌}
-use mathlib.Core.List.{List, [], ◌∷◌, ◌++◌, append_assoc}
+use mathlib.Core.List.{List, ◌++◌, append_assoc}
 use native.Mathlib.Nat.{add-zero, suc-mul, add-mul}
 use native.Mathlib.Numerals.{add-one}
 use native.Mathlib.Omega.{arith}
-use mathlib.Core.Bool.{Bool, true, ◌&&◌, and_assoc, and-true}
-use lib.Dec.{eqb}
 use lib.ListN.{length, get_or, set, take, drop, replicate, length-set, length-append, length-drop, length-replicate}
 use lib.ListN.{drop_of_length-le}
 use lib.Seq.{paste, sets, sets-eq, length-sets, drop-cons, drop-set-lt, get_or-drop, get_or-take, drop-drop, length-take-le}
 use borrow.Rule.Slice.PartMut.{put_mid}
 use Rattle.std.proofs.lemmas.List.Edits.{paste-paste}
 use Rattle.std.proofs.lemmas.Slice.{put_mid-paste}
-use Rattle.spec.specs.Bytes.{same, pad}
+use Rattle.spec.specs.Bytes.{pad}
 use Rattle.spec.specs.Assets.{renew}
 use Rattle.spec.proofs.Written.{pasted}
-
--- ---- comparison
-
--- what a loop that compares s with t knows behind j bytes: its answer so far and the bytes from there on decide
-pub record Comparing (s t : List ℕ) (fine : Bool) (xs ys : List ℕ) : Type 0 where
-  pub lengths : length xs ≡ length ys
-  pub rest : same s t ≡ fine && same xs ys
-
-pub comparing-none : (s t xs ys : List ℕ) → length s ≡ length t → xs ≡ s → ys ≡ t → Comparing s t true xs ys
-comparing-none s t xs ys e f g = record { lengths = rw (f, g) e; rest = rw (f, g) }
-
-module _ {s t : List ℕ} {fine : Bool} {xs ys : List ℕ} (r : Comparing s t fine xs ys) where
-  pub comparing-more : (x y : ℕ) (us vs : List ℕ) → xs ≡ x ∷ us → ys ≡ y ∷ vs
-      → Comparing s t (fine && eqb x y) us vs
-  unfolding same
-  comparing-more x y us vs e f =
-      record {
-        lengths = omega (arith, r.lengths, ap length e, ap length f);
-        rest = r.rest ∙ rw (e, f) (sym (and_assoc fine (eqb x y) (same us vs)));
-      }
-
-  pub comparing-all : (xs ≡ []) × (ys ≡ []) → fine ≡ same s t
-  unfolding same
-  comparing-all h = sym (r.rest ∙ rw (h.0, h.1) (and-true fine))
 
 -- ---- padded cells
 

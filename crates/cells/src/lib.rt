@@ -1,23 +1,10 @@
-// Cells of bytes inside a store, of any width: compared, moved down, renewed.
+// Cells of bytes inside a store, of any width: moved down, renewed.
 #![tactic(auto)]
 
 ghost use Rattle.std.specs.Prelude.{◌≡◌, ◌++◌, suc, ◌+◌, ◌*◌, ◌<◌, ◌≤◌, length, take, drop, replicate};
 ghost use Rattle.std.proofs.lemmas.List.Edits.{sets};
-ghost use Rattle.spec.specs.Bytes.{same, pad};
+ghost use Rattle.spec.specs.Bytes.{pad};
 ghost use Rattle.spec.specs.Assets.{renew};
-
-// Whether two runs of bytes of one length are the same. It takes no branch by a byte, so that it goes over many at
-// once.
-pub fn same_bytes(a: &[u8], b: &[u8]) -> bool
-    requires { length a.now ≡ length b.now }
-    ensures { result ≡ same a.now b.now }
-{
-    let mut fine = true;
-    for (x, y) in a.iter().zip(b) {
-        fine &= x == y;
-    }
-    fine
-}
 
 // The n bytes that stood `gap` further on stand from `at` on. No copy_within: with it, an asset in place of the oldest
 // takes as long as the second implementation, where this takes two thirds.

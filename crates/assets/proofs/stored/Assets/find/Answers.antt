@@ -4,7 +4,8 @@ use Rattle.std.proofs.lemmas.Iterator.{YieldsList-from_slice}
 use Rattle.std.proofs.lemmas.Iterator.Search.{position_from_yields_List}
 use Rattle.spec.proofs.Words.{told}
 use Rattle.spec.proofs.Found.{found-none}
-use Rattle.spec.specs.Bytes.{same}
+use lib.Dec.{eqb}
+use Rattle.std.specs.Cmp.Lexicographic.{pointwise}
 use Rattle.spec.specs.Assets.{id_bytes}
 use Rattle.spec.proofs.Assets.{id-max}
 use Rattle.assets.proofs.Laws.{key-is, found-cell, no-id}
@@ -36,7 +37,7 @@ returns-clause-value c =
     let ids = c.as_chunks.result.0.now in
     let key = c.copy_from_slice.new.self ++ drop (length c.args.id.now) (replicate id_bytes 0) in
     let p =
-    position_from_yields_List {all = take c.from-used.result ids} (λ x. same x key) _ _ c.position.result
+    position_from_yields_List {all = take c.from-used.result ids} (λ x. pointwise eqb x key) _ _ c.position.result
     c.position.ensures.ran (YieldsList-from_slice _ c.iter.ensures.rest) (λ x b q k. search (rules, tests)) in
     let f =
     found-cell bs c.args.id.now key _ ids _ c.position.result (told c.id_ok.ensures c.if-not-id_ok.false)
