@@ -4,12 +4,12 @@ use mathlib.Core.Path.{◌≡◌, refl, sym, ◌∙◌}
 use mathlib.Core.Logic.{◌⊎◌, inl, inr}
 use mathlib.Core.Bool.{Bool, true, false, cond, ◌&&◌, ◌||◌, not, and-false}
 use mathlib.Core.List.{List, [], ◌∷◌}
-use Rattle.std.specs.Prelude.{min, Option, Some, None}
+use Rattle.std.specs.Prelude.{min, Option, Some, None, MatchOption}
 use Rattle.std.proofs.lemmas.List.{nil_from_length}
 use native.Mathlib.Numerals.{add-one}
 use native.Mathlib.Omega.{arith}
 use lib.Count.{ones}
-use lib.Dec.{leb}
+use lib.Dec.{leb, eqb}
 use lib.ListN.{length, get_or, drop, drop_of_length-le}
 use lib.Seq.{drop-cons}
 use borrow.Author.Tests.{eq-eqb, ne_eqb, le-leb, lt-leb, leb-true, leb-false}
@@ -19,10 +19,11 @@ use Rattle.spec.specs.Entries.{used_rows, form_ok}
 use Rattle.spec.specs.Model.{max_items}
 use Rattle.history.specs.Observations.{Head, ring_size, latest_at, is_condition, item_rows, latest_rows}
 use Rattle.history.specs.Observations.{current_ok, current_rows}
-use Rattle.spec.proofs.Words.{by-test, and_right, by_cond, every-no, every-yes, every-end}
+use Rattle.spec.proofs.Words.{by-test, and_right, by_cond, told, every-no, every-yes, every-end}
 use Rattle.spec.proofs.Bits.{rows-ones}
 use Rattle.history.proofs.Pass.{current-count}
 use Rattle.entries.proofs.Filling.{rows-many}
+use Rattle.entries.proofs.Kept.{Kept, kept-none, kept-some}
 use Rattle.entries.proofs.Laws.{filled-broken, filled-used}
 use Rattle.entries.proofs.Marks.{used-max}
 use Rattle.entries.specs.Forms.{EightRows, filled}
@@ -206,37 +207,42 @@ module _ {cat : ℕ → ℕ} {m : ℕ} {st : List ℕ} {selection c i : ℕ} (v 
       rw (← e, k)
 
 -- a turn for item i, a selected condition item
-pub record Turn (cat : ℕ → ℕ) (m : ℕ) (st : List ℕ) (selection c i w t : ℕ) : Type 0 where
-  pub now : Beyond cat m st selection c i
-  pub below : i < m
-  pub selected : bit selection i ≡ true
-  pub condition : cat i ≡ 2
-  pub rows : w ≡ 8 * m
-  pub at : t ≡ latest_at (ring_size st)
-
-module _ {cat : ℕ → ℕ} {m : ℕ} {st : List ℕ} {selection c i w t : ℕ} (v : Turn cat m st selection c i w t) where
+module _ {cat : ℕ → ℕ} {m : ℕ} {st : List ℕ} {selection c i w t : ℕ} (v : Beyond cat m st selection c i) (h : i < m)
+    (s : bit selection i ≡ true) (e : cat i ≡ 2) (rows : w ≡ 8 * m) (at : t ≡ latest_at (ring_size st)) where
   by_form : (b : Bool) → form_ok i 1 (eight st t w i) ≡ b → formed cat m st selection i ≡ b
-  by_form b f = rw (v.selected, eq-eqb (cat i) 2 v.condition, ← eight_is st m i v.rows v.at) f
+  by_form b f = rw (s, eq-eqb (cat i) 2 e, ← eight_is st m i rows at) f
 
   beyond-unformed : None ≡ filled i (eight st t w i) → None ≡ extra_in cat m st selection
-  beyond-unformed f = broken v.now v.below (by_form false (form-no i (eight st t w i) f))
+  beyond-unformed f = broken v h (by_form false (form-no i (eight st t w i) f))
 
   module _ {x : ℕ} (f : Some x ≡ filled i (eight st t w i)) where
     beyond-empty : x ≡ 0 → None ≡ extra_in cat m st selection
-    beyond-empty z = broken v.now v.below (by_form false (form-empty i (eight st t w i) f z))
+    beyond-empty z = broken v h (by_form false (form-empty i (eight st t w i) f z))
 
-    pub beyond-more : (x ≡ 0 → ⊥) → Beyond cat m st selection (c + (x - 1)) (i + 1)
+    beyond-more : (x ≡ 0 → ⊥) → Beyond cat m st selection (c + (x - 1)) (i + 1)
     beyond-more z =
-        let r = condition-rows st m i v.rows v.at cat v.condition in
-        next v.now v.below (by_form true (form-yes i (eight st t w i) f z))
-        (rw (v.selected, r, form-used i (eight st t w i) f)) refl
+        let r = condition-rows st m i rows at cat e in
+        next v h (by_form true (form-yes i (eight st t w i) f z)) (rw (s, r, form-used i (eight st t w i) f)) refl
 
   -- none used, or not filled
-  pub beyond-unused : {o : Option ℕ} → o ≡ filled i (eight st t w i)
+  beyond-unused : {o : Option ℕ} → o ≡ filled i (eight st t w i)
       → (o ≡ None) ⊎ ((x : ℕ) × (o ≡ Some x) × (x ≡ 0))
       → None ≡ extra_in cat m st selection
-  beyond-unused e (inl n) = beyond-unformed (sym n ∙ e)
-  beyond-unused e (inr n) = beyond-empty (sym n.1 ∙ e) n.2
+  beyond-unused f (inl n) = beyond-unformed (sym n ∙ f)
+  beyond-unused f (inr n) = beyond-empty (sym n.1 ∙ f) n.2
+
+-- the same by what the turn's calls have answered: q is what a filter has left of the count o
+module _ {cat : ℕ → ℕ} {m : ℕ} {st : List ℕ} {selection c i w t k n : ℕ} {b : Bool} {o : Option ℕ}
+    (v : Beyond cat m st selection c i) (h : i < m) (has : b ≡ bit selection i) (is : b ≡ true)
+    (category : k ≡ cat i) (condition : k ≡ 2) (rows : w ≡ 8 * n) (many : n ≡ m) (at : t ≡ latest_at (ring_size st))
+    (count : o ≡ filled i (eight st t w i)) where
+  pub beyond-kept : (q : Option ℕ) {P : ℕ → Bool → Type 0} → Kept o q P → ((x : ℕ) (d : Bool) → P x d → d ≡ not (eqb x 0))
+      → MatchOption q (None ≡ extra_in cat m st selection) (λ x. Beyond cat m st selection (c + (x - 1)) (i + 1))
+  beyond-kept None f g =
+      beyond-unused v h (told has is) (told category condition) (rw many at rows) at count (kept-none (λ x. x) o None _ f g refl)
+  beyond-kept (Some x) f g =
+      let y = kept-some (λ x. x) o (Some x) _ f g refl in
+      beyond-more v h (told has is) (told category condition) (rw many at rows) at (sym y.0 ∙ count) y.1
 
 -- ---- what a count says
 

@@ -1,9 +1,9 @@
 -- How many rows current has beyond one for each selected item.
-use Rattle.std.specs.Prelude.{ℕ, Bool, cond, Option, Some, None, List, [], ◌∷◌}
+use Rattle.std.specs.Prelude.{ℕ, cond, Option, Some, None, List}
 use Rattle.spec.specs.Words.{bit}
-use Rattle.spec.specs.Blocks.{flat_rows, extra_rows}
+use Rattle.spec.specs.Blocks.{extra_rows}
 use Rattle.spec.specs.Model.{items, category}
-use Rattle.history.specs.Observations.{ring_size, latest_at, item_row, latest_rows, current_ok, current_rows}
+use Rattle.history.specs.Observations.{ring_size, latest_rows, current_ok, current_rows}
 
 -- the condition items' used entries beyond the first; none is given where a form is broken
 unfoldable pub extra_in : (ℕ → ℕ) → ℕ → List ℕ → ℕ → Option ℕ
