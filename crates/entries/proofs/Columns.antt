@@ -1,31 +1,20 @@
 -- Rows of a table by their columns: rows put are three runs of words stored, and rows read are three runs read.
-use Prim.Native.Nat.{ℕ, zero, suc, ◌+◌, ◌*◌, ◌≤◌, ◌<◌}
+use Prim.Native.Nat.{ℕ, zero, suc, ◌+◌, ◌*◌, ◌≤◌}
 use mathlib.Core.Path.{◌≡◌, refl, ap, ◌∙◌}
-use mathlib.Core.Logic.{◌⊎◌, inl, inr}
 use mathlib.Core.List.{List, [], ◌∷◌, map}
 use native.Mathlib.Omega.{arith}
 use lib.ListN.{length, get_or, set, take, drop, length-map}
-use lib.Seq.{sets, set_comm, drop-set-lt, drop-cons}
+use lib.Seq.{sets, drop-set-lt, drop-cons}
 use Rattle.spec.specs.Words.{row, put}
 use Rattle.spec.specs.Blocks.{table_rows, put_rows}
 use Rattle.spec.proofs.Blocks.{Threes}
+use Rattle.spec.proofs.Written.{sets-set}
 
 -- the words of a column, row by row
 abbrev pub column : ℕ → List (List ℕ) → List ℕ
 column c rs = map (λ r. get_or r c 0) rs
 
 -- ---- runs of stores
-
--- a store outside a run, before or after it
-pub sets-set : (vs l : List ℕ) (j i x : ℕ) → (i < j) ⊎ (j + length vs ≤ i)
-    → sets (set l i x) j vs ≡ set (sets l j vs) i x
-sets-set [] l j i x o = refl
-sets-set (v ∷ vs) l j i x (inl o) =
-    ap (λ (y : List ℕ). sets y (suc j) vs) (set_comm l i j x v (omega arith))
-    ∙ sets-set vs (set l j v) (suc j) i x (inl (omega arith))
-sets-set (v ∷ vs) l j i x (inr o) =
-    ap (λ (y : List ℕ). sets y (suc j) vs) (set_comm l i j x v (omega arith))
-    ∙ sets-set vs (set l j v) (suc j) i x (inr (omega arith))
 
 -- the words behind a run are as they were
 pub drop-sets : (vs l : List ℕ) (i j : ℕ) → i + length vs ≤ j → drop j (sets l i vs) ≡ drop j l
@@ -50,11 +39,11 @@ module _ (st : List ℕ) (a b c x y z : ℕ) (xs ys zs : List ℕ) (n : ℕ) (lx
       ≡ sets (sets (sets st a (x ∷ xs)) b (y ∷ ys)) c (z ∷ zs)
   three-runs h g =
       let p : sets (set (set (set st a x) b y) c z) (suc a) xs ≡ set (set (sets (set st a x) (suc a) xs) b y) c z =
-      sets-set xs (set (set st a x) b y) (suc a) c z (inr (omega arith))
-      ∙ ap (λ (l : List ℕ). set l c z) (sets-set xs (set st a x) (suc a) b y (inr (omega arith))) in
+      sets-set xs (set (set st a x) b y) (suc a) c z (omega arith)
+      ∙ ap (λ (l : List ℕ). set l c z) (sets-set xs (set st a x) (suc a) b y (omega arith)) in
       ap (λ (l : List ℕ). sets l (suc c) zs)
       (ap (λ (l : List ℕ). sets l (suc b) ys) p
-      ∙ sets-set ys (set (sets (set st a x) (suc a) xs) b y) (suc b) c z (inr (omega arith)))
+      ∙ sets-set ys (set (sets (set st a x) (suc a) xs) b y) (suc b) c z (omega arith))
 
 pub length-column : (c : ℕ) (rs : List (List ℕ)) → length (column c rs) ≡ length rs
 length-column c rs = length-map rs (λ r. get_or r c 0)

@@ -1,13 +1,12 @@
 -- Laws of replies: words written one behind the other, the arrays behind the sizes, and what answer and buffer then
 -- are.
-use Prim.Native.Nat.{ℕ, suc, ◌+◌, ◌-◌, ◌≤◌}
+use Prim.Native.Nat.{ℕ, ◌+◌, ◌-◌, ◌≤◌}
 use mathlib.Core.Path.{◌≡◌, refl, sym, ap, ◌∙◌}
 use mathlib.Core.Bool.{Bool, true, false}
-use mathlib.Core.Logic.{◌≢◌}
 use mathlib.Core.List.{List, [], ◌∷◌, ◌++◌, append-nil}
 use native.Mathlib.Omega.{arith}
-use lib.ListN.{length, set, take, drop, length-append, length-take, length-drop, drop_of_length-le}
-use lib.Seq.{sets, sets-eq, set_comm, length-sets, take_all, take_at, drop-append-add, drop-drop}
+use lib.ListN.{length, take, drop, length-append, length-take, length-drop, drop_of_length-le}
+use lib.Seq.{sets, sets-eq, length-sets, take_all, take_at, drop-append-add, drop-drop}
 use borrow.Author.Tests.{leb-true}
 use Rattle.spec.specs.Reply.{Replied, over, written}
 use Rattle.std.specs.Prelude.{Option, None, Result, Ok, Err, IsErrAnd}
@@ -17,13 +16,6 @@ use Rattle.spec.specs.declared.Refusal.TheVariants.{Space}
 use Rattle.spec.specs.Answers.{Answer}
 use Rattle.spec.proofs.Refused.{handed-on, none-handed}
 use Rattle.reply.specs.Fitted.{Fitted}
-
--- a word behind those that are set
-pub sets-set : (vs l : List ℕ) (i q x : ℕ) → i + length vs ≤ q → sets (set l q x) i vs ≡ set (sets l i vs) q x
-sets-set [] l i q x h = refl
-sets-set (a ∷ vs) l i q x h =
-    let n : q ≢ i = λ z. omega arith in
-    ap (λ (y : List ℕ). sets y (suc i) vs) (set_comm l q i x a n) ∙ sets-set vs (set l i a) (suc i) q x (omega arith)
 
 -- four words copied to the front
 pub sets-front : (l sizes : List ℕ) {part : List ℕ} → length sizes ≡ 4 → 4 ≤ length l → part ≡ sizes

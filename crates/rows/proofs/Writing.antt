@@ -9,7 +9,7 @@ use lib.Seq.{sets, length-sets}
 use Rattle.spec.specs.Reply.{numbers, pairs}
 use Rattle.rows.specs.Rows.{rows_at}
 use Rattle.spec.proofs.Reply.{length-numbers}
-use Rattle.reply.proofs.Laws.{sets-set}
+use Rattle.spec.proofs.Written.{sets-set}
 
 -- one row, then the others
 pub rows_more : (l : List ℕ) (c a : ℕ) (r : List ℕ) (rs : List (List ℕ)) → c + 1 + length rs ≤ a
