@@ -14,7 +14,8 @@ use observations::Table;
 use spec::Row;
 
 // The table at word t takes an observation of the item: the entries of a condition item, or another's one row. Its rows
-// are as many as the model says, which a clause would ask of a Table.
+// are as many as the model says, which a clause would ask of a Table. The item goes beside its row, as at
+// plain::put_number.
 pub fn set_newest(model: &Words<'_>, st: &mut [u64], t: u64, item: u64, row: Row)
     requires in_table { InTable (category model.now) (items model.now) t item st.old }
     ensures { st.new

@@ -14,7 +14,8 @@ use model::Words;
 use observations::{Modelled, Store};
 use spec::{Noted, ObserveAnswer, Refusal};
 
-// One observation more as last + 1, where a number is left and the entry that it overwrites may go.
+// One observation more as last + 1, where a number is left and the entry that it overwrites may go. Item, time and word
+// stand apart, here and below, as at plain::add_plain.
 fn record(
     model: &Words<'_>,
     observations: &mut [u64],

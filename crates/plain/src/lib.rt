@@ -48,6 +48,8 @@ fn evict_plain(model: &Words<'_>, st: &mut [u64], n: u64, b: u64, s: u64, p: u64
 
 // The short way of recording's room_for and add: one more of an item without conditions, where the entry that it
 // overwrites, if any, is of such an item too; its number. None, and nothing is changed, where there is more to it.
+// Item, time and word stand apart, here and in the crates above: a struct would save five functions two parameters
+// each, and their clauses name its parts 29 times.
 pub fn add_plain(model: &Words<'_>, st: &mut [u64], item: u64, time: u64, word: u64) -> Option<u64>
     requires head { Head (items model.now) st.old }
     requires item_bound { (item < items model.now) × (is_condition (category model.now) item ≡ false) }

@@ -50,7 +50,8 @@ pub fn room_for(source: Modelled<'_>) -> Result<(), Refusal>
     Ok(())
 }
 
-// A row's number: the overwritten entry's checkpoint, the ring, the item's latest, and last.
+// A row's number: the overwritten entry's checkpoint, the ring, the item's latest, and last. The item goes beside its
+// row, as at plain::put_number.
 fn write(model: &Words<'_>, st: &mut [u64], n: u64, b: u64, item: u64, row: Row)
     requires overwriting { Overwriting (category model.now) n (items model.now) b row.number st.old }
     requires in_table { InTable (category model.now) (items model.now) (latest_at n) item st.old }
@@ -65,7 +66,8 @@ fn write(model: &Words<'_>, st: &mut [u64], n: u64, b: u64, item: u64, row: Row)
     observations::set_last(st, row.number);
 }
 
-// One observation more, as last + 1, which is answered: a row without its number, which isn't known before.
+// One observation more, as last + 1, which is answered: a row without its number, which isn't known before. Item, time
+// and word stand apart, as at plain::add_plain.
 pub fn add(model: &Words<'_>, st: &mut [u64], item: u64, time: u64, word: u64) -> u64
     requires head { Head (items model.now) st.old }
     requires st_value { room_in model.now st.old ≡ Ok tt }

@@ -38,7 +38,8 @@ fn change_front(words: &mut [u64], change: Change, x: u64)
 }
 
 // The step of item own's eight entries by an observation, in place: the rows from row k on of a table. The words go
-// beside it: a struct around a `&mut` would need a clause that the reference is still the same.
+// beside it: a struct around a `&mut` would need a clause that the reference is still the same. The item goes beside
+// its row: nothing is asked of the packed word, so that the row doesn't tell it.
 pub fn step(st: &mut [u64], table: Table, k: u64, own: u64, row: Row)
     requires table { EightRows table.rows table.at k (length st.old) }
     requires own_bound { (own < 2 ^ 24) × (form_ok own 0 (table_rows st.old table.at table.rows 8 k) ≡ true) }
