@@ -1,9 +1,9 @@
 // A model with its names, once both keep the rules: what a reader of words and names needs to know of them.
 ghost use Rattle.std.specs.Prelude.{◌≡◌, ◌<◌};
-ghost use Rattle.spec.specs.Model.{Checked, name_count, name_cell, components, items};
+ghost use Rattle.spec.specs.Model.{Checked, name_count, name_cell, name_text, components, items};
 ghost use Rattle.spec.specs.Model.{component_word, component_name, item_word, item_name};
 
-use super::{Words, component_name, item_name};
+use super::{Words, component_name, item_name, name_length};
 
 // The model's words, and the cells of the names.
 #[derive(Drop)]
@@ -37,5 +37,29 @@ impl Named<'_> {
         ensures { result.now ≡ name_cell self.now.names.now (item_name (item_word self.now.words j)) }
     {
         self.cell(item_name(self.words.item_word(j)))
+    }
+    // The text of name k.
+    fn text(&self, k: u64) -> &[u8]
+        requires { k < name_count self.now.names.now }
+        ensures { result.now ≡ name_text self.now.names.now k }
+    {
+        let cell = self.cell(k);
+        &cell[..name_length(cell)]
+    }
+
+    // Component i's name.
+    pub fn component_text(&self, i: u64) -> &[u8]
+        requires { i < components self.now.words }
+        ensures { result.now ≡ name_text self.now.names.now (component_name (component_word self.now.words i)) }
+    {
+        self.text(component_name(self.words.component_word(i)))
+    }
+
+    // Data item j's name.
+    pub fn item_text(&self, j: u64) -> &[u8]
+        requires { j < items self.now.words }
+        ensures { result.now ≡ name_text self.now.names.now (item_name (item_word self.now.words j)) }
+    {
+        self.text(item_name(self.words.item_word(j)))
     }
 }

@@ -68,7 +68,7 @@ impl<'a> Words<'a> {
         ensures { result ≡ item_word self.now j }
     {
         let words = self.words;
-        let at = (COMPONENTS_AT + u64::from(words[0]) + j) as usize;
+        let at = (COMPONENTS_AT + self.components() + j) as usize;
         u64::from(words[at])
     }
 
@@ -85,6 +85,8 @@ impl<'a> Words<'a> {
         ensures { MatchOption result (items self.now ≤ item)
             (λ k. (k ≡ category self.now item) × (item < items self.now) × (items self.now ≤ max_items)) }
     {
+        // No `then`: of a closure that calls a method of the words the library's clause says nothing, and with a
+        // clause of its own it is longer than the test.
         if self.items() <= item {
             return None;
         }

@@ -2,32 +2,35 @@
 use Prim.Native.Nat.{ℕ, zero, suc, ◌+◌, ◌-◌, ◌*◌, ◌/◌, ◌%◌, ◌≤◌, ◌<◌}
 use mathlib.Core.Path.{◌≡◌, refl, sym, ap, ◌∙◌}
 use mathlib.Core.Bool.{Bool, true, false, ◌&&◌, not, or-true, false≢true}
-use mathlib.Core.List.{List, [], ◌∷◌}
+use mathlib.Core.List.{List, [], ◌∷◌, append-nil}
 use native.Mathlib.Nat.{div-add-mod, mod-lt}
 use native.Mathlib.Numerals.{add-one}
 use native.Mathlib.Omega.{arith}
 use lib.Dec.{leb, ltb, eqb, eqb-suc-zero}
 use lib.ListN.{length, get_or, take, drop, length-drop}
-use lib.Seq.{get_or-take, get_or-drop, length-take-le, drop-drop}
+use lib.Seq.{get_or-take, get_or-drop, length-take-le, drop-drop, take-add}
 use borrow.Author.Tests.{leb-true, ltb-true, ltb-false, le-leb, not-true}
 use Rattle.spec.specs.Words.{every}
 use Rattle.spec.specs.Bytes.{name_byte, all}
 use Rattle.spec.specs.Model.{name_bytes, letters, zeros, cell_ok, name_cell, name_count}
 use Rattle.spec.proofs.Words.{and_left, and_right, every-at, every_of, every-keep, every-kept}
+use Rattle.std.specs.List.{concat}
+use Rattle.std.specs.Simd.{first_chunks}
 use Rattle.std.specs.Cmp.{both_ways}
 use Rattle.std.proofs.lemmas.Bool.{and_from}
 use Rattle.spec.proofs.Model.{Names}
-use Rattle.names.specs.Cells.{block, cell_byte, bytes_at, cell_bytes, follows, zeros_last}
+use Rattle.names.specs.Cells.{cell_byte, cell_bytes, follows, zeros_last}
 
 -- ---- loops
 
-pub blocks_start : (s : List ℕ) (at n : ℕ)
-    → bytes_at s at n ≡ true && every (λ k. cell_byte (get_or s k 0)) (at + n - (at + 0)) (at + 0)
-unfolding bytes_at
-blocks_start s at n =
-    let p : at + n - (at + 0) ≡ n = omega arith in
-    let q : at + 0 ≡ at = omega arith in
-    rw (p, q)
+pub bytes_start : (s : List ℕ) → cell_bytes s ≡ true && every (λ k. cell_byte (get_or s k 0)) (length s - 0) 0
+unfolding cell_bytes
+bytes_start s = let p : length s - 0 ≡ length s = omega arith in rw p
+
+pub byte_more : (s : List ℕ) (fine t : Bool) (i : ℕ)
+    → cell_bytes s ≡ fine && every (λ k. cell_byte (get_or s k 0)) (length s - i) i → i < length s
+    → t ≡ cell_byte (get_or s i 0) → cell_bytes s ≡ (fine && t) && every (λ k. cell_byte (get_or s k 0)) (length s - (i + 1)) (i + 1)
+byte_more s fine t i e h et = every-keep (λ k. cell_byte (get_or s k 0)) _ fine i (length s) e t h et
 
 -- a run of numbers, one further on
 pub every-on : (p q : ℕ → Bool) → ((i : ℕ) → p (suc i) ≡ q i) → (n i : ℕ) → every p n (suc i) ≡ every q n i
@@ -83,38 +86,57 @@ module _ {s : List ℕ} {fine : Bool} {left : List ℕ} (r : Pairing s fine left
   pub pairing-all : length left < 2 → fine ≡ zeros_last s
   pairing-all h = every-kept (pair_at s) _ fine (length s - length left) (length s - 1) r.rest (omega (arith, r.inside))
 
--- ---- rounds of whole blocks
+-- ---- whole blocks
 
--- two runs that leave no byte out between them are one run; they may overlap
-module _ (p : ℕ → Bool) (at n from m : ℕ) (first : at ≤ from) (no_gap : from ≤ at + n) (ends : at + n ≤ from + m) where
-  two_runs : every p (from + m - at) at ≡ every p n at && every p m from
-  two_runs =
+concat-chunks : (n k : ℕ) (s : List ℕ) → concat (first_chunks n k s) ≡ take (n * k) s
+concat-chunks n zero s = let z : n * 0 ≡ 0 = omega arith in rw z
+concat-chunks n (suc k) s =
+    let z : n * suc k ≡ n + n * k = omega arith in rw (z, take-add n (n * k) s, concat-chunks n k (drop n s))
+
+-- two parts that leave no byte out between them are the whole; they may overlap
+module _ (s : List ℕ) (m k : ℕ) (no_gap : k ≤ m) (within : m ≤ length s) where
+  front-at : (i : ℕ) → i < m → get_or (take m s) i 0 ≡ get_or s i 0
+  front-at i h = get_or-take m s i 0 h
+
+  two_parts : cell_bytes s ≡ cell_bytes (take m s) && cell_bytes (drop k s)
+  unfolding cell_bytes
+  two_parts =
       both_ways _ _
       (λ e.
-      and_from (every p n at) _
-      (every_of p n at (λ i h g. every-at p (from + m - at) at i e h (omega arith)))
-      (every_of p m from (λ i h g. every-at p (from + m - at) at i e (omega arith) (omega arith))))
-      (λ e. every_of p (from + m - at) at (λ i h g. in_one e i h (omega arith) (ltb i (at + n)) refl))
+      and_from (every (λ i. cell_byte (get_or (take m s) i 0)) _ 0) _
+      (every_of _ (length (take m s)) 0
+      (λ i h g. let l = length-take-le m s within in
+      ap cell_byte (front-at i (omega arith)) ∙ every-at _ (length s) 0 i e h (omega arith)))
+      (every_of _ (length (drop k s)) 0
+      (λ i h g. let l = length-drop k s in
+      ap cell_byte (get_or-drop k s i 0) ∙ every-at _ (length s) 0 (k + i) e (omega arith) (omega arith))))
+      (λ e. every_of _ (length s) 0 (λ i h g. in_one e i g (ltb i m) refl))
     where
-      in_one : every p n at && every p m from ≡ true
-          → (i : ℕ) → at ≤ i → i < from + m → (t : Bool) → ltb i (at + n) ≡ t → p i ≡ true
-      in_one e i h g true q = every-at p n at i (and_left _ _ e) h (ltb-true i (at + n) q)
-      in_one e i h g false q =
-          let k = ltb-false i (at + n) q in
-          every-at p m from i (and_right (every p n at) _ e) (omega arith) g
+      in_one : every (λ i. cell_byte (get_or (take m s) i 0)) (length (take m s)) 0
+          && every (λ i. cell_byte (get_or (drop k s) i 0)) (length (drop k s)) 0
+          ≡ true
+          → (i : ℕ) → i < 0 + length s → (t : Bool) → ltb i m ≡ t → cell_byte (get_or s i 0) ≡ true
+      in_one e i g true q =
+          let h = ltb-true i m q in
+          let l = length-take-le m s within in
+          sym (ap cell_byte (front-at i h)) ∙ every-at _ (length (take m s)) 0 i (and_left _ _ e) (omega arith) (omega arith)
+      in_one e i g false q =
+          let h = ltb-false i m q in
+          let l = length-drop k s in
+          let z : k + (i - k) ≡ i = omega arith in
+          sym (ap cell_byte (get_or-drop k s (i - k) 0 ∙ ap (λ (j : ℕ). get_or s j 0) z))
+          ∙ every-at _ (length (drop k s)) 0 (i - k)
+          (and_right (every (λ i. cell_byte (get_or (take m s) i 0)) (length (take m s)) 0) _ e) (omega arith) (omega arith)
 
--- the n whole blocks from the start on, and the last block, leave no byte out
-pub in_blocks : (s : List ℕ) (n : ℕ) → block ≤ length s → n ≡ length s / block
-    → cell_bytes s ≡ bytes_at s 0 (block * n) && bytes_at s (length s - block) (block * 1)
-unfolding cell_bytes bytes_at
-in_blocks s n h e =
+-- the whole blocks from the start on, and the last block, leave no byte out
+pub in_blocks : (n : ℕ) (s : List ℕ) → 0 < n → n ≤ length s
+    → cell_bytes s ≡ cell_bytes (concat (first_chunks n (length s / n) s)) && cell_bytes (concat (drop (length s - n) s ∷ []))
+in_blocks n s z h =
     let l = length s in
-    let p : ℕ → Bool = λ i. cell_byte (get_or s i 0) in
-    let d = div-add-mod l block in
-    let r : l % block < block = mod-lt l (omega arith) in
-    let q : l ≡ l - block + block * 1 - 0 = omega arith in
-    ap (λ (k : ℕ). every p k 0) q
-    ∙ two_runs p 0 (block * n) (l - block) (block * 1) (omega arith) (omega (arith, e)) (omega (arith, e))
+    let d = div-add-mod l n in
+    let r : l % n < n = mod-lt l (omega arith) in
+    rw (concat-chunks n (l / n) s, append-nil (drop (l - n) s))
+    (two_parts s (n * (l / n)) (l - n) (omega arith) (omega arith))
 
 -- ---- bytes
 

@@ -8,14 +8,6 @@ use Rattle.spec.specs.Bytes.{name_byte}
 unfoldable pub cell_byte : ℕ → Bool
 cell_byte x = name_byte x || eqb x 0
 
--- the bytes that are looked at together
-abbrev pub block : ℕ
-block = 32
-
--- the n bytes from at on
-unfoldable pub bytes_at : List ℕ → ℕ → ℕ → Bool
-bytes_at s at n = every (λ i. cell_byte (get_or s i 0)) n at
-
 unfoldable pub cell_bytes : List ℕ → Bool
 cell_bytes s = every (λ i. cell_byte (get_or s i 0)) (length s) 0
 
