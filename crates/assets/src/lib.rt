@@ -111,15 +111,7 @@ fn put_asset(bs: &mut [u8], out: u64, n: u64, id: &[u8], body: &[u8])
 {
     let bodies = Assets::of(bs).bodies_at() as usize;
     let head = (body.len() as u16).to_be_bytes();
-    cells::renew_cells(
-        bs,
-        ID_BYTES,
-        IDS_AT,
-        out as usize,
-        n as usize,
-        &id[0..0],
-        id,
-    );
+    cells::renew_cells(bs, ID_BYTES, IDS_AT, out as usize, n as usize, &[], id);
     cells::renew_cells(
         bs,
         CELL_BYTES,

@@ -10,14 +10,14 @@ ghost use Rattle.row_groups.specs.Groups.{reply_rows};
 
 use attributes::{put_number, put_text};
 use model::Named;
-use row_groups::{Document, name_text};
+use row_groups::Document;
 use writer::Output;
 
 // The start of the device: its name and uuid are component 0's.
 pub fn put_device(model: &Named<'_>, out: &mut Output)
     ensures { Put out.old (tag (device_tag model.now.words model.now.names.now) ++ 10 ∷ []) out.new }
 {
-    let t = name_text(model.component_cell(0));
+    let t = model.component_text(0);
     put_text(out, b"<DeviceStream name=\"", t);
     put_text(out, b" uuid=\"", t);
     out.put_bytes(b">\n");
@@ -28,7 +28,7 @@ fn put_start(d: &Document<'_>, c: u64, out: &mut Output)
     requires { c < components d.now.model }
     ensures { Put out.old (tag (component_tag d.now.model d.now.names c) ++ 10 ∷ []) out.new }
 {
-    let t = name_text(d.model.component_cell(c));
+    let t = d.model.component_text(c);
     put_text(out, b"<ComponentStream component=\"", t);
     put_text(out, b" name=\"", t);
     put_number(out, b" componentId=\"c", c);

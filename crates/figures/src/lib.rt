@@ -24,11 +24,10 @@ fn put_part(out: &mut Output, p: u64)
 fn put_point(out: &mut Output, p: u64)
     ensures { Put out.old (point_text p) out.new }
 {
-    if p == 0 {
-        return;
+    if p != 0 {
+        out.put_byte(b'.');
+        put_part(out, p);
     }
-    out.put_byte(b'.');
-    put_part(out, p);
 }
 
 // n thousandths.

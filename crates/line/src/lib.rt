@@ -57,10 +57,9 @@ pub fn read_line(s: &[u8]) -> Result<Line, LineError>
 fn put_time(out: &mut Output, t: u64)
     ensures { Put out.old (stamp_part t) out.new }
 {
-    if t == 0 {
-        return;
+    if t != 0 {
+        put_stamp(out, t);
     }
-    put_stamp(out, t);
 }
 
 // The line of an observation.

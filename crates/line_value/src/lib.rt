@@ -22,8 +22,7 @@ fn sample(minus: bool, n: u64) -> Option<Value>
 fn event(n: u64) -> Option<Value>
     ensures { unwrap_or result no_value ≡ event_for false false n }
 {
-    let code = u32::try_from(n).ok()?;
-    Some(Value::Event(code))
+    u32::try_from(n).ok().map(Value::Event)
 }
 
 // A level with its native code: of 24 bits, so that none is lost.

@@ -5,11 +5,11 @@ ghost use Rattle.std.specs.Prelude.{◌≡◌, length, option_map};
 ghost use Rattle.spec.specs.Path.{form_of};
 ghost use Rattle.paths.specs.Forms.{item_type, meaning, NamesFit};
 
-// A path that selects: //T, by T, and //T//DataItem[@type="Y"], by T and Y.
+// A path that selects: //T, by T alone, and //T//DataItem[@type="Y"], by T and Y.
 #[derive(Clone, Copy)]
-pub enum PathForm<'a> {
-    Subtree(&'a [u8]),
-    Typed(&'a [u8], &'a [u8]),
+pub struct PathForm<'a> {
+    pub t: &'a [u8],
+    pub y: Option<&'a [u8]>,
 }
 
 // The item type Y, where what follows T is that of the second form.
@@ -28,9 +28,9 @@ pub fn path_form(path: &[u8]) -> Option<PathForm<'_>>
     let names = path.strip_prefix(b"//")?;
     // find has the definitions' word, and the second part keeps its '/', so it is no split_once
     let Some(end) = scan::find(names, b'/', b'/') else {
-        return Some(PathForm::Subtree(names));
+        return Some(PathForm { t: names, y: None });
     };
     let (t, rest) = names.split_at(end);
     let y = item_type(rest)?;
-    Some(PathForm::Typed(t, y))
+    Some(PathForm { t, y: Some(y) })
 }

@@ -36,7 +36,8 @@ pub fn at_range(first: u64, last: u64, number: u64) -> Result<(), Refusal>
     in_range(first, last, number)
 }
 
-// A sample's starting number: `from`, or first where it is 0, which is absent too (asking::Asked).
+// A sample's starting number: `from`, or first where it is 0, which is absent too (asking::Asked). It, count_or and
+// observing::time_or share one `if`: each has its definition's name, and count_or a bound.
 pub fn start_of(first: u64, from: u64) -> u64
     ensures { result ≡ calls.start_of first from }
 {

@@ -1,9 +1,9 @@
 // A component's rows in a document, group by group.
 #![tactic(auto)]
 
-ghost use Rattle.std.specs.Prelude.{true, false, [], ◌∷◌, ◌++◌, ◌≡◌, ◌<◌, take, get_or, MatchResult};
+ghost use Rattle.std.specs.Prelude.{true, false, [], ◌∷◌, ◌++◌, ◌≡◌, ◌<◌, get_or, MatchResult};
 ghost use Rattle.spec.specs.declared.Refusal.TheVariants.{Store as Refused};
-ghost use Rattle.spec.specs.Model.{letters, items, item_word, component_of, category_of};
+ghost use Rattle.spec.specs.Model.{items, item_word, component_of, category_of};
 ghost use Rattle.spec.specs.Reply.{rows_of};
 ghost use Rattle.streams.specs.Groups.{group_number};
 ghost use Rattle.streams.specs.Streams.{row_in, reply_ok, group_of, each, groups, group_name, group_lines, ended};
@@ -60,14 +60,7 @@ fn groups_present(model: &Words<'_>, reply: &Reply<'_>) -> Present
     present
 }
 
-// ---- names and tags
-
-// The bytes of the name in a cell.
-pub fn name_text(cell: &[u8]) -> &[u8]
-    ensures { result.now ≡ take (letters cell.now) cell.now }
-{
-    &cell[..model::name_length(cell)]
-}
+// ---- tags
 
 // A group's name. No one function with figures::put_level is plainer: they share neither type nor text.
 fn put_name(g: Group, out: &mut Output)
@@ -164,7 +157,7 @@ impl<'a> Document<'a> {
         let item = value::item_of(self.reply.row_at(i).packed);
         let (component, group) = home_of(&self.model.words, item);
         if component == c && group == g {
-            let t = name_text(self.model.item_cell(item));
+            let t = self.model.item_text(item);
             // read again, so that a row that isn't written costs its packed word alone
             put_row(out, g, t, &self.reply.row_at(i));
         }

@@ -25,6 +25,7 @@ use Rattle.spec.proofs.Bytes.{same-ne, same-eq, same_true}
 use Rattle.scan.proofs.Laws.{same-is}
 use Rattle.spec.proofs.Bits.{set-lt, set-ext}
 use Rattle.spec.proofs.Path.{under-zero}
+use Rattle.paths.specs.Forms.{form_by}
 use Rattle.select.specs.Choice.{type_given, taken, chosen, by_names, SelectionFits}
 
 -- ---- names
@@ -184,12 +185,9 @@ module _ (model names path : List ℕ) where
   unfolding select select_form
   path-other e = rw (← e)
 
-  pub path-subtree : (t : List ℕ) (r : Option ℕ) → subtree t ≡ form_of path → r ≡ select_subtree model names t
-      → r ≡ select model names (Some path)
+  -- a path with names, by whether an item type is one of them
+  pub path-by : (t : List ℕ) (y : Option (Bor (List ℕ))) (r : Option ℕ) → form_by t y ≡ form_of path
+      → r ≡ by_names model names t (type_given y) → r ≡ select model names (Some path)
   unfolding select select_form
-  path-subtree t r e g = rw (← e, g)
-
-  pub path-typed : (t y : List ℕ) (r : Option ℕ) → typed t y ≡ form_of path → r ≡ select_typed model names t y
-      → r ≡ select model names (Some path)
-  unfolding select select_form
-  path-typed t y r e g = rw (← e, g)
+  path-by t None r e g = rw (← e, g)
+  path-by t (Some y) r e g = rw (← e, g)

@@ -9,7 +9,7 @@ ghost use Rattle.spec.specs.Path.{has_type, under, select};
 ghost use Rattle.select.specs.Choice.{type_given, chosen, by_names, SelectionFits};
 
 use model::Named;
-use paths::PathForm;
+use paths::{PathForm, path_form};
 
 // Whether the name in a cell is the text t. Most names differ early: only a name that agrees so far is measured.
 fn is_named(cell: &[u8], t: &[u8]) -> bool
@@ -86,8 +86,6 @@ pub fn select_path(model: &Named<'_>, path: &[u8]) -> Option<u64>
     ensures value { result ≡ select model.now.words model.now.names.now (Some path.now) }
     ensures selection_fits { SelectionFits result (items model.now.words) }
 {
-    match paths::path_form(path)? {
-        PathForm::Subtree(t) => select_names(model, t, None),
-        PathForm::Typed(t, y) => select_names(model, t, Some(y)),
-    }
+    let PathForm { t, y } = path_form(path)?;
+    select_names(model, t, y)
 }

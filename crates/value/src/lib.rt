@@ -111,7 +111,8 @@ pub fn takes(category: u64, v: Value) -> bool
     }
 }
 
-// The condition of a low word, or what no item takes where its level is above 2.
+// The condition of a low word, or what no item takes where its level is above 2. By number, as decode_kind has it: a
+// TryFrom would refuse a level for which NO_VALUE is wanted.
 fn condition_of(low: u32) -> Value
     ensures { result ≡ decode_kind 3 low }
 {

@@ -4,10 +4,10 @@ use Rattle.writer.proofs.Laws.{put-none}
 use native.Mathlib.Omega.{arith}
 use Rattle.line.proofs.put_time.Goals as goal
 
-pub returns-then-t-eq0 : goal.returns-then-t-eq0
-returns-then-t-eq0 c =
-    rw (no-time _ c.if-t-eq0.true) (put-none _ (omega arith))
+pub returns-then-t-ne0 : goal.returns-then-t-ne0
+returns-then-t-ne0 c =
+    rw (some-time _ c.if-t-ne0.true) c.put_stamp.ensures
 
-pub returns : goal.returns
-returns c =
-    rw (some-time _ c.if-t-eq0.false) c.put_stamp.ensures
+pub returns-else-t-ne0 : goal.returns-else-t-ne0
+returns-else-t-ne0 c =
+    rw (no-time _ c.if-t-ne0.false) (put-none _ (omega arith))

@@ -21,8 +21,8 @@ home_of-component-requires c =
     own-item d.model.words d.reply c.args.i c.row_at.ensures.packed c.item_of-item.ensures
     c.self.invariant.documented.accepted (rw (← c.self.view_is) at c.requires)
 
-pub item_cell-requires : goal.item_cell-requires
-item_cell-requires c =
+pub item_text-t-requires : goal.item_text-t-requires
+item_text-t-requires c =
     let d = c.self.inside in
     own-item d.model.words d.reply c.args.i c.row_at.ensures.packed c.item_of-item.ensures
     c.self.invariant.documented.accepted (rw (← c.self.view_is) at c.requires)
@@ -35,7 +35,7 @@ returns-then-eq c =
     (line-put d.model.words d.model.names.now c.args.c _ (row_at d.reply c.args.i)
     (own-word d.model.words d.reply c.args.i c.row_at.ensures.packed c.item_of-item.ensures refl)
     (sym home.component ∙ c.if-component-c.true) (sym home.group ∙ number-same _ _ c.eq.ensures c.if-eq.true) _ _ _ _ _
-    (rw c.item_cell.ensures at c.name_text-t.ensures) refl
+    c.item_text-t.ensures refl
     c.row_at-then-eq.ensures.number c.row_at-then-eq.ensures.time c.row_at-then-eq.ensures.packed c.put_row.ensures)
 
 pub returns-else-component-c : goal.returns-else-component-c
