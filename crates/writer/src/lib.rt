@@ -94,7 +94,8 @@ impl<'a> Output<'a> {
         let mut i = 19;
         digits[i] = b'0' + ((n % 10) as u8);
         let mut left = n / 10;
-        // No range is plainer: what is left of n ends the loop, not a count.
+        // No range is plainer: what is left of n ends the loop, not a count. No itoa: it has its pairs of digits in a
+        // table, and the archive has none (docs/DECISIONS.md, "Byte classes").
         while 0 < left {
             i -= 1;
             digits[i] = b'0' + ((left % 10) as u8);
