@@ -13,7 +13,8 @@ counted d =
     let a = d.year - 1968 - (14 - d.month) / 12 in
     a / 4 * 1461 + (365 * (a % 4) + (153 * ((d.month + 9) % 12) + 2) / 5 + (d.day - 1))
 
--- of a real date, the bounds of the sums
+-- Of a real date, the bounds of the sums, each by itself: grind takes no field out of the record that real-bounds gives
+-- (tried with it in their place: it leaves twelve goals open).
 module _ (d : Date) (h : real_date d ≡ true) where
   pub year-from : 1970 ≤ d.year
   year-from = (real-bounds d h).year-from

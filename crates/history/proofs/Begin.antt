@@ -118,7 +118,7 @@ start-answers a = go (model_ok a.model a.names) refl
 -- ---- an accepted start
 
 never : (r : Refusal) (q : State) → not_begun r ≡ begun q → ⊥
-never r q e = let z : ◌≡◌ {A = ℕ} 0 1 = cc in omega arith
+never r q e = cc
 
 -- a decision that begins passed its test
 begun-past : (t : Bool) (x : Begun) (p : State) (r : Refusal) → cond t (not_begun r) x ≡ begun p → (t ≡ false) × (x ≡ begun p)

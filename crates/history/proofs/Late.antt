@@ -61,7 +61,7 @@ later-between a (c ∷ cs) p (suc i) (suc j) h =
 -- ---- the next number that a state gives
 
 refused-done : (r : Refusal) (k : ℕ) → Err r ≡ Ok k → ⊥
-refused-done r k e = let z : ◌≡◌ {A = ℕ} 0 1 = (cc) in omega arith
+refused-done r k e = cc
 
 module _ (p : State) where
   -- an accepted reply's next number is a number of p, or the one behind them

@@ -92,20 +92,28 @@ module _ (cat : ℕ → ℕ) (N m B : ℕ) (H : List Observation) (st : List ℕ
   triple-at : (j : ℕ) → j < length H → length H ≤ j + N → (B + j) ∷ entry N B st (B + j) ≡ triple (get_or H j nothing)
   triple-at j h l = rw (entry_at j h l, numbered-at H B j R.numbered h)
 
+  -- one number further
+  next-number : (j : ℕ) → suc (B + j) ≡ B + suc j
+  next-number j = omega arith
+
+  one-less : (j k : ℕ) → j + suc k ≡ suc j + k
+  one-less j k = omega arith
+
+  one-taken : (j : ℕ) → j < length H → take (suc j) H ≡ take j H ++ (get_or H j nothing ∷ [])
+  one-taken j h = take-suc H j nothing h
+
   pub ring-rows : (sel : ℕ) (k j : ℕ) → j + k ≤ length H → length H ≤ j + N
       → sample_rows N B st sel k (B + j) ≡ map triple (keep (λ o. bit sel o.item) (slice j (j + k) H))
   unfolding sample_rows pick_rows keep
   ring-rows sel zero j h l = rw (add-zero j, slice_empty j H)
   ring-rows sel (suc k) j h l =
-      let q : j + suc k ≡ suc j + k = omega arith in
-      let q' : suc (B + j) ≡ B + suc j = omega arith in
       rw (
         item-at j (omega arith) l,
         triple-at j (omega arith) l,
-        q',
+        next-number j,
         ring-rows sel k (suc j) (omega arith) (omega arith),
         slice-cons j (j + suc k) H nothing (omega arith) h,
-        q,
+        one-less j k,
       )
       (cond_map triple (bit sel (get_or H j nothing).item) (get_or H j nothing)
       (keep (λ o. bit sel o.item) (slice (suc j) (suc j + k) H)))
@@ -114,11 +122,10 @@ module _ (cat : ℕ → ℕ) (N m B : ℕ) (H : List Observation) (st : List ℕ
   unfolding ring_ok every
   ring-ok zero j h l = refl
   ring-ok (suc k) j h l =
-      let q' : suc (B + j) ≡ B + suc j = omega arith in
       rw (
         item-at j (omega arith) l,
         lt-ltb (get_or H j nothing).item m (R.fits j (omega arith)).0,
-        q',
+        next-number j,
         ring-ok k (suc j) (omega arith) (omega arith),
       )
 
@@ -128,10 +135,8 @@ module _ (cat : ℕ → ℕ) (N m B : ℕ) (H : List Observation) (st : List ℕ
   unfolding entries_in
   entries_at i c zero j h l = rw (add-zero j)
   entries_at i c (suc k) j h l =
-      let q : j + suc k ≡ suc j + k = omega arith in
-      let q' : suc (B + j) ≡ B + suc j = omega arith in
       let o : Observation = get_or H j nothing in
-      let t : take (suc j) H ≡ take j H ++ (o ∷ []) = take-suc H j nothing (omega arith) in
+      let t = one-taken j (omega arith) in
       let e : cond (eqb o.item i) (step i (showing i (take j H)) (triple o)) (showing i (take j H))
       ≡ showing i (take (suc j) H) =
       by-test (eqb o.item i)
@@ -140,7 +145,7 @@ module _ (cat : ℕ → ℕ) (N m B : ℕ) (H : List Observation) (st : List ℕ
       (step-entries i (take j H) o (right-take cat N m B H st R j) (R.few i j c)
       (eqb-true o.item i f, (right cat N m B H st R j (omega arith)).0, (right cat N m B H st R j (omega arith)).1)))
       (λ f. rw (f, t, standing-snoc (take j H) o i, newest-snoc (take j H) o i, f)) in
-      rw (item-at j (omega arith) l, triple-at j (omega arith) l, q', q)
+      rw (item-at j (omega arith) l, triple-at j (omega arith) l, next-number j, one-less j k)
       (ap (entries_in N B st i k (B + suc j)) e ∙ entries_at i c k (suc j) (omega arith) (omega arith))
 
   newest-at : (i k j : ℕ) → j + k ≤ length H → length H ≤ j + N
@@ -148,14 +153,12 @@ module _ (cat : ℕ → ℕ) (N m B : ℕ) (H : List Observation) (st : List ℕ
   unfolding newest_in
   newest-at i zero j h l = rw (add-zero j)
   newest-at i (suc k) j h l =
-      let q : j + suc k ≡ suc j + k = omega arith in
-      let q' : suc (B + j) ≡ B + suc j = omega arith in
       let o : Observation = get_or H j nothing in
-      let t : take (suc j) H ≡ take j H ++ (o ∷ []) = take-suc H j nothing (omega arith) in
+      let t = one-taken j (omega arith) in
       let e : cond (eqb o.item i) (triple o) (triple (newest i (take j H))) ≡ triple (newest i (take (suc j) H)) =
       by-test (eqb o.item i) (λ f. rw (f, t, newest-snoc (take j H) o i, f))
       (λ f. rw (f, t, newest-snoc (take j H) o i, f)) in
-      rw (item-at j (omega arith) l, triple-at j (omega arith) l, q', q)
+      rw (item-at j (omega arith) l, triple-at j (omega arith) l, next-number j, one-less j k)
       (ap (newest_in N B st i k (B + suc j)) e ∙ newest-at i k (suc j) (omega arith) (omega arith))
 
   -- numbers counted from 0: the ring begins at length H - N, hi is a + 1

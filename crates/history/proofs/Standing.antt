@@ -6,7 +6,7 @@ use mathlib.Core.Logic.{◌≢◌, ◌⊎◌, inl, inr, ◌↔◌}
 use mathlib.Core.Bool.{Bool, true, false, cond, ◌&&◌, ◌||◌, not, true≢false, false≢true}
 use Prim.Native.Nat.{ℕ, suc, ◌≤◌, ◌<◌}
 use native.Mathlib.Omega.{arith}
-use mathlib.Core.List.{List, [], ◌∷◌, ◌++◌, map, append-nil, append_assoc}
+use mathlib.Core.List.{List, [], ◌∷◌, ◌++◌, map, append-nil, append_assoc, nil≢cons}
 use lib.Dec.{leb, ltb, eqb}
 use lib.ListN.{length, get_or, length-append, length-map}
 use lib.Seq.{get_or-append_seam}
@@ -395,9 +395,6 @@ module _ (c i : ℕ) (E : List Observation) (o : Observation) where
       (λ g. inr (rw (e, f, g) at h, rw (e, f, g)))))
       (λ e. inr (rw e at h, rw e))
     where
-      nil≢cons : ◌≡◌ {A = List Observation} [] (x ∷ []) → ⊥
-      nil≢cons q = let z : ◌≡◌ {A = ℕ} 0 1 = ap length q in omega arith
-
       head-is : ◌≡◌ {A = List Observation} (o ∷ []) (x ∷ []) → o ≡ x
       head-is q = cc
 
@@ -456,9 +453,6 @@ pub stands_by : (c i : ℕ) (H : List Observation) (o : Observation) → (entry 
 unfolding keep
 stands_by c i H o = (there, back)
   where
-    nil≢cons : ◌≡◌ {A = List Observation} [] (o ∷ []) → ⊥
-    nil≢cons q = let z : ◌≡◌ {A = ℕ} 0 1 = ap length q in omega arith
-
     is : entry c (standing i H) ≡ entry_from c i [] H
     is = entry-from c i [] H (λ d. omega arith)
 

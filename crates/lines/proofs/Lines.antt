@@ -29,8 +29,8 @@ use Rattle.lines.specs.declared.Form.TheVariants.{Missing, Decimal, State}
 use Rattle.lines.specs.declared.Line.{Line}
 use Rattle.lines.specs.declared.LineError.{LineError}
 use Rattle.lines.specs.declared.LineError.TheVariants.{Malformed, BadStamp}
-use Rattle.spec.proofs.Words.{and_right, every-at}
-use Rattle.spec.proofs.Packing.{Coded, taken-coded, cond-fits, no-value-fits}
+use Rattle.spec.proofs.Words.{and_right, every-at, by_cond}
+use Rattle.spec.proofs.Packing.{Coded, taken-coded, no-value-fits}
 use Rattle.spec.proofs.Bytes.{Lacks, all_append, all-imp, split-last, split-more, same-ne}
 use Rattle.spec.proofs.Digits.{Spells, decimal-spells, spelled, digit-other, digits-lack}
 use Rattle.lines.proofs.Stamps.{time-back, time-max, date-real, text-class, text-formed, text-back}
@@ -78,27 +78,29 @@ value-back category (Condition l c) s h = rw (lt-ltb c (2 ^ 24) h)
 
 -- whatever the form, the value's type holds it
 sample-fits : (minus : Bool) (n : ℕ) → Fits (sample_for minus n)
-sample-fits false n = cond-fits (ltb n (2 ^ 31)) (Sample (pos n)) no_value (ltb-true n (2 ^ 31)) no-value-fits
+sample-fits false n = by_cond Fits (ltb n (2 ^ 31)) (Sample (pos n)) no_value (ltb-true n (2 ^ 31)) (λ e. no-value-fits)
 sample-fits true zero = omega arith
-sample-fits true (suc n) = cond-fits (ltb n (2 ^ 31)) (Sample (negsuc n)) no_value (ltb-true n (2 ^ 31)) no-value-fits
+sample-fits true (suc n) =
+    by_cond Fits (ltb n (2 ^ 31)) (Sample (negsuc n)) no_value (ltb-true n (2 ^ 31)) (λ e. no-value-fits)
 
 event-fits : (minus point : Bool) (n : ℕ) → Fits (event_for minus point n)
 event-fits minus point n =
-    cond-fits (not minus && (not point && ltb n (2 ^ 32))) (Event n) no_value
+    by_cond Fits (not minus && (not point && ltb n (2 ^ 32))) (Event n) no_value
     (λ e. ltb-true n (2 ^ 32) (and_right (not point) _ (and_right (not minus) _ e)))
-    no-value-fits
+    (λ e. no-value-fits)
 
 pub value-fits : (category : ℕ) (f : Form) → Fits (value_for category f)
 unfolding value_for
 value-fits category Missing = tt
 value-fits category (Decimal minus whole part) =
-    cond-fits (eqb category 0) (sample_for minus (whole * 1000 + unwrap_or part 0)) (event_for minus (is_some part) whole)
+    by_cond Fits (eqb category 0) (sample_for minus (whole * 1000 + unwrap_or part 0))
+    (event_for minus (is_some part) whole)
     (λ e. sample-fits minus (whole * 1000 + unwrap_or part 0))
-    (event-fits minus (is_some part) whole)
+    (λ e. event-fits minus (is_some part) whole)
 value-fits category (State level code) =
-    cond-fits (ltb code (2 ^ 24)) (Condition level code) no_value
+    by_cond Fits (ltb code (2 ^ 24)) (Condition level code) no_value
     (λ e. (let l = ltb-true code (2 ^ 24) e in omega arith))
-    no-value-fits
+    (λ e. no-value-fits)
 
 -- ---- numbers
 
@@ -376,7 +378,7 @@ numeral-max s h =
 
 module _ (time item : ℕ) (f : Form) where
   not-read : (x : LineError) → Err x ≡ reads time item f → Bounded time item
-  not-read x e = let z : ◌≡◌ {A = ℕ} 0 1 = cc in absurd (omega arith)
+  not-read x e = absurd (cc)
 
   parts-bounded : (a b : List ℕ) (g : Option Form) → line_in a b g ≡ reads time item f → Bounded time item
   unfolding line_in

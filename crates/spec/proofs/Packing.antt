@@ -1,7 +1,7 @@
 -- Values and their words: the bounds of a word, each value back from its word, so that packing is one-to-one.
 use Prim.Native.Nat.{ℕ, zero, suc, ◌+◌, ◌-◌, ◌*◌, ◌/◌, ◌%◌, ◌^◌, ◌≤◌, ◌<◌}
 use mathlib.Core.Path.{◌≡◌, refl, sym, ap, ◌∙◌}
-use mathlib.Core.Bool.{Bool, true, false, cond, and-false, and-eq-true_iff, true≢false}
+use mathlib.Core.Bool.{Bool, true, false, and-false, and-eq-true_iff, true≢false}
 use native.Mathlib.Nat.{div-add-mod', mod-lt}
 use native.Mathlib.Omega.{arith}
 use lib.Arith.{digits_div, digits_mod}
@@ -13,6 +13,7 @@ use Rattle.spec.specs.declared.Level.{Level}
 use Rattle.spec.specs.declared.Level.TheVariants.{Normal, Warning, Fault}
 use Rattle.spec.specs.declared.Value.{Value}
 use Rattle.spec.specs.declared.Value.TheVariants.{Unavailable, Sample, Event, Condition}
+use Rattle.spec.proofs.Words.{by_cond}
 
 -- a value whose fields fit its word: as `Fits`, with a native code below 2^24
 abbrev pub Coded : Value → Type 0
@@ -47,10 +48,6 @@ kind-le (Condition l c) = omega arith
 
 pub word_lt : (v : Value) → Coded v → value_word v < 2 ^ 34
 word_lt v h = omega (arith, low-lt v h, kind-le v)
-
--- the word of a value that an item takes
-pub taken-word-lt : (category : ℕ) (v : Value) → takes category v ≡ true → Fits v → value_word v < 2 ^ 34
-taken-word-lt category v h f = word_lt v (taken-coded category v h f)
 
 -- ---- back from the word
 
@@ -154,10 +151,6 @@ word_back category word h =
 
 -- ---- a decoded word fits its type, whatever the word
 
-pub cond-fits : (t : Bool) (v w : Value) → (t ≡ true → Fits v) → Fits w → Fits (cond t v w)
-cond-fits true v w f g = f refl
-cond-fits false v w f g = g
-
 sample-fits : (l : ℕ) (t : Bool) → ltb l (2 ^ 31) ≡ t → FitsSample (sample_of l)
 sample-fits l true e = rw e (ltb-true l (2 ^ 31) e)
 sample-fits l false e = rw e (omega (arith, ltb-false l (2 ^ 31) e))
@@ -169,13 +162,13 @@ pub no-value-fits : Fits no_value
 no-value-fits = lit< tt
 
 kind_fits : (k l : ℕ) → l < 2 ^ 32 → Fits (decode_kind k l)
-kind_fits zero l b = cond-fits (eqb l 0) Unavailable no_value (λ e. tt) no-value-fits
+kind_fits zero l b = by_cond Fits (eqb l 0) Unavailable no_value (λ e. tt) (λ e. no-value-fits)
 kind_fits (suc zero) l b = sample-fits l (ltb l (2 ^ 31)) refl
 kind_fits (suc (suc zero)) l b = b
 kind_fits (suc (suc (suc zero))) l b =
-    cond-fits (leb (l / 2 ^ 24) 2) (Condition (level_of (l / 2 ^ 24)) (l % 2 ^ 24)) no_value
+    by_cond Fits (leb (l / 2 ^ 24) 2) (Condition (level_of (l / 2 ^ 24)) (l % 2 ^ 24)) no_value
     (λ e. in-u32 (mod-lt l (lit< tt)))
-    no-value-fits
+    (λ e. no-value-fits)
 kind_fits (suc (suc (suc (suc k)))) l b = no-value-fits
 
 pub decode-fits : (word : ℕ) → Fits (decode word)

@@ -379,4 +379,4 @@ module _ (model names reply : List ℕ) (N instance creation : ℕ) (w : Held re
           rw (z, take-append_seam doc (drop (length doc) text)) (reads-back model names reply N instance creation a)
 
       none : {x : Refusal} → Exact (refuse x text)
-      none {x} k e = let z : ◌≡◌ {A = ℕ} 0 1 = cc in absurd (omega arith)
+      none {x} k e = absurd (cc)

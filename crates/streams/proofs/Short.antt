@@ -211,6 +211,7 @@ each-size f G R (suc n) i h =
       each-size f G R n (suc i) (λ k a b. h k (omega arith) (omega arith)),
     ))
 
+-- mathlib's length-eq says it of its own `length`, which is another function
 perm-length : {a b : List Row} → Permᴰ a b → length a ≡ length b
 perm-length Permᴰ.nil = refl
 perm-length (Permᴰ.cons e p) = ap suc (perm-length p)
