@@ -11,6 +11,7 @@ use Rattle.history.specs.Calls.{not_observed, observe_item}
 use Rattle.spec.specs.declared.Value.{Value}
 use Rattle.spec.specs.declared.Refusal.TheVariants.{Item, Kind}
 use Rattle.spec.proofs.Words.{told, by-test}
+use Rattle.spec.proofs.Found.{cond-none, then-some}
 use Rattle.std.specs.Prelude.{Some, None}
 use Rattle.std.specs.Bool.{then_some}
 use Rattle.std.proofs.lemmas.Option.{cond_some}
@@ -53,19 +54,11 @@ module _ (model st : List ℕ) (item time : ℕ) (v : Value) where
 module _ (k item : ℕ) (v : Value) where
   pub taken-is : {b : Bool} {w : ℕ} → b ≡ takes k v → w ≡ pack item v → then_some b w ≡ taken k item v
   unfolding taken
-  taken-is e q = rw (e, q) (some-by (takes k v))
-    where
-      some-by : (b : Bool) → then_some b (pack item v) ≡ cond b (Some (pack item v)) None
-      some-by true = refl
-      some-by false = refl
+  taken-is e q = rw (e, q) (then-some (takes k v) (pack item v))
 
   pub taken-none : None ≡ taken k item v → takes k v ≡ false
   unfolding taken
-  taken-none e = none-by (takes k v) e
-    where
-      none-by : (b : Bool) → None ≡ cond b (Some (pack item v)) None → b ≡ false
-      none-by true q = cc
-      none-by false q = refl
+  taken-none e = cond-none (takes k v) (pack item v) e
 
   pub taken-some : {w : ℕ} → Some w ≡ taken k item v → (takes k v ≡ true) × (w ≡ pack item v)
   unfolding taken

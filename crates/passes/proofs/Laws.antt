@@ -11,6 +11,7 @@ use lib.ListN.{set}
 use borrow.Author.Tests.{lt-ltb}
 use Rattle.spec.specs.Words.{bit}
 use Rattle.spec.specs.Value.{item_of}
+use Rattle.spec.proofs.Words.{one-more, none-left}
 use Rattle.history.specs.Observations.{ring_size, base, place}
 use Rattle.observations.specs.Ring.{ring_word}
 use Rattle.rows.specs.Rows.{Unwrapped}
@@ -108,11 +109,11 @@ module _ {steps m : ℕ} {st : List ℕ} {f s g e : ℕ} (h1 : s ≤ g) (h2 : g 
 
 marks-end : (steps : ℕ) (st : List ℕ) (f s e : ℕ) (l : List (List ℕ)) → e ≤ s → pass_marks steps st f (e - s) s l ≡ l
 unfolding pass_marks
-marks-end steps st f s e l h = let q : e - s ≡ 0 = omega arith in rw q
+marks-end steps st f s e l h = rw (none-left s e h)
 
 ok_end : (steps m : ℕ) (st : List ℕ) (f s e : ℕ) (l : List (List ℕ)) → e ≤ s → pass_ok steps m st f (e - s) s l ≡ true
 unfolding pass_ok
-ok_end steps m st f s e l h = let q : e - s ≡ 0 = omega arith in rw q
+ok_end steps m st f s e l h = rw (none-left s e h)
 
 -- ---- one number, at place q, of an item that isn't stepped
 module _ (steps m : ℕ) (st : List ℕ) (f s e q : ℕ) (l : List (List ℕ)) (h : s < e) (i : q ≡ place (ring_size st) (base st) s)
@@ -125,16 +126,12 @@ module _ (steps m : ℕ) (st : List ℕ) (f s e q : ℕ) (l : List (List ℕ)) (
 
   plain-marks : pass_marks steps st f (e - s) s l ≡ pass_marks steps st f (e - (s + 1)) (s + 1) l
   unfolding pass_marks
-  plain-marks =
-      let z : e - s ≡ suc (e - (s + 1)) = omega arith in
-      rw (z, add-one s) (ap (pass_marks steps st f (e - suc s) (suc s)) same)
+  plain-marks = rw (one-more s e h, add-one s) (ap (pass_marks steps st f (e - suc s) (suc s)) same)
 
   plain_ok : item_of (word_at st q) < m
       → pass_ok steps m st f (e - s) s l ≡ pass_ok steps m st f (e - (s + 1)) (s + 1) l
   unfolding pass_ok stepped_ok
-  plain_ok g =
-      let z : e - s ≡ suc (e - (s + 1)) = omega arith in
-      rw (z, add-one s, plain, lt-ltb (item_of (word_of st s)) m (rw i at g))
+  plain_ok g = rw (one-more s e h, add-one s, plain, lt-ltb (item_of (word_of st s)) m (rw i at g))
 
 -- ---- runs of the ring
 
