@@ -72,7 +72,7 @@ impl<'a> Words<'a> {
         u64::from(words[at])
     }
 
-    // The category of data item j.
+    // The category of data item j. Who asks for one kind compares it: a method for that would be as long.
     pub fn category(&self, j: u64) -> u64
         requires { j < items self.now }
         ensures { result ≡ category self.now j }

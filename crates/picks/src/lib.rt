@@ -98,6 +98,7 @@ fn step_picks(
     let n = st.ring_size();
     for &pick in picks {
         let far = u64::from(pick);
+        // no take_while: it would want a map before it and this test in a closure
         if far == BLOCK {
             break;
         }

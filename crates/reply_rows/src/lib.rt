@@ -49,7 +49,7 @@ impl<'a> Reply<'a> {
         self.words
     }
 
-    // How many rows there are.
+    // How many rows there are. The sizes go by their places, each of which is read here alone.
     pub fn rows(&self) -> usize
         ensures { (result ≡ get_or self.now 0 0) × (4 + 3 * result ≤ length self.now) }
     {
