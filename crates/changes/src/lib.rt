@@ -9,7 +9,7 @@ use spec::ENTRY_SLOTS;
 // What an observation does to the eight entries of its item: it is put at a place, it stands alone, the entry at a
 // place goes out, they stay, or it would be a ninth. Full is no Option's None: by its definition it is a change too,
 // one that leaves the eight as they are, so that who knows that there is room does the change with no test.
-#[derive(Clone, Copy)]
+#[derive(Clone, Copy, PartialEq, Eq)]
 pub enum Change {
     Put(usize),
     Alone,

@@ -38,7 +38,8 @@ pub struct Filled {
 }
 
 // Item own's eight entries as marks, where they have their written form; none used is no refusal, since a checkpoint
-// may have none, and who needs one filters it out.
+// may have none, and who needs one filters it out. By place, and over no iterator of rows: each turn asks for the place
+// four times.
 pub fn fill(entries: &Entries<'_>, own: u64) -> Option<Filled>
     requires own_bound { own < 2 ^ 24 }
     ensures { MatchOption result (form_ok own 0 entries.now ≡ false)

@@ -15,7 +15,6 @@ use Rattle.changes.specs.Changes.{ChangeFits, change_for, changed, is_full}
 use Rattle.marks.specs.Marks.{eight_at}
 use Rattle.marks.specs.Marked.{Marked}
 use Rattle.changes.specs.declared.Change.{Change}
-use Rattle.changes.specs.declared.Change.TheVariants.{Put, Alone, Out, Stay, Full}
 use Rattle.changes.proofs.Steps.{change-full, change-steps, changed-map, length-changed}
 use Rattle.entries.specs.Forms.{marks_of, FilledBy}
 use Rattle.stepping.specs.Taking.{takes_one}
@@ -23,14 +22,6 @@ use Rattle.entries.proofs.Columns.{column, length-column, drop-sets, put-columns
 use Rattle.entries.proofs.Columns.{numbers-read, times-read, words-read}
 use Rattle.entries.proofs.Filling.{rows-many, by-marked, by-eight, by-formed}
 use Rattle.entries.proofs.Marks.{length-marks, marks-of, form-zeros, rows-padded}
-
--- any other change than Full
-pub not_full : (h : Change) → (h ≡ Full → ⊥) → is_full h ≡ false
-not_full (Put j) n = refl
-not_full Alone n = refl
-not_full (Out j) n = refl
-not_full Stay n = refl
-not_full Full n = absurd (n refl)
 
 pub takes-broken : (own : ℕ) (rs : List (List ℕ)) (word : ℕ) → form_ok own 0 rs ≡ false → false ≡ takes_one own rs word
 unfolding takes_one

@@ -23,7 +23,7 @@ pub fn takes_one(entries: &Entries<'_>, own: u64, word: u64) -> bool
     let Some(filled) = entries::fill(entries, own) else {
         return false;
     };
-    !matches!(changes::change_for(&filled.marks, own, word), Change::Full)
+    changes::change_for(&filled.marks, own, word) != Change::Full
 }
 
 // The change done to the first eight of these words, x being the new one.
