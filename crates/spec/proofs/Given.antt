@@ -1,11 +1,17 @@
 -- What a loop over an iterator knows of the items that are left, and the parts that the library's split gives.
 use Prim.Native.Nat.{ℕ}
 use mathlib.Core.Path.{◌≡◌, refl}
+use mathlib.Core.Bool.{Bool, false}
 use mathlib.Core.List.{List, [], ◌∷◌}
+use denote.Param.Members.{Mut}
+use denote.Ref.{Bor}
 use lib.Dec.{eqb}
+use Rattle.std.specs.Fn.{CalledAt}
+use Rattle.std.specs.Slice.Iter as slice
 use Rattle.std.specs.Prelude.{Option, Some, None}
 use Rattle.std.specs.List.{slice_split, onto_first}
 use Rattle.std.proofs.lemmas.Iterator.{YieldsList}
+use Rattle.std.proofs.lemmas.Iterator.Splits.{YieldsList-from_slice_split}
 use Rattle.spec.specs.Bytes.{split, join_first}
 
 module _ {S A B : Type 0} {steps : S → Option A → S → Type 0} {v : A → B} {s t : S} where
@@ -25,7 +31,15 @@ split-first x [] = refl
 split-first x (p ∷ ps) = refl
 
 -- the library's parts
-pub split-is : (b : ℕ) (s : List ℕ) → slice_split (λ x. eqb x b) s ≡ split b s
+split-is : (b : ℕ) (s : List ℕ) → slice_split (λ x. eqb x b) s ≡ split b s
 unfolding split
 split-is b [] = refl
 split-is b (x ∷ xs) = rw (split-is b xs, split-first x (split b xs))
+
+-- a slice that is cut at each b is to give its parts
+pub split-given : {F : Type 0} {s : _} (g : Mut F (Bor ℕ × Unit {0}) Bool) (b : ℕ) {f : F} (xs : List ℕ)
+    → slice.split_rest s ≡ xs → slice.split_done s ≡ false → slice.split_callee s ≡ f
+    → ((x : ℕ) (t : Bool) (q : F) → CalledAt g f x t q → (q ≡ f) × (t ≡ eqb x b))
+    → YieldsList (slice.split_steps g) (λ x. x.now) s (split b xs)
+split-given g b xs rest done closure tests =
+    rw (← split-is b xs) (YieldsList-from_slice_split g (λ x. eqb x b) xs rest done closure tests)

@@ -1,10 +1,8 @@
 -- A turn puts the first word that the iterator gives; at its end none is left.
-use Rattle.std.proofs.Common.{rules, tests, arith, ℕ}
-use Rattle.std.specs.List.{slice_split}
-use Rattle.std.proofs.lemmas.Iterator.Splits.{YieldsList-from_slice_split}
+use Rattle.std.proofs.Common.{rules, tests, arith}
 use Rattle.std.proofs.iter.Serving.{serving}
-use lib.Dec.{eqb}
-use Rattle.spec.proofs.Given.{split-is, given-next, given-none}
+use Rattle.spec.specs.Bytes.{split}
+use Rattle.spec.proofs.Given.{split-given, given-next, given-none}
 use Rattle.element.proofs.Laws.{worded-none, worded-more, worded-all}
 use Rattle.element.proofs.put_pascal.Goals as goal
 
@@ -15,11 +13,10 @@ loop-word-init c =
       (
         search rules,
         (
-          slice_split (λ (x : ℕ). eqb x 95) s,
+          split 95 s,
           (
-            YieldsList-from_slice_split _ (λ x. eqb x 95) s (search rules) (search rules) (search rules)
-                (λ x b q k. search (rules, tests)),
-            rw (split-is 95 s) (worded-none _ _ (omega arith)),
+            split-given _ 95 s (search rules) (search rules) (search rules) (λ x b q k. search (rules, tests)),
+            worded-none _ _ (omega arith),
           ),
         ),
       ),

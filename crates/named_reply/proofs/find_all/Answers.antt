@@ -1,12 +1,9 @@
 -- A turn finds the first id that the iterator gives; at its end none is left.
 use Rattle.std.proofs.Common.{rules, tests, arith}
-use Rattle.std.specs.List.{slice_split}
-use Rattle.std.proofs.lemmas.Iterator.Splits.{YieldsList-from_slice_split}
 use Rattle.std.proofs.iter.Serving.{serving}
 use Rattle.std.proofs.lemmas.Result.{err_from_is_err_and}
-use lib.Dec.{eqb}
-use Prim.Native.Nat.{ℕ}
-use Rattle.spec.proofs.Given.{split-is, given-next, given-none}
+use Rattle.spec.specs.Bytes.{split}
+use Rattle.spec.proofs.Given.{split-given, given-next, given-none}
 use Rattle.named_reply.proofs.Laws.{finding-none, finding-room, finding-missing, finding-more, finding-last}
 use Rattle.named_reply.proofs.find_all.Goals as goal
 
@@ -17,12 +14,10 @@ loop-id-init c =
       (
         search rules,
         (
-          slice_split (λ (x : ℕ). eqb x 59) ids,
+          split 59 ids,
           (
-            YieldsList-from_slice_split _ (λ x. eqb x 59) ids (search rules) (search rules) (search rules)
-                (λ x b q k. search (rules, tests)),
-            rw (split-is 59 ids)
-                (finding-none _ _ _ c.requires.ids_length c.new-found.ensures c.requires.ids_value),
+            split-given _ 59 ids (search rules) (search rules) (search rules) (λ x b q k. search (rules, tests)),
+            finding-none _ _ _ c.requires.ids_length c.new-found.ensures c.requires.ids_value,
           ),
         ),
       ),
