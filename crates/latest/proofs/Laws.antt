@@ -19,7 +19,7 @@ use Rattle.spec.specs.Entries.{used_rows, form_ok}
 use Rattle.spec.specs.Model.{max_items}
 use Rattle.history.specs.Observations.{Head, ring_size, latest_at, is_condition, item_rows, latest_rows}
 use Rattle.history.specs.Observations.{current_ok, current_rows}
-use Rattle.spec.proofs.Words.{by-test, and_right, by_cond, told, every-no, every-yes, every-end}
+use Rattle.spec.proofs.Words.{by-test, and_right, by_cond, told, every-no, every-yes, every-end, one-more, none-left}
 use Rattle.spec.proofs.Bits.{rows-ones}
 use Rattle.history.proofs.Pass.{current-count}
 use Rattle.entries.proofs.Filling.{rows-many}
@@ -77,11 +77,11 @@ module _ (p : ℕ → Bool) (v : ℕ → List (List ℕ)) where
   extra-step : (i m : ℕ) → i < m
       → extra_rows p v (m - i) i ≡ cond (p i) (length (v i) - 1) 0 + extra_rows p v (m - (i + 1)) (i + 1)
   unfolding extra_rows
-  extra-step i m h = let q : m - i ≡ suc (m - (i + 1)) = omega arith in rw (q, add-one i)
+  extra-step i m h = rw (one-more i m h, add-one i)
 
   extra-none : (i m : ℕ) → m ≤ i → extra_rows p v (m - i) i ≡ 0
   unfolding extra_rows
-  extra-none i m h = let q : m - i ≡ 0 = omega arith in rw q
+  extra-none i m h = rw (none-left i m h)
 
   extra-most : (b n s : ℕ) → ((i : ℕ) → length (v i) ≤ suc b) → extra_rows p v n s ≤ b * n
   unfolding extra_rows

@@ -6,6 +6,7 @@ use native.Mathlib.Numerals.{add-one}
 use native.Mathlib.Omega.{arith}
 use lib.ListN.{set}
 use Rattle.spec.specs.Value.{item_of}
+use Rattle.spec.proofs.Words.{one-more, none-left}
 use Rattle.history.specs.Observations.{ring_size, base, place}
 use Rattle.rows.specs.Rows.{Unwrapped}
 use Rattle.rows.proofs.Ranges.{run-next}
@@ -16,13 +17,13 @@ use Rattle.picks.specs.Pass.{seen_from}
 
 pub seen_end : (st : List ℕ) (f s e : ℕ) (w : List ℕ) → e ≤ s → seen_from st f (e - s) s w ≡ w
 unfolding seen_from
-seen_end st f s e w h = let q : e - s ≡ 0 = omega arith in rw q
+seen_end st f s e w h = rw (none-left s e h)
 
 -- one number, at place q
 pub seen_step : (st : List ℕ) (f s e q : ℕ) (w : List ℕ) → s < e → q ≡ place (ring_size st) (base st) s
     → seen_from st f (e - s) s w ≡ seen_from st f (e - (s + 1)) (s + 1) (set w (item_of (word_at st q)) (s - f + 9))
 unfolding seen_from
-seen_step st f s e q w h i = let z : e - s ≡ suc (e - (s + 1)) = omega arith in rw (z, add-one s, i)
+seen_step st f s e q w h i = rw (one-more s e h, add-one s, i)
 
 -- ---- runs of the ring
 

@@ -8,9 +8,8 @@ use native.Mathlib.Omega.{arith}
 use lib.ListN.{length, length-append}
 use Rattle.spec.specs.Blocks.{flat_rows}
 use Rattle.spec.specs.Reply.{numbers, pairs}
-use Rattle.spec.proofs.Words.{by-test}
+use Rattle.spec.proofs.Words.{by-test, one-more, none-left}
 use Rattle.rows.specs.Rows.{rows_at, rows_into}
-use Rattle.rows.proofs.Ranges.{one-more}
 use Rattle.rows.proofs.Writing.{rows_more, rows_append, length-rows}
 
 -- ---- a list's rows, one at a time: `left` of rs are to be written yet, the next one to word c; the first went to d
@@ -60,7 +59,7 @@ module _ (p : ℕ → Bool) (v : ℕ → List (List ℕ)) (i m : ℕ) where
 
   pub flat-none : m ≤ i → flat_rows p v (m - i) i ≡ []
   unfolding flat_rows
-  flat-none h = let q : m - i ≡ 0 = omega arith in rw q
+  flat-none h = rw (none-left i m h)
 
 -- ---- a loop that writes the rows of m numbers: the k rows' first c are those of the numbers below i
 pub record FlatWriting (p : ℕ → Bool) (v : ℕ → List (List ℕ)) (m k : ℕ) (o l : List ℕ) (c i : ℕ) : Type 0 where

@@ -9,13 +9,11 @@ use native.Mathlib.Numerals.{add-one}
 use native.Mathlib.Omega.{arith}
 use lib.ListN.{length}
 use Rattle.spec.specs.Words.{every, pick_rows}
+use Rattle.spec.proofs.Words.{one-more, none-left}
 use Rattle.history.specs.Observations.{place}
 use Rattle.rows.specs.Rows.{Unwrapped, TwoRuns}
 
--- ---- the numbers from s up to e: one more, none, and two parts
-
-pub one-more : (s e : ℕ) → s < e → e - s ≡ suc (e - (s + 1))
-one-more s e h = omega arith
+-- ---- the numbers from s up to e: two parts, one more, and none
 
 module _ (p : ℕ → Bool) where
   every-add : (a b s : ℕ) → every p (a + b) s ≡ every p a s && every p b (s + a)
@@ -55,7 +53,7 @@ module _ (p : ℕ → Bool) (v : ℕ → List ℕ) where
 
   pub rows_end : (s e : ℕ) → e ≤ s → pick_rows p v (e - s) s ≡ []
   unfolding pick_rows
-  rows_end s e h = let q : e - s ≡ 0 = omega arith in rw q
+  rows_end s e h = rw (none-left s e h)
 
   pub rows_split : (f g e : ℕ) → f ≤ g → g ≤ e → pick_rows p v (e - f) f
       ≡ pick_rows p v (g - f) f ++ pick_rows p v (e - g) g

@@ -15,7 +15,7 @@ use borrow.Author.Tests.{lt-ltb, le-ltb, ltb-false, eqb-false}
 use Rattle.spec.specs.Words.{bit, row}
 use Rattle.spec.specs.Blocks.{flat_rows}
 use Rattle.history.specs.Observations.{ring_size, base, numbered, checkpoint_at}
-use Rattle.spec.proofs.Words.{by-test}
+use Rattle.spec.proofs.Words.{by-test, one-more}
 use Rattle.marks.specs.Marks.{place_in}
 use Rattle.snapshot_rows.specs.Held.{row_of, used_places, item_places, marked_rows, held_by, held_count}
 
@@ -101,7 +101,7 @@ module _ {m selection : ℕ} {l : List (List ℕ)} {k i : ℕ} (v : Counting m s
         ≡ cond (bit selection i) (length (item_places l i) + held_count selection l (m - (i + 1)) (i + 1))
         (held_count selection l (m - (i + 1)) (i + 1))
     unfolding held_count
-    count_next = let q : m - i ≡ suc (m - (i + 1)) = omega arith in rw (q, add-one i)
+    count_next = rw (one-more i m h, add-one i)
 
     pub counting_more : (u : List ℕ) → bit selection i ≡ true → map place_in u ≡ item_places l i → length u ≤ 8
         → Counting m selection l (k + length u) (i + 1)

@@ -13,7 +13,7 @@ use Rattle.spec.specs.Model.{max_items}
 use Rattle.spec.specs.Blocks.{table_rows, padded, unused}
 use Rattle.spec.specs.Entries.{each_row, zero_row, used_rows, form_ok, packed}
 use Rattle.history.specs.Observations.{ring_size, checkpoint_at, item_rows}
-use Rattle.spec.proofs.Words.{by-test, and_left, and_right, every-no, every-yes, every-end}
+use Rattle.spec.proofs.Words.{by-test, and_left, and_right, every-no, every-yes, every-end, one-more}
 use Rattle.spec.proofs.Steps.{used-formed}
 use Rattle.marks.specs.Marks.{mark_of, key_of, eight_of}
 use Rattle.marks.proofs.Keys.{key-small, mark-place}
@@ -175,7 +175,7 @@ module _ {steps m : ℕ} {st : List ℕ} {o l : List (List ℕ)} {i : ℕ} (v : 
   module _ (h : i < m) where
     next : begun steps m st (m - i) i l ≡ begun steps m st (m - (i + 1)) (i + 1) (begun_item steps m st i l)
     unfolding begun
-    next = let q : m - i ≡ suc (m - (i + 1)) = omega arith in rw (q, add-one i)
+    next = rw (one-more i m h, add-one i)
 
     -- item i is no condition item
     pub beginning-skip : bit steps i ≡ false → Beginning steps m st o l (i + 1)

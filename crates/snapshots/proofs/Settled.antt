@@ -12,7 +12,7 @@ use borrow.Author.Tests.{ne_eqb, eqb-true, eqb-false, ltb-true, ltb-false}
 use Rattle.spec.specs.Words.{bit, row}
 use Rattle.spec.specs.Value.{item_of}
 use Rattle.history.specs.Observations.{ring_size, base, item_at, numbered, checkpoint_at, item_row, newest_in, if_used}
-use Rattle.spec.proofs.Words.{by-test}
+use Rattle.spec.proofs.Words.{by-test, one-more, none-left}
 use Rattle.marks.specs.Marks.{mark_of, eight_of}
 use Rattle.marks.proofs.Keys.{mark-place}
 use Rattle.snapshot_rows.specs.Held.{row_of, used_places}
@@ -185,9 +185,7 @@ module _ {selection steps m : ℕ} {st w : List ℕ} {o l : List (List ℕ)} {i 
   module _ (h : i < m) where
     settling-next : Settling selection steps m st w o (settled_item selection steps m st w i l) (i + 1)
     unfolding settled
-    settling-next =
-        let q : m - i ≡ suc (m - (i + 1)) = omega arith in
-        record { marks = v.marks ∙ rw (q, add-one i) }
+    settling-next = record { marks = v.marks ∙ rw (one-more i m h, add-one i) }
 
     -- item i doesn't settle
     pub settling-skip : settles selection steps i ≡ false → Settling selection steps m st w o l (i + 1)
@@ -200,4 +198,4 @@ module _ {selection steps m : ℕ} {st w : List ℕ} {o l : List (List ℕ)} {i 
 
   pub settling-end : m ≤ i → l ≡ settled selection steps m st w m 0 o
   unfolding settled
-  settling-end h = let q : m - i ≡ 0 = omega arith in sym (v.marks ∙ rw q)
+  settling-end h = sym (v.marks ∙ rw (none-left i m h))

@@ -16,6 +16,7 @@ use Rattle.history.specs.Observations.{start_store}
 use Rattle.history.specs.Reference.{Observation}
 use Rattle.history.specs.Standing.{entries_of}
 use Rattle.spec.specs.declared.Value.TheVariants.{Unavailable}
+use Rattle.spec.proofs.Words.{one-more}
 use Rattle.history.proofs.Added.{length-evict}
 use Rattle.history.proofs.Kept.{Rep, next, entries-other, add-rep}
 use Rattle.history.proofs.Rows.{evict-ok}
@@ -56,9 +57,8 @@ one_more : (cat : ℕ → ℕ) (n m b host k : ℕ) (st : List ℕ) → k < m
     ≡ add_all cat n m b host (m - k) (b + k) k st
 unfolding add_all
 one_more cat n m b host k st l =
-    let e : m - k ≡ suc (m - (k + 1)) = omega arith in
     let f : b + (k + 1) ≡ suc (b + k) = omega arith in
-    rw (e, f, add-one k)
+    rw (one-more k m l, f, add-one k)
 
 module _ {cat : ℕ → ℕ} {n m b host k p : ℕ} {st : List ℕ} (f : Filling cat n m b host k p st) where
   at_count : evict_ok cat n m b (b + length f.held) st ≡ true
