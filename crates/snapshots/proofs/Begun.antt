@@ -13,7 +13,7 @@ use Rattle.spec.specs.Model.{max_items}
 use Rattle.spec.specs.Blocks.{table_rows, padded, unused}
 use Rattle.spec.specs.Entries.{each_row, zero_row, used_rows, form_ok, packed}
 use Rattle.history.specs.Observations.{ring_size, checkpoint_at, item_rows}
-use Rattle.spec.proofs.Words.{by-test, and_left, and_right, every-no, every-yes, every-end, one-more}
+use Rattle.spec.proofs.Words.{by-test, and_right, every-no, every-yes, every-end, one-more}
 use Rattle.spec.proofs.Steps.{used-formed}
 use Rattle.marks.specs.Marks.{mark_of, key_of, eight_of}
 use Rattle.marks.proofs.Keys.{key-small, mark-place}
