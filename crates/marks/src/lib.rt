@@ -1,7 +1,7 @@
 // The eight entries of a condition item as marks. A mark is the place of its entry's row, from 1 on, times 2^32, and a
 // key: 0 where the entry isn't active, else its code and 1. An unused entry's mark is 0. Neither 0 is an Option: a mark
-// is one word, and the pass over the ring tests it as one. A mark is a u64 and no type of its own: `eights` does one and
-// the same change to marks and to columns of a store's words.
+// is one word, and the pass over the ring tests it as one. A mark is a u64 and no type of its own: `eights` does one
+// and the same change to marks and to columns of a store's words.
 #![tactic(auto)]
 
 ghost use Rattle.std.specs.Prelude.{◌≡◌, ◌+◌, ◌*◌, ◌^◌, ◌<◌, IfSome, length};

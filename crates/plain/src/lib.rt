@@ -26,8 +26,8 @@ pub fn put_number(st: &mut [u64], n: u64, m: u64, p: u64, item: u64, row: Row)
     observations::set_last(st, row.number);
 }
 
-// The entry at place p that number s is about to overwrite, if any, goes to its item's checkpoint as its one row. None, and
-// nothing is changed, where it has no item of the model or one with conditions.
+// The entry at place p that number s is about to overwrite, if any, goes to its item's checkpoint as its one row. None,
+// and nothing is changed, where it has no item of the model or one with conditions.
 fn evict_plain(model: &Words<'_>, st: &mut [u64], n: u64, b: u64, s: u64, p: u64) -> Option<()>
     requires in_ring { InRing n (items model.now) b s st.old }
     requires p_value { (p ≡ place n b s) × (p < n) }
