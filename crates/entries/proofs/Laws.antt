@@ -12,12 +12,15 @@ use borrow.Author.Tests.{eqb-true, eqb-false, eq-eqb, ne_eqb, le-leb, lt-leb, le
 use Rattle.spec.specs.Entries.{active, active_as, code_field, packed, any_entry, each_row, has_code, zero_row, used_rows}
 use Rattle.spec.specs.Entries.{codes_differ, form_ok}
 use Rattle.spec.proofs.Words.{and_left, by-test}
+use Rattle.spec.proofs.Text.{and-left-comm}
+use Rattle.spec.proofs.Found.{cond-none}
 use Rattle.marks.specs.Marks.{key_in, key_of, place_of, found_at}
 use Rattle.marks.specs.Marked.{Marked}
 use Rattle.marks.proofs.Keys.{key-active, key-idle}
 use Rattle.marks.proofs.Places.{place-has, place_none}
 use Rattle.entries.specs.Forms.{may_follow, FilledBy, filled}
 use Rattle.std.specs.Prelude.{Option, Some, None, MatchOption, nat_lt}
+use Rattle.std.proofs.lemmas.Option.{cond_some}
 
 -- ---- one more entry
 
@@ -97,14 +100,10 @@ module _ (own : ℕ) where
   follows-formed (e ∷ es) r f =
       let a : Bool = active own (packed r) in
       let n : Bool = not (has_code own (code_field (packed r)) (e ∷ es)) in
-      swap-front a (active own (packed e)) n
+      and-left-comm a (active own (packed e)) n
       ∙ sym (formed-more (e ∷ es ++ (r ∷ [])) (omega (arith, length-append es (r ∷ [])))
       ∙ codes-snoc own (e ∷ es) r
       ∙ ap (λ (x : Bool). x && (a && n)) (first-differs e es f))
-    where
-      swap-front : (a b c : Bool) → a && (b && c) ≡ b && (a && c)
-      swap-front true b c = refl
-      swap-front false b c = sym (and-false b)
 
   differ-front : (es fs : List (List ℕ)) → codes_differ own (es ++ fs) ≡ true → codes_differ own es ≡ true
   differ-front es [] d = rw append-nil at d
@@ -238,17 +237,11 @@ module _ (n key : ℕ) (ms : List ℕ) (some : n ≡ 0 → ⊥) where
 module _ (own : ℕ) (rs : List (List ℕ)) where
   pub filled-broken : None ≡ filled own rs → form_ok own 0 rs ≡ false
   unfolding filled
-  filled-broken e =
-      by-test (form_ok own 0 rs)
-      (λ f. let z : ◌≡◌ {A = ℕ} 0 1 = cc (rw f at e) in absurd (omega arith))
-      (λ f. f)
+  filled-broken e = cond-none (form_ok own 0 rs) _ e
 
   pub filled-used : {n : ℕ} → Some n ≡ filled own rs → (form_ok own 0 rs ≡ true) × (n ≡ length (used_rows rs))
   unfolding filled
-  filled-used e =
-      by-test (form_ok own 0 rs)
-      (λ f. (f, cc (rw f at e)))
-      (λ f. let z : ◌≡◌ {A = ℕ} 0 1 = cc (rw f at e) in absurd (omega arith))
+  filled-used e = let x = cond_some (form_ok own 0 rs) _ _ (sym e) in (x.0, sym x.1)
 
   -- and back
   pub broken-filled : form_ok own 0 rs ≡ false → None ≡ filled own rs

@@ -1,7 +1,7 @@
 -- What the code comes to: words that are active or Normal, the place of a key, and eight words lent out of others.
 use Prim.Native.Nat.{ℕ, suc, ◌+◌, ◌-◌, ◌*◌, ◌/◌, ◌%◌, ◌^◌, ◌≤◌, ◌<◌}
 use mathlib.Core.Path.{◌≡◌, refl, sym, ◌∙◌}
-use mathlib.Core.Bool.{Bool, true, false, cond, ◌||◌}
+use mathlib.Core.Bool.{true, false, ◌||◌}
 use mathlib.Core.List.{List}
 use native.Mathlib.Nat.{mod-lt}
 use lib.Arith.{mod-mul}
@@ -13,9 +13,11 @@ use borrow.Author.Tests.{eq-eqb, ne_eqb, eqb-true, eqb-false, ltb-true, ltb-fals
 use Rattle.std.specs.List.{position}
 use Rattle.std.specs.Prelude.{Some, None, nat_lt}
 use Rattle.std.proofs.lemmas.List.Recursion.{is_position_or_len}
+use Rattle.std.proofs.lemmas.Option.{cond_some}
 use Rattle.spec.specs.Value.{item_of}
 use Rattle.spec.specs.Entries.{active, normal, kind_field, level_field}
 use Rattle.spec.proofs.Words.{by-test}
+use Rattle.spec.proofs.Found.{cond-none}
 use Rattle.marks.specs.Marks.{key_of, eight_at, is_place, place_of, found_at}
 use Rattle.marks.proofs.Keys.{active-key, idle-key, place-max}
 
@@ -91,25 +93,17 @@ found-is key ms =
     next : (x : ℕ) (xs : List ℕ) → 1 + place_of key xs ≡ suc (place_of key xs)
     next x xs = omega arith
 
-some-chosen : (b : Bool) (n : ℕ) {j : ℕ} → Some j ≡ cond b (Some n) None → (b ≡ true) × (j ≡ n)
-some-chosen true n e = (refl, cc)
-some-chosen false n e = cc
-
-none-chosen : (b : Bool) (n : ℕ) → None ≡ cond b (Some n) None → b ≡ false
-none-chosen true n e = cc
-none-chosen false n e = refl
-
 module _ (key : ℕ) (ms : List ℕ) where
   pub found-some : {j : ℕ} → Some j ≡ found_at key ms → (j ≡ place_of key ms) × (j < length ms)
   unfolding found_at
   found-some {j} e =
-      let x = some-chosen (nat_lt (place_of key ms) (length ms)) (place_of key ms) e in
-      (x.1, rw (x.1) (ltb-true (place_of key ms) (length ms) x.0))
+      let x = cond_some (nat_lt (place_of key ms) (length ms)) (place_of key ms) j (sym e) in
+      (sym x.1, rw (← x.1) (ltb-true (place_of key ms) (length ms) x.0))
 
   pub found-none : None ≡ found_at key ms → length ms ≡ place_of key ms
   unfolding found_at
   found-none e =
-      let x = none-chosen (nat_lt (place_of key ms) (length ms)) (place_of key ms) e in
+      let x = cond-none (nat_lt (place_of key ms) (length ms)) (place_of key ms) e in
       omega (arith, ltb-false (place_of key ms) (length ms) x, place-max key ms)
 
 -- ---- eight words lent out of others

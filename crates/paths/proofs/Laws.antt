@@ -16,6 +16,7 @@ use Rattle.spec.specs.Bytes.{bytes, same, before}
 use Rattle.spec.specs.Path.{Form, subtree, typed, other_form, opening, closing, typed_form, form_behind, form_of}
 use Rattle.spec.specs.Path.{root_bytes, opening_bytes, closing_bytes, around_bytes}
 use Rattle.std.proofs.lemmas.List.{length-take}
+use Rattle.std.proofs.lemmas.Option.{cond_some}
 use Rattle.spec.proofs.Words.{and_left}
 use Rattle.scan.proofs.Laws.{same-is}
 use Rattle.paths.specs.Forms.{item_type}
@@ -62,24 +63,9 @@ module _ (q : List ℕ) where
 -- it is shorter than what follows T
 pub type-fits : (q y : List ℕ) → Some y ≡ item_type q → length y + around_bytes ≤ length q
 type-fits q y e =
-    go
-    (leb around_bytes (length q)
-    && (same (take opening_bytes q) opening && same (drop (length q - closing_bytes) q) closing))
-    refl e
-  where
-    inner : List ℕ
-    inner = take (length q - around_bytes) (drop opening_bytes q)
-
-    go : (b : Bool)
-        → leb around_bytes (length q)
-        && (same (take opening_bytes q) opening && same (drop (length q - closing_bytes) q) closing)
-        ≡ b
-        → Some y ≡ cond b (Some inner) None → length y + around_bytes ≤ length q
-    go true g f =
-        let h : around_bytes ≤ length q = leb-true _ _ (and_left (leb around_bytes (length q)) _ g) in
-        let z : y ≡ inner = cc in
-        omega (arith, ap length z, length-take (length q - around_bytes) (drop opening_bytes q))
-    go false g f = absurd cc
+    let x = cond_some _ (take (length q - around_bytes) (drop opening_bytes q)) y (sym e) in
+    let h : around_bytes ≤ length q = leb-true _ _ (and_left (leb around_bytes (length q)) _ x.0) in
+    omega (arith, ap length x.1, length-take (length q - around_bytes) (drop opening_bytes q))
 
 -- the form, by the item type
 abbrev pub behind-type : List ℕ → Option (List ℕ) → Form
