@@ -17,7 +17,7 @@ use Rattle.spec.specs.Assets.{store_bytes}
 use Rattle.spec.specs.Assets.{AssetHead, asset_head_ok, start_assets, id_ok, length_ok, cell, id_cell, body_cell, find}
 use Rattle.spec.specs.Assets.{length_at, body_place}
 use Rattle.spec.specs.Assets.{renew, used_after, out_for, cell_for, store_cells}
-use Rattle.spec.proofs.Assets.{given-up-max}
+use Rattle.spec.proofs.Assets.{given-up-max, id-max}
 use Rattle.scan.proofs.Laws.{same-is}
 use Rattle.assets.specs.Cells.{with_asset}
 use Rattle.std.specs.Prelude.{Option, Some, None, Result, Ok, Err, MatchResult}
@@ -46,6 +46,12 @@ pub length-bytes : (n : ℕ) → n ≤ max_body → to_be_bytes w16 n ≡ (n / 2
 length-bytes n h = let high : n / 256 % 256 ≡ n / 256 = omega arith in rw high
 
 -- ---- find
+
+-- an id has its place in a cell's bytes
+pub id-front : (id bs : List ℕ) → id_ok id ≡ true → length bs ≡ id_bytes → length (take (length id) bs) ≡ length id
+id-front id bs e h = length-take-le (length id) bs (omega (arith, id-max id e))
+
+pub ruleset ids = (id-max, id-front)
 
 -- the id, written over the front of zeros
 pub key-is : (id front : List ℕ) → front ≡ id → front ++ drop (length id) (replicate id_bytes 0) ≡ id_cell id

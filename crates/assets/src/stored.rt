@@ -50,6 +50,7 @@ impl<'a> Assets<'a> {
     }
 
     // The lowest used cell that holds the id, if any does and the id is one. The id's own cell is made once.
+    #[tactic(auto, using(crate::proofs::Laws::ids))]
     pub fn find(&self, id: &[u8]) -> Option<u64>
         ensures value { result ≡ found_below (used self.now) (spec.find self.now id.now) }
         ensures room { used self.now ≤ capacity self.now }

@@ -7,7 +7,6 @@ use Rattle.spec.proofs.Found.{found-none}
 use lib.Dec.{eqb}
 use Rattle.std.specs.Cmp.Lexicographic.{pointwise}
 use Rattle.spec.specs.Assets.{id_bytes}
-use Rattle.spec.proofs.Assets.{id-max}
 use Rattle.assets.proofs.Laws.{key-is, found-cell, no-id}
 use Rattle.assets.proofs.stored.Assets.find.Goals as goal
 
@@ -15,21 +14,6 @@ pub returns-then-not-id_ok-clause-value : goal.returns-then-not-id_ok-clause-val
 returns-then-not-id_ok-clause-value c =
     let e = no-id c.args.self.now c.args.id.now _ refl (told c.id_ok.ensures c.if-not-id_ok.true) in
     found-none _ (omega arith)
-
-pub slice_bounds-key-end : goal.slice_bounds-key-end
-slice_bounds-key-end c =
-    let h = id-max _ (told c.id_ok.ensures c.if-not-id_ok.false) in
-    omega arith
-
-pub slice_bounds-copy_from_slice-end : goal.slice_bounds-copy_from_slice-end
-slice_bounds-copy_from_slice-end c =
-    let h = id-max _ (told c.id_ok.ensures c.if-not-id_ok.false) in
-    search rules
-
-pub copy_from_slice-requires : goal.copy_from_slice-requires
-copy_from_slice-requires c =
-    let h = id-max _ (told c.id_ok.ensures c.if-not-id_ok.false) in
-    search rules
 
 pub returns-clause-value : goal.returns-clause-value
 returns-clause-value c =
