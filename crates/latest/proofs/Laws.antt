@@ -6,6 +6,7 @@ use mathlib.Core.Bool.{Bool, true, false, cond, ◌&&◌, ◌||◌, not, and-fal
 use mathlib.Core.List.{List, [], ◌∷◌}
 use Rattle.std.specs.Prelude.{min, Option, Some, None, MatchOption}
 use Rattle.std.proofs.lemmas.List.{nil_from_length}
+use Rattle.std.proofs.lemmas.Option.{cond_some}
 use native.Mathlib.Numerals.{add-one}
 use native.Mathlib.Omega.{arith}
 use lib.Count.{ones}
@@ -21,6 +22,7 @@ use Rattle.history.specs.Observations.{Head, ring_size, latest_at, is_condition,
 use Rattle.history.specs.Observations.{current_ok, current_rows}
 use Rattle.spec.proofs.Words.{by-test, and_right, by_cond, told, every-no, every-yes, every-end, one-more, none-left}
 use Rattle.spec.proofs.Bits.{rows-ones}
+use Rattle.spec.proofs.Found.{cond-none}
 use Rattle.history.proofs.Pass.{current-count}
 use Rattle.entries.proofs.Filling.{rows-many}
 use Rattle.entries.proofs.Kept.{Kept, kept-none, kept-some}
@@ -29,7 +31,6 @@ use Rattle.entries.proofs.Marks.{used-max}
 use Rattle.entries.specs.Forms.{EightRows, filled}
 use Rattle.rows.specs.Rows.{rows_at, rows_into}
 use Rattle.rows.proofs.Flat.{Left, left-start, FlatWriting, flat_start, flat-room, flat-more, flat-skip, flat-end}
-use Rattle.rows.proofs.Laws.{count-is, broken-is}
 use Rattle.latest.specs.Latest.{extra_in}
 
 -- ---- an item's rows, one after another
@@ -249,12 +250,12 @@ module _ {cat : ℕ → ℕ} {m : ℕ} {st : List ℕ} {selection c i w t k n : 
 module _ (cat : ℕ → ℕ) (m : ℕ) (st : List ℕ) (selection : ℕ) where
   pub extra-broken : None ≡ extra_in cat m st selection → current_ok cat (ring_size st) m st selection ≡ false
   unfolding extra_in
-  extra-broken e = broken-is _ _ e
+  extra-broken e = cond-none _ _ e
 
   module _ {c : ℕ} (e : Some c ≡ extra_in cat m st selection) where
     counts : (current_ok cat (ring_size st) m st selection ≡ true) × (c ≡ all_extra cat m st selection)
     unfolding extra_in
-    counts = count-is _ c _ e
+    counts = let s = cond_some _ _ c (sym e) in (s.0, sym s.1)
 
     pub extra-ok : current_ok cat (ring_size st) m st selection ≡ true
     extra-ok = counts.0

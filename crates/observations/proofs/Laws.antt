@@ -3,7 +3,7 @@ use Prim.Native.Nat.{ℕ, suc, ◌+◌, ◌-◌, ◌*◌, ◌≤◌, ◌<◌}
 use mathlib.Core.Path.{◌≡◌, ap}
 use mathlib.Core.List.{List}
 use native.Mathlib.Omega.{arith}
-use lib.ListN.{set, replicate}
+use lib.ListN.{set, replicate, length-set}
 use Rattle.history.specs.Observations.{store_words, Head, blank}
 use Rattle.spec.specs.Model.{max_items}
 use Rattle.observations.specs.Headed.{Headed}
@@ -21,6 +21,9 @@ unfolding blank
 blank-words n m b k e =
     let f : k ≡ suc (suc (suc (suc (2 * n + 48 * m)))) = omega arith in
     rw f
+
+-- the head's words keep the length
+pub ruleset lengths = (length-set)
 
 -- a head that is right for m items says so itself
 pub headed : {m : ℕ} {st : List ℕ} → Head m st → m ≤ max_items → Headed st

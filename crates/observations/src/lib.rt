@@ -221,6 +221,7 @@ pub fn set_last(st: &mut [u64], s: u64)
 }
 
 // A head that has given no number yet, and zeros.
+#[tactic(auto, using(crate::proofs::Laws::lengths))]
 pub fn make_blank(st: &mut [u64], n: u64, m: u64, b: u64)
     requires st_len { length st.old ≡ store_words n m }
     requires le_b { 1 ≤ b }

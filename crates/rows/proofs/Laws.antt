@@ -1,10 +1,11 @@
 -- What the passes over a sample's numbers know at each turn, and what two runs give together.
 use Prim.Native.Nat.{ℕ, ◌+◌, ◌-◌, ◌*◌, ◌≤◌, ◌<◌}
 use mathlib.Core.Path.{◌≡◌, refl, sym, ap, ◌∙◌}
-use mathlib.Core.Bool.{Bool, true, false, cond, ◌&&◌}
+use mathlib.Core.Bool.{Bool, true, false, ◌&&◌}
 use mathlib.Core.List.{List, [], ◌∷◌, ◌++◌}
 use Rattle.std.specs.Prelude.{Some, None}
 use Rattle.std.specs.Int.{from_bool}
+use Rattle.std.proofs.lemmas.Option.{cond_some}
 use native.Mathlib.Omega.{arith}
 use lib.Dec.{ltb}
 use lib.ListN.{length, length-append}
@@ -12,6 +13,7 @@ use borrow.Author.Tests.{lt-ltb, le-ltb, ltb-true}
 use Rattle.spec.specs.Words.{bit, row}
 use Rattle.spec.specs.Value.{item_of}
 use Rattle.history.specs.Observations.{ring_size, base, place, item_at, numbered, ring_ok, sample_rows}
+use Rattle.spec.proofs.Found.{cond-none}
 use Rattle.spec.proofs.Words.{and_left, and_right, every-step, every-end}
 use Rattle.observations.specs.Ring.{ring_time, ring_word}
 use Rattle.rows.specs.Rows.{items_ok, sampled, counted, rows_at, rows_into, Unwrapped}
@@ -117,24 +119,15 @@ module _ {st : List ℕ} {m selection f e c s q : ℕ} (v : Counting st m select
 
 -- ---- counting in two parts
 
--- what a count says, where t is whether all items are of the model and n the number of rows
-pub count-is : (t : Bool) (c n : ℕ) → Some c ≡ cond t (Some n) None → (t ≡ true) × (c ≡ n)
-count-is true c n e = (refl, cc)
-count-is false c n e = cc
-
-pub broken-is : (t : Bool) (n : ℕ) → None ≡ cond t (Some n) None → t ≡ false
-broken-is true n e = cc
-broken-is false n e = refl
-
 module _ (m : ℕ) (st : List ℕ) (selection f e : ℕ) where
   pub counted-count : {c : ℕ} → Some c ≡ counted m st selection f e → (items_ok m st f e ≡ true)
       × (c ≡ length (sampled st selection f e))
   unfolding counted
-  counted-count {c} a = count-is (items_ok m st f e) c (length (sampled st selection f e)) a
+  counted-count {c} a = let s = cond_some _ _ c (sym a) in (s.0, sym s.1)
 
   pub counted-broken : None ≡ counted m st selection f e → items_ok m st f e ≡ false
   unfolding counted
-  counted-broken a = broken-is (items_ok m st f e) (length (sampled st selection f e)) a
+  counted-broken a = cond-none _ _ a
 
   pub counted-few : {c : ℕ} → Some c ≡ counted m st selection f e → c ≤ e - f
   unfolding sample_rows
