@@ -32,9 +32,6 @@ module _ (cells : List ℕ) {k : ℕ} (many : length cells ≡ k) where
   pub next-cell : (i : ℕ) {c : ℕ} → i < k → get_or cells i 0 ≡ c → drop i cells ≡ c ∷ drop (i + 1) cells
   next-cell i h e = rw (add-one i, drop-cons cells i 0 (omega arith), e)
 
-  pub no_cell : (i : ℕ) → k ≤ i → drop i cells ≡ []
-  no_cell i h = drop_of_length-le cells {i = i} (omega arith)
-
 -- all cells, in the library's words
 pub cells-all : (p : ℕ → Bool) (cells : List ℕ) → list_all p cells ≡ all_cells p cells
 unfolding all_cells
@@ -83,7 +80,7 @@ module _ {bs cells o l : List ℕ} {k i : ℕ} (w : Writing bs cells k o l i) (m
 
   pub writing-end : k ≤ i → l ≡ sets (sets o 0 (numbers (cell_rows bs cells))) k (lengths (cell_rows bs cells))
   unfolding lengths cell_rows
-  writing-end h = sym (w.all ∙ rw (no_cell cells many i h))
+  writing-end h = sym (w.all ∙ rw (drop_of_length-le cells {i = i} (omega arith)))
 
 -- ---- the reply of k cells whose lengths are right
 

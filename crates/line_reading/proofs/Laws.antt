@@ -1,5 +1,5 @@
 -- What a reading's observe refuses.
-use Prim.Native.Nat.{ℕ, ◌≤◌, ◌<◌}
+use Prim.Native.Nat.{ℕ, ◌<◌}
 use mathlib.Core.Path.{◌≡◌, refl, sym, ap, ◌∙◌}
 use mathlib.Core.Bool.{and-false}
 use mathlib.Core.List.{List}
@@ -7,15 +7,9 @@ use Rattle.spec.specs.Value.{no_value, takes}
 use Rattle.spec.specs.Model.{items, category}
 use Rattle.lines.specs.Lines.{value_for}
 use Rattle.lines.specs.declared.Form.{Form}
-use Rattle.spec.specs.declared.Refusal.TheVariants.{Item, Kind}
-use Rattle.spec.specs.declared.Value.{Value}
+use Rattle.spec.specs.declared.Refusal.TheVariants.{Kind}
 use Rattle.history.specs.Calls.{not_observed, observe_item}
 use Rattle.observing.proofs.Laws.{item_refused, kind-refused}
-
--- an item that there isn't
-pub no-item : (model st : List ℕ) (item time : ℕ) (v : Value) → items model ≤ item
-    → observe_item model st item time v ≡ not_observed Item st
-no-item model st item time v h = item_refused model st item time v h
 
 -- a number that is too large for its kind
 pub too-large : (model st : List ℕ) (item time : ℕ) (form : Form) → item < items model
@@ -26,4 +20,4 @@ too-large model st item time form h e =
     kind-refused model st item time (value_for k form) h k refl
     (sym (ap (takes k) (sym e) ∙ and-false _)) refl
 
-pub ruleset refused = (no-item, too-large)
+pub ruleset refused = (item_refused, too-large)

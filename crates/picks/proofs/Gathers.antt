@@ -15,7 +15,7 @@ use Rattle.std.specs.List.{AllByRecursion as Each}
 use Rattle.spec.specs.Words.{bit, every}
 use Rattle.spec.specs.Value.{item_of}
 use Rattle.history.specs.Observations.{ring_size, base, place, ring_ok}
-use Rattle.spec.proofs.Words.{by-test, and_left, and_right, every-at}
+use Rattle.spec.proofs.Words.{by-test, and_left, and_right, every-at, one-more, none-left}
 use Rattle.observations.specs.Ring.{ring_word}
 use Rattle.marks.specs.Marks.{eight_of}
 use Rattle.rows.specs.Rows.{items_ok, InRing, Unwrapped}
@@ -101,7 +101,6 @@ pub record Gathering (steps m : ℕ) (st : List ℕ) (f : ℕ) (r : Run) (v w ps
 pub gathering-start : (steps m : ℕ) (st : List ℕ) (f : ℕ) (r : Run) (v ps : List ℕ) → InRing st r → r.from ≤ r.to
     → length ps ≡ suc block → Gathering steps m st f r v v ps 0 r.from r.place
 gathering-start steps m st f r v ps u h k =
-    let z : r.from - r.from ≡ 0 = omega arith in
     record {
       run = u;
       low = omega arith;
@@ -110,7 +109,7 @@ gathering-start steps m st f r v ps u h k =
       room = k;
       ok = refl;
       seen = refl;
-      picks = rw z;
+      picks = rw (none-left r.from r.from (omega arith));
     }
 
 module _ {steps m : ℕ} {st : List ℕ} {f : ℕ} {r : Run} {v w ps : List ℕ} {c s q : ℕ}
@@ -130,10 +129,9 @@ module _ {steps m : ℕ} {st : List ℕ} {f : ℕ} {r : Run} {v w ps : List ℕ}
         (picked steps st r.from (r.to - (s + 1)) (s + 1 - r.from))
     unfolding picked
     next =
-        let k : r.to - s ≡ suc (r.to - (s + 1)) = omega arith in
         let y : r.from + (s - r.from) ≡ s = omega (arith, z.low) in
         let o : suc (s - r.from) ≡ s + 1 - r.from = omega (arith, z.low) in
-        rw (k, y, o, item, at)
+        rw (one-more s r.to h, y, o, item, at)
 
     pub gathering-more : i < m → r.to - r.from ≤ block → {y j : ℕ} {b : Bool} → y ≡ s - f + 9 → j ≡ s - r.from
         → b ≡ bit steps i
@@ -168,17 +166,16 @@ module _ {steps m : ℕ} {st : List ℕ} {f : ℕ} {r : Run} {v w ps : List ℕ}
   module _ (h : r.to ≤ s) where
     whole : picked steps st r.from (r.to - r.from) 0 ≡ take c ps
     unfolding picked
-    whole = let k : r.to - s ≡ 0 = omega arith in z.picks ∙ rw (k, append-nil (take c ps))
+    whole = z.picks ∙ rw (none-left s r.to h, append-nil (take c ps))
 
     pub gathering-end : r.to - r.from ≤ block → (true ≡ items_ok m st r.from r.to) × Gathered steps st f r v w (set ps c block)
     unfolding ring_ok every
     gathering-end k =
-        let y : r.to - s ≡ 0 = omega arith in
         let n : length (take c ps) ≡ c = length-take-le c ps (omega (arith, z.few, z.room, z.low, z.high)) in
         let low : Each (λ x. x < block) (take c ps) =
         rw (← whole) (each-picked (λ x. x < block) block (λ j h. h) steps st r.from (r.to - r.from) 0 (omega arith)) in
         let all = listed-set ps c (omega (arith, z.few, z.room, z.low, z.high)) low in (
-          sym (z.ok ∙ rw y),
+          sym (z.ok ∙ rw (none-left s r.to h)),
           record {
             seen = sym (z.seen ∙ seen_end st f s r.to w h);
             picks = all ∙ sym whole;

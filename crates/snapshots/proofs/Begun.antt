@@ -24,7 +24,8 @@ use Rattle.entries.proofs.Unused.{none-used}
 use Rattle.snapshot_rows.specs.Held.{row_of}
 use Rattle.snapshots.specs.Snapshots.{begun, forms_ok}
 use Rattle.picks.proofs.Eights.{eight-same, eight-other}
-use Rattle.snapshots.proofs.Held.{no_place, no_mark, row_in, Holding}
+use Rattle.snapshot_rows.proofs.Laws.{vacant}
+use Rattle.snapshots.proofs.Held.{no_mark, row_in, Holding}
 
 -- ---- a condition item's
 
@@ -47,7 +48,7 @@ zeros-again rs h = rw (none-used rs h) h
 
 module _ (own : ℕ) where
   first-placed : (place : ℕ) (rs : List (List ℕ)) → 1 ≤ place
-      → map no_place (marks_of own place rs) ≡ map no_mark (marks_of own place rs)
+      → map vacant (marks_of own place rs) ≡ map no_mark (marks_of own place rs)
   unfolding marks_of
   first-placed place [] p = refl
   first-placed place (r ∷ rs) p =

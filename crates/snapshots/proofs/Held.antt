@@ -2,7 +2,7 @@
 -- The others' eight stay as they are.
 use Prim.Native.Nat.{ℕ, zero, suc, ◌+◌, ◌-◌, ◌≤◌, ◌<◌}
 use mathlib.Core.Path.{◌≡◌, refl, sym, ap, ◌∙◌}
-use mathlib.Core.Bool.{Bool, true, false, cond, ◌&&◌, ◌||◌, not, and-false, true≢false}
+use mathlib.Core.Bool.{Bool, true, false, cond, ◌&&◌, ◌||◌, not, not-not, and-false, true≢false}
 use mathlib.Core.List.{List, [], ◌∷◌, map}
 use native.Mathlib.Omega.{arith}
 use lib.Dec.{leb, ltb, eqb}
@@ -25,15 +25,13 @@ use Rattle.changes.proofs.Laws.{change-fits}
 use Rattle.marks.proofs.Places.{marked-length}
 use Rattle.marks.proofs.Keys.{key-small, mark-place, mark-key}
 use Rattle.snapshot_rows.specs.Held.{row_of, used_places}
+use Rattle.snapshot_rows.proofs.Laws.{vacant}
 use Rattle.picks.specs.Pass.{stepped_eight, stepped_ok, word_of, number_stepped, pass_marks, pass_ok}
 use Rattle.picks.proofs.Eights.{eight-stepped, length-all-stepped}
 
 -- ---- marks
 
--- no place, and no mark: the same, of the marks that are made
-abbrev pub no_place : ℕ → Bool
-no_place x = eqb (place_in x) 0
-
+-- no mark: the same as no place (vacant), of the marks that are made
 abbrev pub no_mark : ℕ → Bool
 no_mark x = eqb x 0
 
@@ -41,7 +39,7 @@ no_mark x = eqb x 0
 
 -- the row of a mark, unused where it has no place
 abbrev pub row_in : ℕ → List ℕ → ℕ → ℕ → ℕ → List ℕ
-row_in m st f i x = cond (no_place x) unused (row_of m st f i (place_in x))
+row_in m st f i x = cond (vacant x) unused (row_of m st f i (place_in x))
 
 -- ms hold the entries es
 pub record Holding (m : ℕ) (st : List ℕ) (f i : ℕ) (es : List (List ℕ)) (ms : List ℕ) : Type 0 where
@@ -49,20 +47,20 @@ pub record Holding (m : ℕ) (st : List ℕ) (f i : ℕ) (es : List (List ℕ)) 
   pub formed : Formed i es
   pub marked : Marked i es ms
   pub rows : map (row_in m st f i) ms ≡ padded 8 es
-  pub placed : map no_place ms ≡ map no_mark ms
+  pub placed : map vacant ms ≡ map no_mark ms
 
 -- the rows of the marks are the entries
 module _ (m : ℕ) (st : List ℕ) (f i : ℕ) where
   held_rows : (es : List (List ℕ)) (ms : List ℕ) → Marked i es ms → map (row_in m st f i) ms ≡ padded (length ms) es
-      → map no_place ms ≡ map no_mark ms → map (row_of m st f i) (used_places ms) ≡ es
+      → map vacant ms ≡ map no_mark ms → map (row_of m st f i) (used_places ms) ≡ es
   unfolding used_places padded
   held_rows [] [] k r p = refl
   held_rows [] (x ∷ xs) k r p = rw k.0
   held_rows (e ∷ es) [] k r p = absurd k
   held_rows (e ∷ es) (x ∷ xs) k r p =
       let n : no_mark x ≡ false = ne_eqb x 0 (omega (arith, k.0)) in
-      let q : no_place x ≡ no_mark x = (cc) in
-      let t : map no_place xs ≡ map no_mark xs = (cc) in
+      let q : vacant x ≡ no_mark x = (cc) in
+      let t : map vacant xs ≡ map no_mark xs = (cc) in
       let a : row_in m st f i x ≡ e = (cc) in
       let b : map (row_in m st f i) xs ≡ padded (length xs) es = (cc) in
       rw (q, n) (ap (λ (y : List ℕ). y ∷ map (row_of m st f i) (used_places xs)) (rw (q, n) at a)
@@ -89,7 +87,7 @@ module _ (m : ℕ) (st : List ℕ) (f i : ℕ) where
         let y = mark_of (s - f + 9) (key_of i (word_of st s)) in
         let k = key-small i (word_of st s) in
         let p : place_in y ≡ s - f + 9 = mark-place (s - f + 9) (key_of i (word_of st s)) k in
-        let some : no_place y ≡ false = rw p (ne_eqb (s - f + 9) 0 (omega arith)) in
+        let some : vacant y ≡ false = rw p (ne_eqb (s - f + 9) 0 (omega arith)) in
         let used : no_mark y ≡ false = ne_eqb y 0 (omega arith) in
         let new : row_in m st f i y ≡ r = rw (some, p) (ring-row s h) in
         record {
@@ -100,7 +98,7 @@ module _ (m : ℕ) (st : List ℕ) (f i : ℕ) where
           rows =
               changed-map (row_in m st f i) 0 c y ms
               ∙ (rw (new, v.rows) (change-steps i es ms r v.formed v.marked v.eight));
-          placed = changed-map no_place 0 c y ms ∙ (rw (some, v.placed) (sym (changed-map no_mark 0 c y ms ∙ rw used)));
+          placed = changed-map vacant 0 c y ms ∙ (rw (some, v.placed) (sym (changed-map no_mark 0 c y ms ∙ rw used)));
         }
 
     -- a ninth is where there would be nine
@@ -108,11 +106,7 @@ module _ (m : ℕ) (st : List ℕ) (f i : ℕ) where
         ≡ leb (length (step i es (numbered (ring_size st) (base st) st s))) 8
     holding-full =
         rw (change-full i es ms (numbered (ring_size st) (base st) st s) v.formed v.marked v.eight)
-        (twice (leb (length (step i es (numbered (ring_size st) (base st) st s))) 8))
-      where
-        twice : (b : Bool) → not (not b) ≡ b
-        twice true = refl
-        twice false = refl
+        (not-not (leb (length (step i es (numbered (ring_size st) (base st) st s))) 8))
 
 -- ---- all items, behind one number
 
