@@ -19,9 +19,9 @@ use Rattle.snapshot_rows.specs.Held.{held_by, held_count}
 use Rattle.reply.specs.Fitted.{Fitted}
 use Rattle.spec.proofs.Reply.{length-numbers, length_pairs}
 use Rattle.rows.proofs.Laws.{counted-count, counted-few, counted-broken}
-use Rattle.latest.proofs.Laws.{extra-broken, extra-ok, extra-many}
+use Rattle.latest.proofs.Laws.{extra-broken, extra-ok, extra-few, extra-many}
 use Rattle.snapshot_rows.proofs.Laws.{held-length}
-use Rattle.reply.proofs.Laws.{short, whole}
+use Rattle.reply.proofs.Laws.{short, whole, behind}
 
 -- the numbers from f up to e are at most a ring of them
 pub in-ring : (st : List ℕ) (f e : ℕ) → first st ≤ f → e ≤ suc (last st) → (base st ≤ f) × (e - f ≤ ring_size st)
@@ -108,6 +108,9 @@ module _ (cat : ℕ → ℕ) (m : ℕ) (st : List ℕ) (selection : ℕ) (reply 
           ≡ record { answer = Ok (o + x); reply = take 4 y ++ (z ++ drop (length y - 4) (drop 4 y)) }
       current-whole z h e =
           current-reply ∙ rows_whole w (current_rows cat (ring_size st) m st selection) current-many z h e
+
+-- the further rows are few, and the reply has room for its sizes
+pub ruleset current_room = (extra-few, behind)
 
 -- ---- current with at: f is first, and `held` are the rows of the numbers from there up to `number`
 

@@ -262,7 +262,7 @@ module _ (start end : List ℕ) (ls : List (List ℕ)) {o : Output} where
     where
       go : (ls : List (List ℕ)) → filled ls ≡ false → Put o (ended (between start end ls)) o
       go [] e = put-none o h
-      go (l ∷ ls) e = let z : ◌≡◌ {A = ℕ} 0 1 = cc in absurd (omega arith)
+      go (l ∷ ls) e = absurd cc
 
   pub between_put : {o₁ o₂ o₃ : Output} → filled ls ≡ true
       → Put o (start ++ 10 ∷ []) o₁ → Put o₁ (ended ls) o₂ → Put o₂ (end ++ 10 ∷ []) o₃
@@ -272,7 +272,7 @@ module _ (start end : List ℕ) (ls : List (List ℕ)) {o : Output} where
     where
       go : (ls : List (List ℕ)) → filled ls ≡ true → Put o₁ (ended ls) o₂
           → Put o (ended (between start end ls)) o₃
-      go [] e b = let z : ◌≡◌ {A = ℕ} 0 1 = cc in absurd (omega arith)
+      go [] e b = absurd cc
       go (l ∷ ls) e b =
           rw (
             ended-append (l ∷ ls) (end ∷ []),

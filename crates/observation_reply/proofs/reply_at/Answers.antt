@@ -3,7 +3,7 @@ use Prim.Native.Nat.{◌+◌}
 use mathlib.Core.Path.{refl, sym, ap, ◌∙◌}
 use Rattle.std.specs.Prelude.{is_ok, is_some}
 use native.Mathlib.Omega.{arith}
-use Rattle.reply.proofs.Laws.{behind, lends, both, refused, none-refused}
+use Rattle.reply.proofs.Laws.{lends, both, refused, none-refused}
 use Rattle.observation_reply.proofs.Laws.{in-ring, at-broken, at-short, at-whole, held-many}
 use borrow.Author.Rules.{rules}
 use Rattle.observation_reply.proofs.reply_at.Goals as goal
@@ -32,10 +32,6 @@ returns-in_err-fit_rows c =
     c.first-first.ensures.is c.hold.ensures.result_value (ap is_some c.in_ok-ok_or.ensures.ok_part) c.hold.ensures.fact
     (held-many (c.items.ensures.0 ∙ c.args.source.agree) _ _ _ _ _ c.count-k.ensures.0) refl
     (rw (← c.first-first.ensures.is, c.last-next.ensures.is) at c.fit_rows.ensures.fitted) (ap is_ok w))
-
-pub slice_bounds-write_held-count : goal.slice_bounds-write_held-count
-slice_bounds-write_held-count c =
-    omega (arith, behind c.fit_rows.ensures.fitted (ap is_ok c.in_ok-fit_rows.was))
 
 pub write_held-requires : goal.write_held-requires
 write_held-requires c =

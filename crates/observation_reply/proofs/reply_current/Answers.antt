@@ -1,10 +1,8 @@
 -- A row for each of the selected items, and the further ones that were counted, are written behind the sizes.
 use mathlib.Core.Path.{refl, sym, ap, ◌∙◌}
 use native.Mathlib.Omega.{arith}
-use Rattle.spec.specs.Model.{category}
 use Rattle.std.specs.Prelude.{is_ok}
-use Rattle.latest.proofs.Laws.{extra-few}
-use Rattle.reply.proofs.Laws.{behind, lends, both, refused, none-refused}
+use Rattle.reply.proofs.Laws.{lends, both, refused, none-refused}
 use Rattle.observation_reply.proofs.Laws.{current-broken, current-many, current-short, current-whole}
 use Rattle.observation_reply.proofs.reply_current.Goals as goal
 
@@ -13,16 +11,6 @@ returns-in_err-extra c =
     none-refused c.extra.result _ c.from_residual.ensures.1 c.ok_or.ensures.value c.in_err-extra.was
     (λ n. current-broken _ _ c.args.source.store.now c.args.selection c.args.reply.now (n ∙ c.extra.ensures))
 
-pub overflow_add-k : goal.overflow_add-k
-overflow_add-k c =
-    let n = sym c.in_ok-extra.ensures.ok_part ∙ c.extra.ensures in
-    omega (arith, extra-few (category c.args.source.model.now) _ _ _ n c.slice.ensures.sizes.m_max)
-
-pub fit_rows-requires : goal.fit_rows-requires
-fit_rows-requires c =
-    let n = sym c.in_ok-extra.ensures.ok_part ∙ c.extra.ensures in
-    omega (arith, extra-few (category c.args.source.model.now) _ _ _ n c.slice.ensures.sizes.m_max)
-
 pub returns-in_err-fit_rows : goal.returns-in_err-fit_rows
 returns-in_err-fit_rows c =
     let n = sym c.in_ok-extra.ensures.ok_part ∙ c.extra.ensures in
@@ -30,10 +18,6 @@ returns-in_err-fit_rows c =
     refused _ c.from_residual-in_err-fit_rows.ensures.1 (c.fit_rows.ensures.refused _ w)
     (current-short _ _ c.args.source.store.now c.args.selection c.args.reply.now n c.requires.selection_bound
     c.count.ensures.0 refl refl (rw c.last.ensures.is at c.fit_rows.ensures.fitted) (ap is_ok w))
-
-pub slice_bounds-write_latest-count : goal.slice_bounds-write_latest-count
-slice_bounds-write_latest-count c =
-    omega (arith, behind c.fit_rows.ensures.fitted (ap is_ok c.in_ok-fit_rows.was))
 
 pub write_latest-requires : goal.write_latest-requires
 write_latest-requires c =

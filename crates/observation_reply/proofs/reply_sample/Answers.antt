@@ -4,7 +4,7 @@ use native.Mathlib.Omega.{arith}
 use Rattle.std.specs.Prelude.{is_ok}
 use Rattle.history.specs.Observations.{item_count}
 use Rattle.rows.proofs.Laws.{counted-count}
-use Rattle.reply.proofs.Laws.{behind, lends, both, refused, none-refused}
+use Rattle.reply.proofs.Laws.{lends, both, refused, none-refused}
 use Rattle.observation_reply.proofs.Laws.{in-ring, in-ring-few, sample-broken, sample-short, sample-whole}
 use Rattle.observation_reply.proofs.reply_sample.Goals as goal
 
@@ -32,10 +32,6 @@ returns-in_err-fit_rows c =
     refused _ c.from_residual-in_err-fit_rows.ensures.1 (c.fit_rows.ensures.refused _ w)
     (sample-short (item_count c.args.st.now) c.args.st.now c.args.selection c.args.f c.args.e
     c.args.reply.now n refl refl c.fit_rows.ensures.fitted (ap is_ok w))
-
-pub slice_bounds-write_rows-count : goal.slice_bounds-write_rows-count
-slice_bounds-write_rows-count c =
-    omega (arith, behind c.fit_rows.ensures.fitted (ap is_ok c.in_ok-fit_rows.was))
 
 pub write_rows-requires : goal.write_rows-requires
 write_rows-requires c =
