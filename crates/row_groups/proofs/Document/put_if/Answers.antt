@@ -8,12 +8,6 @@ use Rattle.row_groups.proofs.Document.put_if.Goals as goal
 use Rattle.row_groups.proofs.Document.put_if.Goals.{else-component-c-via-then-component-c+else-eq}
 use Rattle.row_groups.proofs.Document.put_if.Goals.{else-component-c-via-else-component-c}
 
-pub row_at-requires : goal.row_at-requires
-row_at-requires c = rw (← c.self.view_is) at c.requires
-
-pub row_at-requires-then-eq : goal.row_at-requires-then-eq
-row_at-requires-then-eq c = rw (← c.self.view_is) at c.requires
-
 -- the row's item is one of the model's
 pub home_of-component-requires : goal.home_of-component-requires
 home_of-component-requires c =
