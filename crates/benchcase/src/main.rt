@@ -16,7 +16,8 @@ fn next_byte<R: Read>(input: &mut R) -> io::Result<Option<u8>> {
     Ok(next.filter(|b| *b != b'\n'))
 }
 
-// The line up to its end, or as much of it as there is room for.
+// The line up to its end, or as much of it as there is room for. As Read's own `read` has it: the caller's buffer, and
+// how much of it.
 fn read_line<R: Read>(input: &mut R, line: &mut [u8]) -> io::Result<usize>
     ensures { IfOk result (λ r. r ≤ length line.new) }
 {

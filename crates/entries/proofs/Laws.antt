@@ -19,7 +19,8 @@ use Rattle.marks.specs.Marked.{Marked}
 use Rattle.marks.proofs.Keys.{key-active, key-idle}
 use Rattle.marks.proofs.Places.{place-has, place_none}
 use Rattle.entries.specs.Forms.{may_follow, FilledBy, filled}
-use Rattle.std.specs.Prelude.{Option, Some, None, MatchOption, nat_lt}
+use Rattle.std.specs.Option.{option_eq}
+use Rattle.std.specs.Prelude.{Some, None, nat_lt}
 use Rattle.std.proofs.lemmas.Option.{cond_some}
 
 -- ---- one more entry
@@ -200,18 +201,8 @@ module _ (own : ℕ) (r : List ℕ) where
       (not-not (active own (packed e)))))
       (λ a. rw (eqb-suc-zero (length es), key-none own (packed r), a))
 
--- where a key is found, its place is n
-abbrev pub is_at : ℕ → Option ℕ → Bool
-is_at n None = false
-is_at n (Some j) = eqb j n
-
-pub tested : (n : ℕ) (o : Option ℕ) {P : ℕ → Type 0} {r : Bool} → MatchOption o (r ≡ false) P
-    → ((x : ℕ) → P x → r ≡ eqb x n) → r ≡ is_at n o
-tested n None h f = h
-tested n (Some x) h f = f x h
-
--- behind fewer than there are marks
-pub found-at : (n key : ℕ) (ms : List ℕ) → n < length ms → is_at n (found_at key ms) ≡ eqb (place_of key ms) n
+-- where a key is found, its place is n, behind fewer than there are marks
+pub found-at : (n key : ℕ) (ms : List ℕ) → n < length ms → option_eq eqb (found_at key ms) (Some n) ≡ eqb (place_of key ms) n
 unfolding found_at
 found-at n key ms h =
     by-test (nat_lt (place_of key ms) (length ms))

@@ -26,8 +26,7 @@ fn may_follow(marks: &[u64; ENTRY_SLOTS], n: u64, key: u64) -> bool
     requires { n < 8 }
     ensures { result ≡ may_follow n key marks.now }
 {
-    n == 0
-        || both_active(marks, key) && marks::find(marks, key).is_some_and(|place| place as u64 == n)
+    n == 0 || both_active(marks, key) && marks::find(marks, key) == Some(n as usize)
 }
 
 // Eight entries in their written form: how many are used, and the marks of all, from place 1 on with their keys.

@@ -1,16 +1,17 @@
 -- The tests of keys, and the test of the place that is found.
-use Rattle.std.proofs.Common.{rules, tests}
 use native.Mathlib.Omega.{arith}
-use Rattle.entries.proofs.Laws.{may-keyed, may-not, is_at, tested, found-at}
-use mathlib.Core.Path.{◌≡◌, ap, ◌∙◌}
+use Rattle.entries.proofs.Laws.{may-keyed, may-not, found-at}
+use mathlib.Core.Path.{ap, ◌∙◌}
+use lib.Dec.{eqb}
+use Rattle.std.specs.Option.{option_eq}
+use Rattle.std.specs.Prelude.{Some}
 use Rattle.entries.proofs.may_follow.Goals as goal
 
 pub returns-then-both_active : goal.returns-then-both_active
 returns-then-both_active c =
     let z = c.args in
-    let a : c.is_some_and.result ≡ is_at z.n c.find.result =
-    tested z.n c.find.result c.is_some_and.ensures (λ x p. search (rules, tests)) in
-    a ∙ ap (is_at z.n) c.find.ensures.place ∙ found-at z.n z.key z.marks.now (omega arith)
+    c.eq.ensures ∙ ap (λ o. option_eq eqb o (Some z.n)) c.find.ensures.place
+    ∙ found-at z.n z.key z.marks.now (omega arith)
     ∙ may-keyed z.n z.key z.marks.now c.if-n-eq0.false c.both_active.ensures c.if-both_active.true
 
 pub returns-else-both_active : goal.returns-else-both_active
