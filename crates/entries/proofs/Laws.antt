@@ -20,7 +20,7 @@ use Rattle.marks.proofs.Keys.{key-active, key-idle}
 use Rattle.marks.proofs.Places.{place-has, place_none}
 use Rattle.entries.specs.Forms.{may_follow, FilledBy, filled}
 use Rattle.std.specs.Option.{option_eq}
-use Rattle.std.specs.Prelude.{Some, None, nat_lt}
+use Rattle.std.specs.Prelude.{Option, Some, None, nat_lt}
 use Rattle.std.proofs.lemmas.Option.{cond_some}
 
 -- ---- one more entry
