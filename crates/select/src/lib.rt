@@ -54,15 +54,13 @@ fn takes(model: &Named<'_>, j: u64, set: u64, y: Option<&[u8]>) -> bool
 }
 
 // The items of the components in the set; where a type is given, only those of item type y.
-// From the last item down, each step only moves the selection up by one. Tried from item 0 up, as in under_type: this
-// loop alone, written in Rust, then took 61 ns for 43 over 64 items.
 fn items_of(model: &Named<'_>, set: u64, y: Option<&[u8]>) -> u64
     ensures { result ≡ set_of (chosen model.now.words model.now.names.now set (type_given y.entry))
         (items model.now.words) }
 {
     let mut selection = selection::NONE;
-    for j in (0..model.words.items()).rev() {
-        selection = selection::moved_up(takes(model, j, set, y), selection);
+    for j in 0..model.words.items() {
+        selection = selection::with_if(takes(model, j, set, y), selection, j);
     }
     selection
 }
