@@ -1,4 +1,5 @@
-// Selections: sets of items, one bit each. Their form is known here alone: others test, add, count, or take none or all.
+// Selections: sets of items, one bit each. Their form is known here alone: others test, add and count, or take none and
+// all.
 // A set is a number, and no type of its own: the definitions' sets are numbers, 2 ^ i + set with i in it, so that each
 // clause would take the number out of the type again, and what is asked of one, no item from m on, ties it to a model.
 #![tactic(auto)]
