@@ -1,16 +1,18 @@
 -- Laws of what a path selects, as the code goes: names, the components under a type, the items, the forms.
-use Prim.Native.Nat.{ℕ, ◌≤◌}
+use Prim.Native.Nat.{ℕ, suc, ◌+◌, ◌-◌, ◌*◌, ◌^◌, ◌<◌, ◌≤◌}
 use mathlib.Core.Path.{◌≡◌, refl, sym, ap, ◌∙◌}
-use mathlib.Core.Bool.{Bool, true, false, not, ◌&&◌, and-true, and-false}
+use mathlib.Core.Bool.{Bool, true, false, cond, not, ◌&&◌, and-true, and-false}
 use mathlib.Core.List.{List, [], ◌∷◌}
+use native.Mathlib.Nat.{mul-le-mul_right, two-pow-succ}
 use native.Mathlib.Omega.{arith}
 use borrow.Author.Tests.{eqb-true, eqb-false, not-true, not-false}
 use lib.Dec.{eqb}
 use lib.ListN.{length, take}
+use lib.Pow.{pow_mono}
 use lib.Seq.{length-take-le}
 use Rattle.spec.specs.Words.{any_below, bit, set_of}
 use Rattle.spec.specs.Bytes.{name_byte, same}
-use Rattle.spec.specs.Model.{letters, components, items}
+use Rattle.spec.specs.Model.{letters, max_items, components, items}
 use Rattle.spec.specs.Model.{item_word, component_of}
 use Rattle.spec.specs.Path.{Form, subtree, typed, other_form, form_of, has_type, under, in_subtree, in_typed}
 use Rattle.spec.specs.Path.{select_subtree, select_typed, select_form, select}
@@ -66,6 +68,35 @@ module _ (c t : List ℕ) (b : Bool) (eb : b ≡ pointwise eqb t (take (length t
 
   pub named-so-far : b ≡ true → (n : ℕ) → n ≡ letters c → eqb n (length t) ≡ same (take (letters c) c) t
   named-so-far z n en = sym (named-is ∙ rw (z, ← en))
+
+-- ---- the items, from the last one down
+
+-- number n of a set goes over to those above it, r
+set-top : (p : ℕ → Bool) (n r : ℕ) → 2 ^ suc n * r + set_of p (suc n) ≡ 2 ^ n * (2 * r + cond (p n) 1 0) + set_of p n
+unfolding set_of
+set-top p n r = rw (two-pow-succ n) (go (p n))
+  where
+    go : (t : Bool)
+        → (2 ^ n + 2 ^ n) * r + cond t (2 ^ n + set_of p n) (set_of p n) ≡ 2 ^ n * (2 * r + cond t 1 0) + set_of p n
+    go true = omega arith
+    go false = omega arith
+
+-- a turn of the loop: r has the numbers from n on, moved down by n
+module _ (p : ℕ → Bool) (m n r : ℕ) (rest : set_of p m ≡ 2 ^ n * r + set_of p n) where
+  pub set_room : m ≤ max_items → 0 < n → 2 * r + 1 < 2 ^ max_items
+  set_room h more =
+      let d : 2 * r ≤ 2 ^ n * r = mul-le-mul_right r (pow_mono {i = 1} {j = n} more) in
+      omega (arith, set-lt p m, pow_mono {i = m} {j = max_items} h)
+
+  pub set-down : 0 < n → (q : ℕ) (t : Bool) → t ≡ p (n - 1) → q ≡ 2 * r + cond t 1 0
+      → set_of p m ≡ 2 ^ (n - 1) * q + set_of p (n - 1)
+  set-down more q t e g =
+      let s : n ≡ suc (n - 1) = omega arith in
+      rest ∙ ap (λ (x : ℕ). 2 ^ x * r + set_of p x) s ∙ set-top p (n - 1) r ∙ rw (g, e)
+
+  pub set-whole : n ≤ 0 → r ≡ set_of p m
+  unfolding set_of
+  set-whole none = let z : n ≡ 0 = omega arith in omega (arith, rw z at rest)
 
 -- ---- the selections
 pub given-is : (o : Option (Bor (List ℕ))) → is_some (type_given o) ≡ is_some o

@@ -54,13 +54,16 @@ fn takes(model: &Named<'_>, j: u64, set: u64, y: Option<&[u8]>) -> bool
 }
 
 // The items of the components in the set; where a type is given, only those of item type y.
+// From the last item down, each step only moves the selection up by one. Tried from item 0 up by with_if, as in
+// under_type: a late sample with a path took 0.75 of the second implementation's time for 0.81, but the compiler makes
+// vectors of that loop, whose masks are 80 bytes of constants more than the archive may have.
 fn items_of(model: &Named<'_>, set: u64, y: Option<&[u8]>) -> u64
     ensures { result ≡ set_of (chosen model.now.words model.now.names.now set (type_given y.entry))
         (items model.now.words) }
 {
     let mut selection = selection::NONE;
-    for j in 0..model.words.items() {
-        selection = selection::with_if(takes(model, j, set, y), selection, j);
+    for j in (0..model.words.items()).rev() {
+        selection = selection::moved_up(takes(model, j, set, y), selection);
     }
     selection
 }

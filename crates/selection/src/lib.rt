@@ -1,10 +1,10 @@
-// Selections: sets of items, one bit each. Their form is known here alone: others test, add and count, or take none and
-// all.
+// Selections: sets of items, one bit each. Their form is known here alone: others test, add, move, count, or
+// take none or all.
 // A set is a number, and no type of its own: the definitions' sets are numbers, 2 ^ i + set with i in it, so that each
 // clause would take the number out of the type again, and what is asked of one, no item from m on, ties it to a model.
 #![tactic(auto)]
 
-ghost use Rattle.std.specs.Prelude.{◌≡◌, cond, eqb, ◌+◌, ◌^◌, ◌<◌, ◌≤◌};
+ghost use Rattle.std.specs.Prelude.{◌≡◌, cond, eqb, ◌+◌, ◌*◌, ◌^◌, ◌<◌, ◌≤◌};
 ghost use Rattle.std.specs.Int.Count.{ones};
 ghost use Rattle.spec.specs.Words.{bit, set_of};
 ghost use Rattle.spec.specs.Model.{max_items};
@@ -39,6 +39,14 @@ pub fn with_if(taken: bool, set: u64, i: u64) -> u64
     ensures { result ≡ cond taken (2 ^ i + set) set }
 {
     if taken { set | (1 << i) } else { set }
+}
+
+// The set with each item moved up by one, and item 0 where `taken` says so.
+pub fn moved_up(taken: bool, set: u64) -> u64
+    requires { 2 * set + 1 < 2 ^ max_items }
+    ensures { result ≡ 2 * set + cond taken 1 0 }
+{
+    (set << 1) | u64::from(taken)
 }
 
 // How many items the selection has.
