@@ -1,8 +1,9 @@
 // The value of an adapter line, by its form and the category of its item.
 #![tactic(auto)]
 
-ghost use Rattle.std.specs.Prelude.{◌≡◌, ◌+◌, ◌*◌, false, unwrap_or};
+ghost use Rattle.std.specs.Prelude.{◌≡◌, ◌+◌, ◌*◌, false, unwrap_or, IfSome};
 ghost use Rattle.spec.specs.Value.{no_value};
+ghost use Rattle.spec.proofs.Packing.{Coded};
 ghost use Rattle.lines.specs.Lines.{sample_for, event_for, state_for, value_for};
 
 use lines::Form;
@@ -11,7 +12,8 @@ use value::CODES;
 
 // So many thousandths as a sample.
 fn sample(minus: bool, n: u64) -> Option<Value>
-    ensures { unwrap_or result no_value ≡ sample_for minus n }
+    ensures value { unwrap_or result no_value ≡ sample_for minus n }
+    ensures coded { IfSome result (λ v. Coded v) }
 {
     let n = i64::try_from(n).ok()?;
     let x = i32::try_from(if minus { -n } else { n }).ok()?;
@@ -20,14 +22,16 @@ fn sample(minus: bool, n: u64) -> Option<Value>
 
 // A whole number as an event.
 fn event(n: u64) -> Option<Value>
-    ensures { unwrap_or result no_value ≡ event_for false false n }
+    ensures value { unwrap_or result no_value ≡ event_for false false n }
+    ensures coded { IfSome result (λ v. Coded v) }
 {
     u32::try_from(n).ok().map(Value::Event)
 }
 
 // A level with its native code: of 24 bits, so that none is lost.
 fn state(level: Level, code: u64) -> Option<Value>
-    ensures { unwrap_or result no_value ≡ state_for level code }
+    ensures value { unwrap_or result no_value ≡ state_for level code }
+    ensures coded { IfSome result (λ v. Coded v) }
 {
     let code = u32::try_from(code).ok()?;
     (code < CODES).then_some(Value::Condition(level, code))
@@ -36,7 +40,8 @@ fn state(level: Level, code: u64) -> Option<Value>
 // The value that an item of the category reads in a form; a number that is too large for its kind is none.
 #[tactic(auto, unfolding(lines::specs::Lines::value_for))]
 pub fn value_for(category: u64, form: Form) -> Option<Value>
-    ensures { unwrap_or result no_value ≡ value_for category form }
+    ensures value { unwrap_or result no_value ≡ value_for category form }
+    ensures coded { IfSome result (λ v. Coded v) }
 {
     match form {
         Form::Missing => Some(Value::Unavailable),
