@@ -11,7 +11,7 @@ import sys
 
 def functions(text):
     """Name, parameters, clauses and body of each function of a file."""
-    for m in re.finditer(r'^( *)(?:pub(?:\([a-z]+\))? )?(?:extern "C" )?fn (\w+)(?:<[^>(]*>)?\(', text, re.M):
+    for m in re.finditer(r'^( *)(?:pub(?:\([a-z]+\))? )?(?:extern "C" )?fn (\w+)(?:<(?:->|[^<>]|<[^<>]*>)*>)?\(', text, re.M):
         depth, i = 1, m.end()
         while depth:
             depth += {'(': 1, ')': -1}.get(text[i], 0)

@@ -14,7 +14,8 @@ use assets::Assets;
 use reply::SIZES;
 use spec::{ASSET_SLOTS, Answer, Refusal};
 
-// Refusal Store, if the length of a cell is none that a body may have.
+// Refusal Store, if the length of a cell is none that a body may have. That the cells are the store's stays a clause,
+// here and below: a type of both would be made by each of the two calls, for one function that takes it apart.
 fn check_lengths(assets: &Assets, cells: &[u64]) -> Result<(), Refusal>
     requires { Cells assets.now cells.now }
     ensures { let right = all_cells (λ i. length_ok (length_at assets.now i)) cells.now in
@@ -41,6 +42,7 @@ fn write_cells(assets: &Assets, cells: &[u64], out: &mut [u64])
     let k = cells.len();
     out[..k].copy_from_slice(cells);
     for (i, cell) in cells.iter().enumerate() {
+        // by place: of what a zip with iter_mut writes, the library says nothing
         out[k + i] = assets.length_at(*cell);
     }
 }
@@ -62,7 +64,8 @@ pub fn reply_cells(assets: &Assets, cells: &[u64], reply: &mut [u64]) -> Answer
     Ok(k)
 }
 
-// As many cells as are used, newest first.
+// As many cells as are used, newest first. By push: an ArrayVec's collect gives a Result, for more than it has room
+// for.
 fn newest(used: u64) -> ArrayVec<u64, ASSET_SLOTS>
     requires { used ≤ max_assets }
     ensures { result.items ≡ down_from used }

@@ -5,7 +5,7 @@ ghost use Rattle.std.specs.Prelude.{◌≡◌, ◌≤◌, replicate};
 ghost use Rattle.cases.specs.Bench.{bench_model, bench_names, bench_words, bench_bytes, bench_stores, bench_request};
 ghost use Rattle.bench.specs.Print.{words_of, reply_length};
 
-use reply::{ROW_WORDS, SIZES};
+use reply::{NEXT_AT, ROW_WORDS, SIZES};
 use spec::{Answer, Value};
 
 // Its stores: the words for a ring of 3 and 2 items, and the bytes for 1 asset.
@@ -53,7 +53,8 @@ fn prepare(model: &[u32], names: &[u8], observations: &mut [u64], assets: &mut [
     }
 }
 
-// The words of a reply of k rows, whose fourth word is 0 only in an asset reply: its rows have two.
+// The words of a reply of k rows, whose fourth word is 0 only in an asset reply: its rows have two. Words alone tell
+// the kind of a reply, as C has it.
 fn words_of(next: u64, k: usize) -> usize
     requires { words_of next k ≤ 64 }
     ensures { result ≡ words_of next k }
@@ -70,7 +71,7 @@ pub fn word_count(answer: Answer, reply: &[u64; REPLY_WORDS]) -> usize
     requires { reply_length answer reply.now ≤ 64 }
     ensures { result ≡ reply_length answer reply.now }
 {
-    answer.map_or(0, |k| words_of(reply[3], k as usize))
+    answer.map_or(0, |k| words_of(reply[NEXT_AT], k as usize))
 }
 
 // The answer of one request behind the bench case's calls, and its reply.

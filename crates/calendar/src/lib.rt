@@ -6,7 +6,7 @@ ghost use Rattle.lines.specs.Stamps.{month_length, real_date, day_number, time_o
 
 use lines::Date;
 
-// The days of a month.
+// The days of a month. Whether its year is a leap year is all that it takes of it.
 #[tactic(auto, unfolding(lines::specs::Stamps::month_length))]
 fn month_length(long: bool, m: u64) -> u64
     requires { (1 ≤ m) × (m ≤ 12) }
@@ -22,7 +22,7 @@ fn month_length(long: bool, m: u64) -> u64
 
 // Whether there is such a date, 1970 to 2099.
 #[tactic(auto, unfolding(lines::specs::Stamps::real_date))]
-fn real_date(d: Date) -> bool
+pub fn real_date(d: Date) -> bool
     ensures { result ≡ real_date d }
 {
     (1970..=2099).contains(&d.year)
@@ -47,7 +47,7 @@ fn day_number(d: Date) -> u64
 
 // The time of a date.
 #[tactic(auto, unfolding(lines::specs::Stamps::time_of), using(crate::proofs::Laws::real_dates))]
-fn time_of(d: Date) -> u64
+pub fn time_of(d: Date) -> u64
     requires { real_date d ≡ true }
     ensures { result ≡ time_of d }
 {

@@ -18,7 +18,8 @@ pub enum Change {
     Full,
 }
 
-// A Warning or Fault where others are active: to its code's place, or behind the last; Full behind eight.
+// A Warning or Fault where others are active: to its code's place, or behind the last; Full behind eight. Marks and key
+// stay two, here and elsewhere: nothing is asked of them together.
 fn raised(marks: &[u64; ENTRY_SLOTS], key: u64) -> Change
     ensures { result ≡ raised_for key marks.now }
 {

@@ -25,7 +25,8 @@ fn make_alone(words: &mut [u64; ENTRY_SLOTS], x: u64)
     words[0] = x;
 }
 
-// The change done to eight words, x being the new one.
+// The change done to eight words, x being the new one. No closure: one change is done to three columns of a table, or
+// to marks, and each time with another x.
 pub fn apply(words: &mut [u64; ENTRY_SLOTS], change: Change, x: u64)
     requires { ChangeFits change }
     ensures { words.new ≡ changed 0 change x words.old }

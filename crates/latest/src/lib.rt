@@ -45,7 +45,7 @@ fn write_entries(entries: &Entries<'_>, done: u64, k: u64, out: &mut [u64]) -> u
         if row.number == 0 {
             return c;
         }
-        rows::write_row(out, c, k, row);
+        rows::write_row_of(out, c, k, row);
     }
     done + most
 }
@@ -55,7 +55,7 @@ fn write_first(entries: &Entries<'_>, done: u64, k: u64, out: &mut [u64])
     requires { (done < k) × (3 * k ≤ length out.old) }
     ensures { out.new ≡ rows_at out.old done (k + 2 * done) (get_or entries.now 0 [] ∷ []) }
 {
-    rows::write_row(out, done, k, entries.row(0));
+    rows::write_row_of(out, done, k, entries.row(0));
 }
 
 // Current: the rows of the selected items' latest entries, which are k: of each as many as it has.

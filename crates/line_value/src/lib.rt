@@ -10,14 +10,15 @@ use lines::Form;
 use spec::{Level, SAMPLE, Value};
 use value::CODES;
 
-// So many thousandths as a sample.
+// So many thousandths as a sample. The sign stands beside them, as the definition takes it: -0 is a sample too.
 fn sample(minus: bool, n: u64) -> Option<Value>
     ensures value { unwrap_or result no_value ≡ sample_for minus n }
     ensures coded { IfSome result (λ v. Coded v) }
 {
     let n = i64::try_from(n).ok()?;
-    let x = i32::try_from(if minus { -n } else { n }).ok()?;
-    Some(Value::Sample(x))
+    i32::try_from(if minus { -n } else { n })
+        .ok()
+        .map(Value::Sample)
 }
 
 // A whole number as an event.

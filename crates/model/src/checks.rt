@@ -60,7 +60,7 @@ pub fn items_ok(model: &Words<'_>, names: u64) -> bool
 {
     let c = model.components();
     let mut changes = 0;
-    // No all: it would want a second pass in each call, since the change items are counted on the way.
+    // No all, and the change items by filter and count: with two passes an observe took 273 ns for 248.
     for j in 0..model.items() {
         let word = model.item_word(j);
         if !item_ok(c, names, word) {

@@ -1,10 +1,10 @@
 // The model and the names: their check, which every call makes, and the words of a checked model.
 #![tactic(auto)]
 
-ghost use Rattle.std.specs.Prelude.{◌≡◌, ◌≤◌, true, false, length, MatchResult};
+ghost use Rattle.std.specs.Prelude.{◌≡◌, ◌+◌, ◌*◌, ◌≤◌, true, false, length, MatchResult};
 ghost use Rattle.spec.specs.declared.Refusal.TheVariants.{Model as Refused};
 ghost use Rattle.spec.specs.Model.{letters, parent_of, component_name, category_of};
-ghost use Rattle.spec.specs.Model.{component_of, item_name, model_ok};
+ghost use Rattle.spec.specs.Model.{component_of, item_name, model_ok, name_bytes, name_cell, name_text};
 
 use spec::Refusal;
 
@@ -15,7 +15,11 @@ mod words;
 pub use named::Named;
 pub use words::Words;
 
-// Where the component words begin; the item words follow them.
+// Where the numbers of components and of items stand, and where the component words begin; the item words follow them.
+const COMPONENT_COUNT_AT: usize = 0;
+
+const ITEM_COUNT_AT: usize = 1;
+
 const COMPONENTS_AT: u64 = 2;
 
 // A component's word has its parent above its name: how many names there is room for.
@@ -34,7 +38,9 @@ const ASSET_CHANGE: u64 = 3;
 
 const MAX_CATEGORY: u64 = spec::DISCRETE;
 
-// The parts of a word by its number: a type would hold no fact, since the model's check is what bounds them.
+// The parts of a word by its number: a type would hold no fact, since the model's check is what bounds them. Here and
+// in Words and Named a component has its functions and an item its own: a word of the one has other parts than of the
+// other.
 
 // A component's parent, by the component's word.
 pub fn parent_of(word: u64) -> u64
@@ -80,6 +86,24 @@ pub fn name_length(cell: &[u8]) -> usize
         .unwrap_or(cell.len())
 }
 
+// The cell of name k.
+fn name_cell(names: &[u8], k: u64) -> &[u8]
+    requires { name_bytes * k + name_bytes ≤ length names.now }
+    ensures { result.now ≡ name_cell names.now k }
+{
+    let at = spec::NAME_BYTES * (k as usize);
+    &names[at..at + spec::NAME_BYTES]
+}
+
+// The text of name k.
+pub fn name_text(names: &[u8], k: u64) -> &[u8]
+    requires { name_bytes * k + name_bytes ≤ length names.now }
+    ensures { result.now ≡ name_text names.now k }
+{
+    let cell = name_cell(names, k);
+    &cell[..name_length(cell)]
+}
+
 // Whether model and names keep their rules.
 #[tactic(auto, unfolding(spec::specs::Model::model_ok))]
 pub fn model_ok(model: &[u32], names: &[u8]) -> bool
@@ -95,7 +119,8 @@ pub fn model_ok(model: &[u32], names: &[u8]) -> bool
 }
 
 // A model and its names that keep the rules, or refusal Model. No trait over this and what observations and assets have
-// of the name: each has other arguments, another test and another refusal, and they share one `if`.
+// of the name: each has other arguments, another test and another refusal, and they share one `if`. A lifetime by name,
+// since what is given holds both borrows.
 pub fn checked<'a>(model: &'a [u32], names: &'a [u8]) -> Result<Named<'a>, Refusal>
     ensures { MatchResult result
         (λ s. (s.words ≡ model.entry.now) × (s.names.now ≡ names.entry.now)

@@ -4,7 +4,7 @@ ghost use Rattle.spec.specs.Found.{found_below};
 ghost use Rattle.spec.specs.Model.{max_components, max_items, components, items, Sizes};
 ghost use Rattle.spec.specs.Model.{component_word, item_word, category, change_item};
 
-use super::{ASSET_CHANGE, COMPONENTS_AT, category_of};
+use super::{ASSET_CHANGE, COMPONENT_COUNT_AT, COMPONENTS_AT, ITEM_COUNT_AT, category_of};
 use std::marker::Model;
 
 // The words; a clause sees the list of them.
@@ -42,14 +42,14 @@ impl<'a> Words<'a> {
     pub fn components(&self) -> u64
         ensures { (result ≡ components self.now) × (result ≤ max_components) }
     {
-        u64::from(self.words[0])
+        u64::from(self.words[COMPONENT_COUNT_AT])
     }
 
     // How many data items the model has.
     pub fn items(&self) -> u64
         ensures { (result ≡ items self.now) × (result ≤ max_items) }
     {
-        u64::from(self.words[1])
+        u64::from(self.words[ITEM_COUNT_AT])
     }
 
     // The word of component i.

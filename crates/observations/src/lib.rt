@@ -1,12 +1,16 @@
 // The observation store: its head, and the places of ring and tables, read and written.
+// A ring's size n, its first number b, any number s, a number of items m and a place p stay numbers, each with its
+// clause: what is asked of them ties them to the words beside them, and of a store that is read, Store says it.
 #![tactic(auto)]
 
 ghost use Rattle.std.specs.Prelude.{◌≡◌, [], ◌∷◌, ◌+◌, ◌*◌, ◌≤◌, ◌<◌, ◌^◌, length, set};
 ghost use Rattle.spec.specs.Words.{row, put};
 ghost use Rattle.spec.specs.Model.{max_items};
-ghost use Rattle.history.specs.Observations.{max_ring, last_at, ring_at, latest_at};
+ghost use Rattle.history.specs.Observations.{max_ring, max_number, ring_size, base, last};
+ghost use Rattle.history.specs.Observations.{last_at, ring_at, latest_at, Head};
 ghost use Rattle.history.specs.Observations.{checkpoint_at, store_words, place};
 ghost use Rattle.history.specs.Observations.{head_ok, blank};
+ghost use Rattle.history.specs.Calls.{first};
 ghost use Rattle.observations.specs.Ring.{ring_time, ring_word, overwritten_at};
 ghost use Rattle.observations.specs.Rows.{words_of};
 
@@ -120,6 +124,44 @@ pub fn head_ok(st: &[u64], m: u64) -> bool
         && st.len() as u64 == words_for(n, m)
 }
 
+// Of words whose head is right for any number of items; a Store, whose methods these are too, has as many as a model
+// may have. How many observations the ring holds at most.
+pub fn ring_size(st: &[u64], m: u64) -> u64
+    requires { Head m st.now }
+    ensures is { result ≡ ring_size st.now }
+    ensures bounds { (1 ≤ result) × (result ≤ max_ring) }
+{
+    st[RING_SIZE_AT]
+}
+
+// The first number.
+pub fn base(st: &[u64], m: u64) -> u64
+    requires { Head m st.now }
+    ensures { result ≡ base st.now }
+{
+    st[BASE_AT]
+}
+
+// The newest number.
+pub fn last(st: &[u64], m: u64) -> u64
+    requires { Head m st.now }
+    ensures is { result ≡ last st.now }
+    ensures high { result ≤ max_number }
+{
+    st[LAST_AT]
+}
+
+// The lowest number that the ring holds.
+pub fn first(st: &[u64], m: u64) -> u64
+    requires { Head m st.now }
+    ensures is { result ≡ first st.now }
+    ensures low { base st.now ≤ result }
+    ensures high { result ≤ last st.now + 1 }
+{
+    let next = last(st, m) + 1;
+    base(st, m).max(next.saturating_sub(ring_size(st, m)))
+}
+
 // The ring place of number s, for a ring of n entries and the first number b.
 pub fn place(n: u64, b: u64, s: u64) -> u64
     requires le_n { 1 ≤ n }
@@ -168,10 +210,7 @@ pub fn overwritten(st: &[u64], n: u64, b: u64, s: u64, p: u64) -> Option<Row>
     requires b_le_s { b ≤ s }
     ensures { result ≡ overwritten_at st.now n b s p }
 {
-    if s - b < n {
-        return None;
-    }
-    Some(ring_row(st, n, p, s - n))
+    (n <= s - b).then(|| ring_row(st, n, p, s - n))
 }
 
 // Row k of a table.
@@ -220,7 +259,8 @@ pub fn set_last(st: &mut [u64], s: u64)
     st[LAST_AT] = s;
 }
 
-// A head that has given no number yet, and zeros.
+// A head that has given no number yet, and zeros. Each word by its own place: as one array they would stand in an
+// order.
 #[tactic(auto, using(crate::proofs::Laws::lengths))]
 pub fn make_blank(st: &mut [u64], n: u64, m: u64, b: u64)
     requires st_len { length st.old ≡ store_words n m }

@@ -11,7 +11,7 @@ ghost use Rattle.observations.specs.Headed.{Headed};
 ghost use Rattle.observations.specs.Ring.{ring_word, overwritten_at};
 ghost use Rattle.observations.specs.Rows.{words_of};
 
-use super::{BASE_AT, ITEM_COUNT_AT, LAST_AT, RING_AT, RING_SIZE_AT, Row, Table, head_ok};
+use super::{ITEM_COUNT_AT, RING_AT, Row, Table, head_ok};
 use model::Words;
 use spec::Refusal;
 use std::marker::Model;
@@ -46,7 +46,7 @@ impl<'a> Store<'a> {
     {
         // a model has few items: its own call says it
         let _ = model.items();
-        Store { words }
+        Store::of(words)
     }
 
     // The words as they are. It is called for the head's facts alone too: no plainer, since the fields are private, and
@@ -70,14 +70,14 @@ impl<'a> Store<'a> {
         ensures is { result ≡ ring_size self.now }
         ensures bounds { (1 ≤ result) × (result ≤ max_ring) }
     {
-        self.words[RING_SIZE_AT]
+        super::ring_size(self.words, self.items())
     }
 
     // The first number.
     pub fn base(&self) -> u64
         ensures { result ≡ base self.now }
     {
-        self.words[BASE_AT]
+        super::base(self.words, self.items())
     }
 
     // The newest number.
@@ -86,7 +86,7 @@ impl<'a> Store<'a> {
         ensures low { base self.now ≤ result + 1 }
         ensures high { result ≤ max_number }
     {
-        self.words[LAST_AT]
+        super::last(self.words, self.items())
     }
 
     // The lowest number that the ring holds.
@@ -95,8 +95,7 @@ impl<'a> Store<'a> {
         ensures low { base self.now ≤ result }
         ensures high { result ≤ last self.now + 1 }
     {
-        let next = self.last() + 1;
-        self.base().max(next.saturating_sub(self.ring_size()))
+        super::first(self.words, self.items())
     }
 
     // The ring place of number s.

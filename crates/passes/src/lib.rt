@@ -1,5 +1,6 @@
 // One pass over the ring, for current with at: each item's newest place, and the marks of condition items, in two runs
-// without a wrap. The place of the pass's first number is FIRST_PLACE.
+// without a wrap. The place of the pass's first number is FIRST_PLACE, and 0 that of none: why no Option, and why
+// store, steps and first number are no struct, picks says.
 #![tactic(auto)]
 
 ghost use Rattle.std.specs.Prelude.{◌≡◌, is_some, ◌≤◌};

@@ -3,6 +3,7 @@
 // first number, so no type of the run alone can hold it. Nor is a struct of the pass's store, steps and first number
 // any plainer: each clause would name its three parts. `Passed` takes two numbers: those of a whole pass are no run.
 // Newest places, picks and marks stay three: of what lies below, each takes one or two, and says what becomes of them.
+// An item without a newest place has 0, and no Option: a store of one word tells of it, in a loop without a branch.
 #![tactic(auto)]
 
 ghost use Rattle.std.specs.Prelude.{◌≡◌, true, is_some, not, ◌-◌, ◌^◌, ◌<◌, ◌≤◌, length};

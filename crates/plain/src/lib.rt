@@ -1,6 +1,7 @@
-// The short way of an addition, by one row: for items without conditions, and for a start. It stands beside recording
-// for speed: with one function over both ways, a delivery of 256 with 256 names took 2,891 ns for 2,690. Between two
-// writes what the head said goes beside the store, as n, b, s and p: why no type holds both stands at recording's head.
+// The short way of an addition, by one row: for items without conditions, and for a start. It and recording aren't
+// alike but for a name: recording reads and steps an item's eight entries. With one function over both ways, which
+// tests for each, a delivery of 256 with 256 names took 2,891 ns for 2,690. Between two writes what the head said goes
+// beside the store, as n, b, s and p: why no type holds both stands at recording's head.
 #![tactic(auto)]
 
 ghost use Rattle.std.specs.Prelude.{◌≡◌, true, false, suc, ◌≤◌, ◌<◌, length, MatchOption, Ok};

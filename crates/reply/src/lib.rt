@@ -13,6 +13,16 @@ use spec::Refusal;
 // word.
 pub const SIZES: usize = 4;
 
+// Where they stand: how many rows there are, a store's first and last number, and the number that a client asks for
+// next; an asset reply has the used cells, all cells and 0 in the places behind the first.
+pub const ROWS_AT: usize = 0;
+
+pub const FIRST_AT: usize = 1;
+
+pub const LAST_AT: usize = 2;
+
+pub const NEXT_AT: usize = 3;
+
 pub const ROW_WORDS: usize = 3;
 
 // The sizes of a reply, or the refusal Space where w words don't fit behind them. The most words are a full ring's

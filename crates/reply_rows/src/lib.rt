@@ -9,7 +9,7 @@ ghost use Rattle.streams.specs.Streams.{group_of, word_ok, packed_ok, all_rows, 
 ghost use Rattle.streams.specs.Groups.{group_number};
 
 use model::Words;
-use reply::{ROW_WORDS, SIZES};
+use reply::{FIRST_AT, LAST_AT, NEXT_AT, ROW_WORDS, ROWS_AT, SIZES};
 use spec::{Refusal, Row};
 use stamp::MAX_TIME;
 use std::marker::Model;
@@ -49,11 +49,11 @@ impl<'a> Reply<'a> {
         self.words
     }
 
-    // How many rows there are. The sizes go by their places, each of which is read here alone.
+    // How many rows there are.
     pub fn rows(&self) -> usize
         ensures { (result ≡ get_or self.now 0 0) × (4 + 3 * result ≤ length self.now) }
     {
-        self.words[0] as usize
+        self.words[ROWS_AT] as usize
     }
 
     // The first number that a store has.
@@ -61,7 +61,7 @@ impl<'a> Reply<'a> {
     pub fn first(&self) -> u64
         ensures { result ≡ get_or self.now 1 0 }
     {
-        self.words[1]
+        self.words[FIRST_AT]
     }
 
     // The last number that a store has.
@@ -69,7 +69,7 @@ impl<'a> Reply<'a> {
     pub fn last(&self) -> u64
         ensures { result ≡ get_or self.now 2 0 }
     {
-        self.words[2]
+        self.words[LAST_AT]
     }
 
     // The number that a client asks for next.
@@ -77,7 +77,7 @@ impl<'a> Reply<'a> {
     pub fn next(&self) -> u64
         ensures { result ≡ get_or self.now 3 0 }
     {
-        self.words[3]
+        self.words[NEXT_AT]
     }
 
     // Row i.
@@ -116,7 +116,7 @@ impl<'a> Reply<'a> {
 pub fn words_ok(reply: &[u64]) -> bool
     ensures { result ≡ words_ok reply.now }
 {
-    SIZES <= reply.len() && reply[0] <= ((reply.len() - SIZES) / ROW_WORDS) as u64
+    SIZES <= reply.len() && reply[ROWS_AT] <= ((reply.len() - SIZES) / ROW_WORDS) as u64
 }
 
 // The group of a category's rows.
@@ -159,7 +159,8 @@ pub fn reply_ok(model: &Words<'_>, reply: &[u64]) -> bool
     words_ok(reply) && Reply::of(reply).all_rows(|row| packed_ok(model, row.packed))
 }
 
-// The reply, where a document can be made of it, or refusal Store.
+// The reply, where a document can be made of it, or refusal Store. Why no trait has this: model::checked. A lifetime by
+// name, since of two borrows that come in, the result holds one.
 pub fn checked<'a>(model: &Words<'_>, reply: &'a [u64]) -> Result<Reply<'a>, Refusal>
     ensures { MatchResult result
         (λ r. (r ≡ reply.entry.now) × (reply_ok model.now reply.entry.now ≡ true))

@@ -1,15 +1,14 @@
 -- Rows of a component and group, kept and marked one after the other.
 use Prim.Native.Nat.{ℕ, suc, ◌≤◌, ◌<◌}
 use mathlib.Core.Path.{◌≡◌, refl, sym, ap, ◌∙◌}
-use mathlib.Core.Bool.{Bool, true, false, ◌||◌, or-false}
-use Rattle.std.specs.List.{list_any}
+use mathlib.Core.Bool.{Bool, true, false, ◌||◌}
 use mathlib.Core.List.{List, [], ◌∷◌, ◌++◌, map, map-append, append_assoc, append-nil}
 use native.Mathlib.Omega.{arith}
 use borrow.Author.Tests.{eq-eqb, ne_eqb, eqb-true, eqb-false, ltb-true, ltb-false}
 use denote.Enum.Bare.{sameb}
 use lib.Dec.{ltb, eqb}
 use lib.ListN.{length, get_or, set, take, replicate, length-set, get_or-replicate}
-use lib.ListN.{length-replicate}
+use lib.ListN.{length-replicate, get_or-eq_default}
 use lib.Seq.{take_all, get_or-set_same, get_or-set_other}
 use Rattle.std.specs.Prelude.{Option, Some, None, is_some, option_map, MatchOption}
 use Rattle.std.specs.Option.{unwrap_or}
@@ -31,7 +30,7 @@ use Rattle.streams.proofs.Pieces.{ended-append, having-append}
 use Rattle.writer.specs.Puts.{Put, stop}
 use Rattle.writer.specs.declared.Output.{Output}
 use Rattle.writer.proofs.Laws.{put-none, put-append}
-use Rattle.row_groups.specs.Groups.{reply_rows, kept, kept_text, filled, Marked, any_kept}
+use Rattle.row_groups.specs.Groups.{reply_rows, kept, kept_text, filled, Marked, any_kept, any_marked}
 
 -- ---- the groups' numbers
 
@@ -312,37 +311,23 @@ module _ (model names reply : List ℕ) (M : Checked model names) (h : reply_ok 
       f x q ∙ (ap (λ (y : List Bool). get_or y g false) (u [])
       ∙ m.at c g (omega (arith, ltb-true c (length present) (sym s), m.len)) l)
 
--- any of three marks, in the library's words
-three-any : (p : Bool → Bool) → ((b : Bool) → p b ≡ b) → (xs : List Bool) → length xs ≡ groups
-    → list_any p xs ≡ get_or xs 0 false || (get_or xs 1 false || get_or xs 2 false)
-three-any p is [] e = absurd (omega arith)
-three-any p is (a ∷ []) e = absurd (omega arith)
-three-any p is (a ∷ b ∷ []) e = absurd (omega arith)
-three-any p is (a ∷ b ∷ d ∷ []) e = rw (is a, is b, is d, or-false d)
-three-any p is (a ∷ b ∷ d ∷ x ∷ xs) e = absurd (omega arith)
-
+-- a component has a mark where it has rows; behind the marks it has neither
 module _ (model names reply : List ℕ) (M : Checked model names) (h : reply_ok model reply ≡ true)
-    {present : List (List Bool)} (m : Marked model (reply_rows reply) present) (c : ℕ) (t : Bool)
-    {P : Bor (List Bool) → Type 0} where
-  pub marks-any : (r : Option (Bor (List Bool))) → is_some r ≡ ltb c (length present)
-      → ((d : List Bool) → unwrap_or (option_map (λ (x : Bor (List Bool)). x.now) r) d ≡ get_or present c d)
-      → MatchOption r (t ≡ false) P → (p : Bool → Bool) → ((b : Bool) → p b ≡ b)
-      → ((x : Bor (List Bool)) → P x → t ≡ list_any p x.now)
-      → t ≡ any_kept model c (reply_rows reply)
-  marks-any None s u q p is f =
-      let none = lacking model names reply M h c (omega (arith, ltb-false c (length present) (sym s), m.len)) in
-      q ∙ rw (← none 0, ← none 1, ← none 2) refl
-  marks-any (Some x) s u q p is f =
-      let low : c < max_components = omega (arith, ltb-true c (length present) (sym s), m.len) in
-      let e : x.now ≡ get_or present c [] = u [] in
-      f x q
-      ∙ rw (
-        e,
-        three-any p is (get_or present c []) (m.each c low),
-        m.at c 0 low (omega arith),
-        m.at c 1 low (omega arith),
-        m.at c 2 low (omega arith),
-      )
+    {present : List (List Bool)} (m : Marked model (reply_rows reply) present) (c : ℕ) where
+  pub marks-any : any_marked present c ≡ any_kept model c (reply_rows reply)
+  marks-any =
+      by-test (ltb c max_components)
+      (λ t.
+      let low = ltb-true c max_components t in
+      rw (m.at c 0 low (omega arith), m.at c 1 low (omega arith), m.at c 2 low (omega arith)) refl)
+      (λ t.
+      let none = lacking model names reply M h c (ltb-false c max_components t) in
+      rw (
+        get_or-eq_default present [] {n = c} (omega (arith, ltb-false c max_components t, m.len)),
+        ← none 0,
+        ← none 1,
+        ← none 2,
+      ) refl)
 
 -- ---- groups
 

@@ -41,6 +41,12 @@ pub record Marked (model : List ℕ) (rows : List Row) (present : List (List Boo
   pub at : (c g : ℕ) → c < max_components → g < groups
       → get_or (get_or present c []) g false ≡ filled (kept model c g rows)
 
+-- component c has the mark of some group
+abbrev pub any_marked : List (List Bool) → ℕ → Bool
+any_marked present c =
+    get_or (get_or present c []) 0 false
+    || (get_or (get_or present c []) 1 false || get_or (get_or present c []) 2 false)
+
 -- ---- what the call's checks give
 
 -- those who write a document

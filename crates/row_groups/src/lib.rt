@@ -8,12 +8,12 @@ ghost use Rattle.spec.specs.Reply.{rows_of};
 ghost use Rattle.streams.specs.Groups.{group_number};
 ghost use Rattle.streams.specs.Streams.{row_in, reply_ok, group_of, each, groups, group_name, group_lines, ended};
 ghost use Rattle.writer.specs.Puts.{Put};
-ghost use Rattle.row_groups.specs.Groups.{reply_rows, kept, kept_text, filled, any_kept};
+ghost use Rattle.row_groups.specs.Groups.{reply_rows, kept, kept_text, filled, any_kept, any_marked};
 ghost use Rattle.row_groups.specs.Groups.{Marked, Placed};
 
 use model::{Named, Words};
 use reply_rows::{Reply, group_of};
-use row_text::put_row;
+use row_text::put_group_row;
 use spec::Refusal;
 use std::marker::Model;
 use streams::{GROUPS, Group};
@@ -22,11 +22,11 @@ use writer::Output;
 const COMPONENT_SLOTS: usize = spec::MAX_COMPONENTS as usize;
 
 // For each group of each component whether it has rows.
-type Present = [[bool; GROUPS]; COMPONENT_SLOTS];
+pub type Present = [[bool; GROUPS]; COMPONENT_SLOTS];
 
 // ---- which groups have rows
 
-// Where a group stands among a component's.
+// Where a group stands among a component's: its discriminant.
 fn slot_of(g: Group) -> usize
     ensures { (result ≡ group_number g) × (result < groups) }
 {
@@ -47,7 +47,7 @@ fn home_of(model: &Words<'_>, item: u64) -> (u64, Group)
 }
 
 // Whether each group of each component has rows.
-fn groups_present(model: &Words<'_>, reply: &Reply<'_>) -> Present
+pub fn groups_present(model: &Words<'_>, reply: &Reply<'_>) -> Present
     requires { Placed model.now reply.now }
     ensures { Marked model.now (reply_rows reply.now) result }
 {
@@ -60,7 +60,18 @@ fn groups_present(model: &Words<'_>, reply: &Reply<'_>) -> Present
     present
 }
 
+// Whether component c has rows, by its marks; behind the marks there is no component.
+pub fn has_rows(present: &Present, c: u64) -> bool
+    ensures { result ≡ any_marked present.now c }
+{
+    present
+        .get(c as usize)
+        .is_some_and(|groups| groups.contains(&true))
+}
+
 // ---- tags
+
+// A group and the text that it goes to stay two, here and below: the one is read, and the other grows.
 
 // A group's name. No one function with figures::put_level is plainer: they share neither type nor text.
 fn put_name(g: Group, out: &mut Output)
@@ -104,7 +115,7 @@ impl<'a> Model for Document<'a> {
 }
 
 impl<'a> Document<'a> {
-    // What the document of a reply is made of, or refusal Store.
+    // What the document of a reply is made of, or refusal Store. Why no trait has this: model::checked.
     pub fn checked(model: Named<'a>, reply: &'a [u64]) -> Result<Document<'a>, Refusal>
         ensures { MatchResult result
             (λ d. (d ≡ record { model = model.entry.words; names = model.entry.names.now; reply = reply.entry.now })
@@ -141,9 +152,7 @@ impl<'a> Document<'a> {
     pub fn has_rows(&self, c: u64) -> bool
         ensures { result ≡ any_kept self.now.model c (reply_rows self.now.reply) }
     {
-        self.present
-            .get(c as usize)
-            .is_some_and(|groups| groups.contains(&true))
+        has_rows(&self.present, c)
     }
 
     // Row i's line, if its item is of component c and group g.
@@ -159,7 +168,7 @@ impl<'a> Document<'a> {
         if component == c && group == g {
             let t = self.model.item_text(item);
             // read again, so that a row that isn't written costs its packed word alone: else 100 rows took 52 µs for 49
-            put_row(out, g, t, &self.reply.row_at(i));
+            put_group_row(out, g, t, &self.reply.row_at(i));
         }
     }
 
@@ -189,7 +198,7 @@ impl<'a> Document<'a> {
         put_tag(b"</", g, out);
     }
 
-    // Component c's groups that have rows.
+    // Component c's groups that have rows, each by its name: a loop over three would be as long, and a proof more.
     pub fn put_groups(&self, c: u64, out: &mut Output)
         ensures { Put out.old
             (ended (each

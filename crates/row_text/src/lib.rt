@@ -78,8 +78,19 @@ fn put_condition_row(out: &mut Output, t: &[u8], row: &Row)
     out.put_bytes(b"/>\n");
 }
 
-// The line of a row of group g, of an item of type t.
-pub fn put_row(out: &mut Output, g: Group, t: &[u8], row: &Row)
+// The line of a row of group g, of an item of type t. Any number above those of Samples and Events is Condition's.
+pub fn put_row(out: &mut Output, g: u64, t: &[u8], row: &Row)
+    ensures { Put out.old (row_line g t.now (shown row.now) ++ 10 ∷ []) out.new }
+{
+    if g < 2 {
+        put_text_row(out, t, row);
+    } else {
+        put_condition_row(out, t, row);
+    }
+}
+
+// The line of a row of a group.
+pub fn put_group_row(out: &mut Output, g: Group, t: &[u8], row: &Row)
     ensures { Put out.old
         (row_line (group_number g) t.now (shown row.now) ++ 10 ∷ [])
         out.new }

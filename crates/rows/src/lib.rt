@@ -2,7 +2,7 @@
 // A pass over the ring is two runs without a wrap, so that no entry costs a division.
 #![tactic(auto)]
 
-ghost use Rattle.std.specs.Prelude.{◌≡◌, true, [], ◌∷◌, ◌+◌, ◌-◌, ◌*◌, ◌<◌, ◌≤◌, length};
+ghost use Rattle.std.specs.Prelude.{◌≡◌, true, [], ◌∷◌, ◌+◌, ◌-◌, ◌*◌, ◌<◌, ◌≤◌, length, set};
 ghost use Rattle.history.specs.Observations.{max_ring, item_count};
 ghost use Rattle.observations.specs.Rows.{words_of};
 ghost use Rattle.rows.specs.Rows.{items_ok, sampled, counted, rows_at, rows_into, InRing, RingRange, TwoRuns};
@@ -87,16 +87,23 @@ pub fn count_rows(st: &Store<'_>, selection: u64, f: u64, e: u64) -> Option<u64>
     Some(before + behind)
 }
 
+// One row: its number to word c, its time and packed word to words a and a + 1.
+pub fn write_row(out: &mut [u64], c: u64, a: u64, row: Row)
+    requires { (c < length out.old) × (a + 1 < length out.old) }
+    ensures { out.new ≡ set (set (set out.old c row.number) a row.time) (a + 1) row.packed }
+{
+    out[c as usize] = row.number;
+    out[a as usize] = row.time;
+    out[(a + 1) as usize] = row.packed;
+}
+
 // Row c of k: its number to word c, its time and packed word to pair c, behind the k numbers.
 #[tactic(auto, unfolding(spec::specs::Reply::numbers, spec::specs::Reply::pairs))]
-pub fn write_row(out: &mut [u64], c: u64, k: u64, row: Row)
+pub fn write_row_of(out: &mut [u64], c: u64, k: u64, row: Row)
     requires { k + 2 * c + 1 < length out.old }
     ensures { out.new ≡ rows_at out.old c (k + 2 * c) (words_of row ∷ []) }
 {
-    let pair = k + 2 * c;
-    out[c as usize] = row.number;
-    out[pair as usize] = row.time;
-    out[(pair + 1) as usize] = row.packed;
+    write_row(out, c, k + 2 * c, row);
 }
 
 // One run of write_rows, where `done` of the k rows are written; how many are written then. No plainer as one with
@@ -117,13 +124,7 @@ fn write_run(st: &Store<'_>, selection: u64, run: Run, done: u64, k: u64, out: &
         let place = run.place + (number - run.from);
         let packed = observations::ring_word(words, n, place);
         if selection::has(selection, value::item_of(packed)) {
-            let time = observations::ring_time(words, n, place);
-            let row = Row {
-                number,
-                time,
-                packed,
-            };
-            write_row(out, c, k, row);
+            write_row_of(out, c, k, observations::ring_row(words, n, place, number));
             c += 1;
         }
     }

@@ -23,9 +23,10 @@ pub fn is_empty(set: u64) -> bool
     set == NONE
 }
 
-// Whether item i is in the selection. Loops over a selection's items ask it of each number: tried on snapshots::begin
-// as a filter of the range, and the proof didn't close, since behind a filter all that is known is the list of the
-// items given so far, and the definitions count numbers.
+// Whether item i is in the selection. An item's number keeps its clause, here and elsewhere: most come from a range of
+// the items, which says it, and the bound ties others to a model or a store. Loops over a selection's items ask it of
+// each number: tried on snapshots::begin as a filter of the range, and the proof didn't close, since behind a filter
+// all that is known is the list of the items given so far, and the definitions count numbers.
 pub fn has(selection: u64, i: u64) -> bool
     requires { i < max_items }
     ensures { result ≡ bit selection i }
@@ -33,7 +34,8 @@ pub fn has(selection: u64, i: u64) -> bool
     (selection >> i) & 1 == 1
 }
 
-// The set, with i where `taken` says so; i is above all in the set.
+// The set, with i where `taken` says so; i is above all in the set. A flag, here and below, and no Option of i: a set
+// comes out either way.
 pub fn with_if(taken: bool, set: u64, i: u64) -> u64
     requires { (i < max_items) × (set < 2 ^ i) }
     ensures { result ≡ cond taken (2 ^ i + set) set }

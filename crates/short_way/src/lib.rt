@@ -54,6 +54,5 @@ pub fn observe_short(
     ) {
         return Some(Noted::Same);
     }
-    let number = plain::add_plain(model, observations, item, time, word)?;
-    Some(Noted::Recorded(number))
+    plain::add_plain(model, observations, item, time, word).map(Noted::Recorded)
 }

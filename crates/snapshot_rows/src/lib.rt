@@ -35,7 +35,8 @@ fn used(eight: &[u64; ENTRY_SLOTS]) -> &[u64]
 }
 
 // How many rows the marks of the selected items are. No plainer with the store in place of m: it would be read for its
-// number of items alone, and so a right head would be asked for where a small number serves.
+// number of items alone, and so a right head would be asked for where a small number serves. Marks by their item, here
+// and below: a zip of numbers and marks was tried, and is as long, with 20 lines more of proof.
 pub fn count(m: u64, selection: u64, marks: &Marks) -> u64
     requires { m ≤ max_items }
     ensures { (result ≡ held_count selection marks.now m 0) × (result ≤ 8 * m) }
@@ -49,7 +50,8 @@ pub fn count(m: u64, selection: u64, marks: &Marks) -> u64
     k
 }
 
-// The row at a place of item i: its checkpoint's entry, or a number of the ring.
+// The row at a place of item i: its checkpoint's entry, or a number of the ring. Where a pass starts is a clause, here
+// and below: it ties a number to the store.
 fn row_of(st: &Store<'_>, f: u64, i: u64, place: u64) -> Row
     requires i_lt_items { i < item_count st.now }
     requires st_bound { PassStart st.now f }
@@ -88,7 +90,7 @@ fn write_item(
     for (j, mark) in used.iter().enumerate() {
         let place = marks::place_in(*mark);
         let row = row_of(st, f, i, place);
-        rows::write_row(out, done + j as u64, k, row);
+        rows::write_row_of(out, done + j as u64, k, row);
     }
     done + used.len() as u64
 }

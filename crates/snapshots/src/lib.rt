@@ -40,8 +40,7 @@ fn begin_item(st: &Store<'_>, i: u64) -> Option<[u64; ENTRY_SLOTS]>
         (λ marks. (form_ok i 0 rows ≡ true) × (marks ≡ marks_of i 1 rows)) }
 {
     let entries = Entries::of(st.slice(), st.checkpoint(), i);
-    let filled = entries::fill(&entries, i)?;
-    Some(filled.marks)
+    entries::fill(&entries, i).map(|filled| filled.marks)
 }
 
 // The marks of the condition items' checkpoints; None where one isn't in its written form. All marks go to what the
@@ -89,7 +88,7 @@ fn settle(st: &Store<'_>, selection: u64, steps: u64, seen: &[u64; ITEM_SLOTS], 
 
 // The rows behind the numbers from f up to e, at most a ring of them, to the marks, which are 0. None where a number
 // has no item of the model, a selected condition item's checkpoint isn't in its written form, or one comes to nine
-// entries.
+// entries. Why f and e stay two numbers: rows.
 pub fn hold(source: Modelled<'_>, selection: u64, f: u64, e: u64, marks: &mut Marks) -> Option<()>
     requires st_bound { RingRange source.store.now f e }
     requires marks_value { marks.old ≡ replicate max_items (replicate 8 0) }

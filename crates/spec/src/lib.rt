@@ -2,7 +2,8 @@
 // mean stands in specs/, where each bound has its name too.
 #![tactic(auto)]
 
-// Items and components of a model; the lengths of arrays with a place for each.
+// Items and components of a model; the lengths of arrays with a place for each. Where a bound is both, it has two
+// names: numbers are compared with a u64, an array's length is a usize, and neither is cast where it is used.
 pub const MAX_ITEMS: u64 = 64;
 
 pub const ITEM_SLOTS: usize = MAX_ITEMS as usize;
@@ -68,7 +69,8 @@ pub enum Value {
     Condition(Level, u32),
 }
 
-// An observation's number, time and packed word.
+// An observation's number, time and packed word. A table's unused row is three zeros, by document 01, and its number
+// says so: who reads a row tests that, and no Option is made of what stands in a store.
 #[derive(Clone, Copy)]
 pub struct Row {
     pub number: u64,
@@ -114,7 +116,8 @@ pub enum Refusal {
 // store_asset: the cell that now holds the asset; that of the calls that write text: how many bytes.
 pub type Answer = Result<u64, Refusal>;
 
-// What observe has done: the observation has a number, or it says nothing new and isn't added.
+// What observe has done: the observation has a number, or it says nothing new and isn't added. No Option: Same is an
+// answer of its own, and not the lack of one, as it is to short_way, which gives an Option of this.
 #[derive(Clone, Copy, PartialEq, Eq, Debug)]
 pub enum Noted {
     Recorded(u64),

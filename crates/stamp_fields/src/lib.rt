@@ -23,7 +23,7 @@ fn has_form(form: &[u8], s: &[u8]) -> bool
 
 // Whether the bytes have the form of a stamp.
 #[tactic(auto, using(crate::proofs::Laws::formed_zip, crate::proofs::Laws::formed_length))]
-fn stamp_formed(s: &[u8]) -> bool
+pub fn stamp_formed(s: &[u8]) -> bool
     ensures { result ≡ formed stamp_form s.now }
 {
     let form = b"dddd-dd-ddTdd:dd:dd.dddZ";
@@ -40,7 +40,7 @@ fn number(s: &[u8]) -> u64
 
 // The date of the 24 bytes.
 #[tactic(auto, unfolding(lines::specs::Stamps::date_in))]
-fn date_in(s: &[u8]) -> Date
+pub fn date_in(s: &[u8]) -> Date
     requires { length s.now ≡ 24 }
     ensures { result ≡ date_in s.now }
 {

@@ -7,6 +7,7 @@ use native.Mathlib.Omega.{arith}
 use lib.Dec.{leb}
 use lib.ListN.{length, get_or, take, drop}
 use lib.Seq.{sets}
+use Rattle.std.specs.Prelude.{Option, Some, None, MatchOption}
 use Rattle.spec.specs.Blocks.{table_rows, put_rows, unused, padded}
 use Rattle.spec.specs.Entries.{packed, used_rows, step, form_ok}
 use Rattle.spec.proofs.Blocks.{Threes, padded-threes}
@@ -14,8 +15,11 @@ use Rattle.spec.proofs.Steps.{rows-three, used-three, step-three, used-formed}
 use Rattle.changes.specs.Changes.{ChangeFits, change_for, changed, is_full}
 use Rattle.marks.specs.Marks.{eight_at}
 use Rattle.marks.specs.Marked.{Marked}
+use Rattle.changes.specs.contracts.ChangePartialEq.TheImpl as compared
 use Rattle.changes.specs.declared.Change.{Change}
+use Rattle.changes.specs.declared.Change.TheVariants.{Put, Alone, Out, Stay, Full}
 use Rattle.changes.proofs.Steps.{change-full, change-steps, changed-map, length-changed}
+use Rattle.entries.specs.declared.Filled.{Filled}
 use Rattle.entries.specs.Forms.{marks_of, FilledBy}
 use Rattle.stepping.specs.Taking.{takes_one}
 use Rattle.entries.proofs.Columns.{column, length-column, drop-sets, put-columns}
@@ -23,24 +27,27 @@ use Rattle.entries.proofs.Columns.{numbers-read, times-read, words-read}
 use Rattle.entries.proofs.Filling.{rows-many, by-marked, by-eight, by-formed}
 use Rattle.entries.proofs.Marks.{length-marks, marks-of, form-zeros, rows-padded}
 
-pub takes-broken : (own : ℕ) (rs : List (List ℕ)) (word : ℕ) → form_ok own 0 rs ≡ false → false ≡ takes_one own rs word
-unfolding takes_one
-takes-broken own rs word f = rw f
+-- the derived `==` tells Full from the others
+other : (h : Change) {r : Bool} → r ≡ not ((compared.ghosts).eq h Full) → r ≡ not (is_full h)
+other (Put j) e = e
+other Alone e = e
+other (Out j) e = e
+other Stay e = e
+other Full e = e
 
--- the change that the marks give is Full, or not
-pub takes-by : {own : ℕ} {rs : List (List ℕ)} {marks : List ℕ} {n : ℕ} → FilledBy own rs marks n → (word : ℕ)
-    → {h : Change} → h ≡ change_for own marks word → {full : Bool} → is_full h ≡ full
-    → not full ≡ takes_one own rs word
+-- broken entries take none; of others the change that their marks give is Full, or not
+pub takes-tested : (own : ℕ) (rs : List (List ℕ)) (word : ℕ) (o : Option Filled)
+    → MatchOption o (form_ok own 0 rs ≡ false) (λ f. FilledBy own rs f.marks f.used)
+    → (r : Bool) (P : Filled → Type 0) → MatchOption o (r ≡ false) P
+    → ((f : Filled) → P f → r ≡ not ((compared.ghosts).eq (change_for own f.marks word) Full))
+    → r ≡ takes_one own rs word
 unfolding takes_one
-takes-by {own} {rs} {marks} by word e f =
-    let r : List ℕ = 0 ∷ 0 ∷ word ∷ [] in
-    rw (
-      ← f,
-      e,
-      change-full own (used_rows rs) marks r (by-formed by) (by-marked by) (by-eight by),
-      by.form,
-    )
-    (not-not (leb (length (step own (used_rows rs) r)) 8))
+takes-tested own rs word None h r P g f = g ∙ rw h refl
+takes-tested own rs word (Some x) h r P g f =
+    let new : List ℕ = 0 ∷ 0 ∷ word ∷ [] in
+    other _ (f x g)
+    ∙ rw (change-full own (used_rows rs) x.marks new (by-formed h) (by-marked h) (by-eight h), h.form)
+    (not-not (leb (length (step own (used_rows rs) new)) 8))
 
 -- ---- the step by columns
 

@@ -20,10 +20,9 @@ pub fn takes_one(entries: &Entries<'_>, own: u64, word: u64) -> bool
     requires own_bound { own < 2 ^ 24 }
     ensures { result ≡ takes_one own entries.now word }
 {
-    let Some(filled) = entries::fill(entries, own) else {
-        return false;
-    };
-    changes::change_for(&filled.marks, own, word) != Change::Full
+    entries::fill(entries, own).is_some_and(|filled| {
+        changes::change_for(&filled.marks, own, word) != Change::Full
+    })
 }
 
 // The change done to the first eight of these words, x being the new one.

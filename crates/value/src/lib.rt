@@ -1,7 +1,7 @@
 // The value of an observation: which an item takes, its packed word, and back.
 #![tactic(auto)]
 
-ghost use Rattle.std.specs.Prelude.{◌≡◌, ◌%◌, ◌<◌, ◌^◌};
+ghost use Rattle.std.specs.Prelude.{◌≡◌, ◌+◌, ◌*◌, ◌%◌, ◌<◌, ◌^◌};
 ghost use Rattle.spec.specs.Value.{low_word, level_number, value_word, pack, item_of, native_ok, takes};
 ghost use Rattle.spec.specs.Value.{decode_kind, decode};
 
@@ -69,13 +69,21 @@ pub fn value_word(v: Value) -> u64
     }
 }
 
-// The packed word of an item and its value: any item below 2^24 fits. The bound is a clause here and wherever an item's
-// number comes beside a word: a type that keeps it would be made and taken apart at each word.
+// The packed word of an item and the word of a value: any item below 2^24 fits. The bound is a clause here and wherever
+// an item's number comes beside a word: a type that keeps it would be made and taken apart at each word.
+pub fn pack_word(item: u64, word: u64) -> u64
+    requires { (item < 2 ^ 24) × (word < 2 ^ 40) }
+    ensures { result ≡ item * 2 ^ 40 + word }
+{
+    item * ITEM + word
+}
+
+// The packed word of an item and its value.
 pub fn pack(item: u64, v: Value) -> u64
     requires { item < 2 ^ 24 }
     ensures { result ≡ pack item v }
 {
-    item * ITEM + value_word(v)
+    pack_word(item, value_word(v))
 }
 
 // The item of a packed word.

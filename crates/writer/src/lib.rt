@@ -29,12 +29,22 @@ pub struct Output<'a> {
 }
 
 impl<'a> Output<'a> {
+    // A text that begins at the buffer's start.
     pub fn new(bytes: &'a mut [u8]) -> Output<'a>
         ensures same { result.bytes.ghost_name ≡ bytes.entry.ghost_name }
         ensures bytes { result.bytes.now ≡ bytes.old }
         ensures at { result.at ≡ 0 }
     {
-        Output { bytes, at: 0 }
+        Output::behind(bytes, 0)
+    }
+
+    // A text that goes on at any place, also behind the buffer's end.
+    pub fn behind(bytes: &'a mut [u8], at: usize) -> Output<'a>
+        ensures same { result.bytes.ghost_name ≡ bytes.entry.ghost_name }
+        ensures bytes { result.bytes.now ≡ bytes.old }
+        ensures at { result.at ≡ at }
+    {
+        Output { bytes, at }
     }
 
     // How long the text so far is.

@@ -1,4 +1,5 @@
--- Each way out is one way through the definition; a key that isn't 0 is that of an active word.
+-- Each way out is one way through the definition; a key that isn't 0 is that of an active word. What two of five begin
+-- with is shorter than the type of a lemma of it.
 use native.Mathlib.Omega.{arith}
 use Prim.Native.Nat.{ℕ, suc, ◌+◌}
 use mathlib.Core.Path.{◌≡◌, sym, ap, ◌∙◌}

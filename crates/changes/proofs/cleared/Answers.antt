@@ -1,4 +1,5 @@
--- Each way out is one way through the definition, at the place that is found.
+-- Each way out is one way through the definition, at the place that is found. Each cites its own law: what they shared
+-- is the clause of find.
 use mathlib.Core.Path.{refl, sym, ◌∙◌}
 use native.Mathlib.Omega.{arith}
 use Rattle.marks.proofs.Laws.{found-some, found-none}

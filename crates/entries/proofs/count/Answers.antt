@@ -1,5 +1,6 @@
 -- The first row is used: where the others are zeros it is alone, and otherwise fill tells.
 use mathlib.Core.Path.{sym, ◌∙◌}
+use Rattle.std.proofs.Common.{rules}
 use Rattle.entries.proofs.Unused.{first_alone}
 use Rattle.entries.proofs.Laws.{broken-filled, used-filled}
 use Rattle.entries.proofs.count.Goals as goal
@@ -8,11 +9,5 @@ pub returns-then-rest_unused : goal.returns-then-rest_unused
 returns-then-rest_unused c =
     first_alone _ _ c.row-first.ensures c.if-first-ne0.true (sym c.rest_unused.ensures ∙ c.if-rest_unused.true)
 
-pub returns-in_err-filled : goal.returns-in_err-filled
-returns-in_err-filled c =
-    let f = rw c.in_err-filled.was at c.fill.ensures in
-    c.from_residual.ensures ∙ broken-filled _ _ f
-
 pub returns : goal.returns
-returns c =
-    used-filled _ _ (rw c.in_ok-filled.was at c.fill.ensures)
+returns c = search (rules, broken-filled, used-filled)

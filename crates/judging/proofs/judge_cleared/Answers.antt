@@ -1,4 +1,4 @@
--- The place of the key decides.
+-- The place of the key decides. Each way out cites its own law: what they shared is the clause of find.
 use mathlib.Core.Path.{refl, sym, ◌∙◌}
 use native.Mathlib.Omega.{arith}
 use Rattle.marks.proofs.Laws.{found-some, found-none}

@@ -16,8 +16,8 @@ returns-then-row-eq0 c =
     (used-none c.args.entries.now _ (omega (arith, c.len.ensures)) c.row-row.ensures c.if-row-eq0.true) in
     record { value = whole.0; out_after = whole.1 }
 
-pub write_row-requires : goal.write_row-requires
-write_row-requires c =
+pub write_row_of-requires : goal.write_row_of-requires
+write_row_of-requires c =
     left-room c.loop-j.invariant
     (used-more c.args.entries.now _ (omega (arith, c.len.ensures)) c.row-row.ensures c.if-row-eq0.false) c.requires.1
 
@@ -27,7 +27,7 @@ loop-j-preserved c =
     rw e
     (left-more c.loop-j.invariant
     (used-more c.args.entries.now _ (omega (arith, c.len.ensures)) c.row-row.ensures c.if-row-eq0.false)
-    c.write_row.ensures)
+    c.write_row_of.ensures)
 
 pub returns : goal.returns
 returns c =

@@ -1,3 +1,4 @@
+-- Answers that begin alike stay: a lemma over the place that they share is no shorter.
 use mathlib.Core.Bool.{false≢true}
 use mathlib.Core.Path.{ap}
 use lib.ListN.{length}

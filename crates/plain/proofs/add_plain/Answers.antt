@@ -1,4 +1,5 @@
--- A number is left and its place was made: the ring, the latest's one row and last are written.
+-- A number is left and its place was made: the ring, the latest's one row and last are written. Answers that begin
+-- alike stay: a lemma over the place that they share is no shorter.
 use mathlib.Core.Path.{refl, ◌∙◌}
 use native.Mathlib.Omega.{arith}
 use native.Mathlib.Numerals.{add-one}

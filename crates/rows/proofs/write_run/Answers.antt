@@ -19,8 +19,8 @@ has-requires c =
     sampling-item c.loop-number.invariant c.loop-number-test.true c.ring_size-n.ensures.is w c.item_of.ensures in
     omega (arith, i)
 
-pub write_row-requires : goal.write_row-requires
-write_row-requires c =
+pub write_row_of-requires : goal.write_row_of-requires
+write_row_of-requires c =
     let w = rw c.slice-words.ensures.value at c.ring_word-packed.ensures in
     sampling-room c.loop-number.invariant c.loop-number-test.true c.ring_size-n.ensures.is w c.item_of.ensures
     c.has.ensures c.if-has.true c.requires.e_bound.1
@@ -37,7 +37,9 @@ loop-number-preserved c =
       | then-has w ↦
           rw (w.c-is, q)
           (sampling-more v h c.ring_size-n.ensures.is p c.item_of.ensures c.has.ensures w.if-has.true
-          (rw c.slice-words.ensures.value at w.ring_time-time.ensures) (w.out-is ∙ w.write_row.ensures))
+          (rw c.slice-words.ensures.value at w.ring_row.ensures.time)
+          (rw (w.ring_row.ensures.number, w.ring_row.ensures.packed, ← c.ring_word-packed.ensures)
+          at (w.out-is ∙ w.write_row_of.ensures)))
       | else-has w ↦
           rw (w.out-is, w.c-is, q)
           (sampling-skip v h c.ring_size-n.ensures.is p c.item_of.ensures c.has.ensures w.if-has.false)

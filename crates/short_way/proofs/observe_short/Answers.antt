@@ -2,9 +2,8 @@
 use mathlib.Core.Path.{◌≡◌, refl, ◌∙◌}
 use mathlib.Core.Logic.{◌≢◌}
 use borrow.Author.Tests.{ne_eqb}
-use Rattle.std.specs.Prelude.{Some, Ok}
-use Rattle.spec.specs.declared.Noted.{Noted}
-use Rattle.spec.specs.Answers.{ObserveAnswer}
+use Rattle.std.proofs.Common.{rules}
+use Rattle.std.specs.Prelude.{Ok}
 use Rattle.spec.specs.Model.{category, items}
 use Rattle.history.specs.Observations.{ring_size}
 use Rattle.judging.specs.declared.Judged.TheVariants.{New}
@@ -13,9 +12,6 @@ use Rattle.spec.proofs.Words.{told}
 use Rattle.short_way.proofs.Laws.{found-same, found-new, by-found}
 use Rattle.short_way.proofs.observe_short.Goals as goal
 use Rattle.short_way.proofs.observe_short.Goals.{After-repeats, After-add_plain}
-
-answered : {x y : Noted} → Some x ≡ Some y → ◌≡◌ {A = ObserveAnswer} (Ok y) (Ok x)
-answered e = cc
 
 -- behind the first test the item has no conditions
 plain : (c : After-repeats) → category c.args.model.now c.args.item ≢ 2
@@ -38,11 +34,7 @@ returns-then-repeats c =
     let f =
     found-same (category c.args.model.now) _ _ _ _ _ (plain (goal.at.returns-then-repeats c).After-repeats)
     (rw c.of_model-before.ensures.0 at c.repeats.ensures) c.if-repeats.true in
-    record {
-      done = λ a e. rw (by-found _ _ _ _ _ _ _ f) (answered e, refl);
-      left = λ e. cc;
-      new = λ e. cc;
-    }
+    rw (by-found _ _ _ _ _ _ _ f) (search rules)
 
 pub add_plain-requires : goal.add_plain-requires
 add_plain-requires c =
@@ -51,21 +43,7 @@ add_plain-requires c =
       item_bound = (c.requires.item_bound, ne_eqb _ 2 (plain (goal.at.add_plain-requires c).After-repeats));
     }
 
-pub returns-in_err-number : goal.returns-in_err-number
-returns-in_err-number c =
-    rw c.from_residual.ensures
-    (record {
-      done = λ a e. cc;
-      left = λ e. rw c.in_err-number.was at c.add_plain.ensures;
-      new = λ e n. new (goal.at.returns-in_err-number c).After-add_plain;
-    })
-
 pub returns : goal.returns
 returns c =
     let f = new (goal.at.returns c).After-add_plain in
-    let d = rw c.in_ok-number.was at c.add_plain.ensures in
-    record {
-      done = λ a e. rw (by-found _ _ _ _ _ _ _ f, d.1.0) (rw d.0 at (answered e), d.1.1);
-      left = λ e. cc;
-      new = λ e. cc;
-    }
+    rw (by-found _ _ _ _ _ _ _ f) (search rules)

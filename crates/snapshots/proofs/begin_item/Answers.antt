@@ -16,13 +16,3 @@ of-entries-requires c =
 pub fill-requires : goal.fill-requires
 fill-requires c =
     omega (arith, c.slice.ensures.head.few)
-
-pub returns-in_err-filled : goal.returns-in_err-filled
-returns-in_err-filled c =
-    let f = rw c.in_err-filled.was at c.fill.ensures in
-    rw (c.from_residual.ensures, ← c.checkpoint.ensures.at, ← c.checkpoint.ensures.rows, ← c.slice.ensures.value, ← c.of-entries.ensures) f
-
-pub returns : goal.returns
-returns c =
-    let d = rw c.in_ok-filled.was at c.fill.ensures in
-    rw (← c.checkpoint.ensures.at, ← c.checkpoint.ensures.rows, ← c.slice.ensures.value, ← c.of-entries.ensures) (d.form, d.is)

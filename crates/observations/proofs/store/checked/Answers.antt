@@ -1,4 +1,5 @@
--- A right head says itself for how many items it is.
+-- A right head says itself for how many items it is. By head_ok, and no clause of it: one more would say of the words
+-- what the type says of the Store.
 use mathlib.Core.Path.{sym, ◌∙◌}
 use Rattle.history.proofs.Observations.{head}
 use Rattle.observations.proofs.Laws.{headed}

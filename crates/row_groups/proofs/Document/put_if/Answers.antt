@@ -1,4 +1,5 @@
--- Nothing of another component or group, or the row's line.
+-- Nothing of another component or group, or the row's line. Answers that begin alike stay: a lemma over the place that
+-- they share is no shorter.
 use mathlib.Core.Path.{refl, sym, ◌∙◌}
 use native.Mathlib.Omega.{arith}
 use Rattle.streams.proofs.Rows.{row_at}
@@ -30,7 +31,7 @@ returns-then-eq c =
     (own-word d.model.words d.reply c.args.i c.row_at.ensures.packed c.item_of-item.ensures refl)
     (sym home.component ∙ c.if-component-c.true) (sym home.group ∙ number-same _ _ c.eq.ensures c.if-eq.true) _ _ _ _ _
     c.item_text-t.ensures refl
-    c.row_at-then-eq.ensures.number c.row_at-then-eq.ensures.time c.row_at-then-eq.ensures.packed c.put_row.ensures)
+    c.row_at-then-eq.ensures.number c.row_at-then-eq.ensures.time c.row_at-then-eq.ensures.packed c.put_group_row.ensures)
 
 pub returns-else-component-c : goal.returns-else-component-c
 returns-else-component-c c =
