@@ -202,7 +202,8 @@ module _ (own : ℕ) (r : List ℕ) where
       (λ a. rw (eqb-suc-zero (length es), key-none own (packed r), a))
 
 -- where a key is found, its place is n, behind fewer than there are marks
-pub found-at : (n key : ℕ) (ms : List ℕ) → n < length ms → option_eq eqb (found_at key ms) (Some n) ≡ eqb (place_of key ms) n
+pub found-at : (n key : ℕ) (ms : List ℕ) → n < length ms
+    → option_eq eqb (found_at key ms) (Some n) ≡ eqb (place_of key ms) n
 unfolding found_at
 found-at n key ms h =
     by-test (nat_lt (place_of key ms) (length ms))

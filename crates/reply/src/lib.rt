@@ -9,8 +9,7 @@ ghost use Rattle.reply.specs.Fitted.{Fitted};
 
 use spec::Refusal;
 
-// The words of the sizes at a reply's front, and those of a row behind them: one number, and a pair of time and packed
-// word.
+// The words of the sizes at a reply's front.
 pub const SIZES: usize = 4;
 
 // Where they stand: how many rows there are, a store's first and last number, and the number that a client asks for
@@ -23,6 +22,7 @@ pub const LAST_AT: usize = 2;
 
 pub const NEXT_AT: usize = 3;
 
+// The words of a row behind the sizes: one number, and a pair of time and packed word.
 pub const ROW_WORDS: usize = 3;
 
 // The sizes of a reply, or the refusal Space where w words don't fit behind them. The most words are a full ring's

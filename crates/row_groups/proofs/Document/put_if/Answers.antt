@@ -31,7 +31,8 @@ returns-then-eq c =
     (own-word d.model.words d.reply c.args.i c.row_at.ensures.packed c.item_of-item.ensures refl)
     (sym home.component ∙ c.if-component-c.true) (sym home.group ∙ number-same _ _ c.eq.ensures c.if-eq.true) _ _ _ _ _
     c.item_text-t.ensures refl
-    c.row_at-then-eq.ensures.number c.row_at-then-eq.ensures.time c.row_at-then-eq.ensures.packed c.put_group_row.ensures)
+    c.row_at-then-eq.ensures.number c.row_at-then-eq.ensures.time c.row_at-then-eq.ensures.packed
+    c.put_group_row.ensures)
 
 pub returns-else-component-c : goal.returns-else-component-c
 returns-else-component-c c =
