@@ -83,7 +83,7 @@ module _ (own : ℕ) (r : List ℕ) where
       → set (padded (length ms) es) (place_for r ms) r ≡ padded (length ms) (entered own r es)
   unfolding entered padded
   set_entered [] [] m = refl
-  set_entered [] (x ∷ xs) m = rw (place-free own (suc (code_in r)) x xs m.0)
+  set_entered [] (x ∷ xs) m = rw (place-free own (code_in r) x xs m)
   set_entered (e ∷ es) [] m = absurd m
   set_entered (e ∷ es) (x ∷ xs) m =
       by-test (active_as own (code_in r) (packed e))
@@ -97,7 +97,7 @@ module _ (own : ℕ) (r : List ℕ) where
       → Marked own (entered own r es) (set ms (place_for r ms) y)
   unfolding entered
   marked-entered [] [] y m h p k = absurd (omega arith)
-  marked-entered [] (x ∷ xs) y m h p k = rw (place-free own (suc (code_in r)) x xs m.0) (p, k, m.1)
+  marked-entered [] (x ∷ xs) y m h p k = rw (place-free own (code_in r) x xs m) (p, k, m.1)
   marked-entered (e ∷ es) [] y m h p k = absurd m
   marked-entered (e ∷ es) (x ∷ xs) y m h p k =
       by-test (active_as own (code_in r) (packed e))

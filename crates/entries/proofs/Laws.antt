@@ -1,26 +1,24 @@
 -- The written form of an item's rows, row by row: what may follow, and what is found of the rows left.
-use Prim.Native.Nat.{ℕ, suc, ◌≤◌, ◌<◌}
+use Prim.Native.Nat.{ℕ, suc, ◌≤◌}
 use mathlib.Core.Path.{◌≡◌, refl, sym, ap, ◌∙◌}
 use mathlib.Core.Bool.{Bool, true, false, cond, ◌&&◌, ◌||◌, not, true≢false, and-false, and-true, not-not}
 use mathlib.Core.Bool.{or-false, or_assoc, and_assoc}
 use mathlib.Core.List.{List, [], ◌∷◌, ◌++◌, append-nil}
 use native.Mathlib.Omega.{arith}
 use lib.Dec.{leb, eqb, eqb-suc-zero}
-use lib.ListN.{length, get_or, drop, length-append}
+use lib.ListN.{length, get_or, take, drop, length-append}
 use lib.Seq.{append_snoc}
-use borrow.Author.Tests.{eqb-true, eqb-false, eq-eqb, ne_eqb, le-leb, lt-leb, leb-false, ltb-false}
+use borrow.Author.Tests.{eqb-true, eqb-false, eq-eqb, ne_eqb, le-leb, lt-leb, leb-false}
 use Rattle.spec.specs.Entries.{active, active_as, code_field, packed, any_entry, each_row, has_code, zero_row, used_rows}
 use Rattle.spec.specs.Entries.{codes_differ, form_ok}
 use Rattle.spec.proofs.Words.{and_left, by-test}
 use Rattle.spec.proofs.Text.{and-left-comm}
 use Rattle.spec.proofs.Found.{cond-none}
-use Rattle.marks.specs.Marks.{key_in, key_of, place_of, found_at}
+use Rattle.marks.specs.Marks.{key_in, key_of}
 use Rattle.marks.specs.Marked.{Marked}
-use Rattle.marks.proofs.Keys.{key-active, key-idle}
-use Rattle.marks.proofs.Places.{place-has, place_none}
-use Rattle.entries.specs.Forms.{may_follow, FilledBy, filled}
-use Rattle.std.specs.Option.{option_eq}
-use Rattle.std.specs.Prelude.{Option, Some, None, nat_lt}
+use Rattle.marks.proofs.Keys.{key-active, key-idle, key-eqb}
+use Rattle.entries.specs.Forms.{has_key, may_follow, FilledBy, filled}
+use Rattle.std.specs.Prelude.{Option, Some, None}
 use Rattle.std.proofs.lemmas.Option.{cond_some}
 
 -- ---- one more entry
@@ -171,13 +169,14 @@ key-none own w =
     (λ a. rw (key-idle own w a, a))
 
 module _ (own : ℕ) (r : List ℕ) where
-  -- the place of a code is behind the last where no entry has it
-  place-last : (c : ℕ) (es : List (List ℕ)) (ms : List ℕ) → Marked own es ms
-      → eqb (place_of (suc c) ms) (length es) ≡ not (has_code own c es)
-  place-last c es ms m =
-      by-test (has_code own c es)
-      (λ h. rw (h, ne_eqb (place_of (suc c) ms) (length es) (omega (arith, place-has own c es ms m h))))
-      (λ h. rw (h, eq-eqb (place_of (suc c) ms) (length es) (place_none own c es ms m h)))
+  -- a mark has a code's key where an entry has the code
+  key-shown : (c : ℕ) (es : List (List ℕ)) (ms : List ℕ) → Marked own es ms
+      → has_key (suc c) (take (length es) ms) ≡ has_code own c es
+  unfolding any_entry has_key
+  key-shown c [] ms m = refl
+  key-shown c (e ∷ es) [] m = absurd m
+  key-shown c (e ∷ es) (x ∷ xs) m =
+      rw (m.1, key-eqb own c (packed e)) (ap (λ (b : Bool). active_as own c (packed e) || b) (key-shown c es xs m.2))
 
   -- the test by marks is the test of the rows
   pub follows-marked : (es : List (List ℕ)) (ms : List ℕ) → Marked own es ms
@@ -195,33 +194,26 @@ module _ (own : ℕ) (r : List ℕ) where
         key-none own (packed e),
         a,
         key-active own (packed r) a,
-        place-last (code_field (packed r)) (e ∷ es) (x ∷ xs) m,
+        key-shown (code_field (packed r)) (e ∷ es) (x ∷ xs) m,
       )
       (ap (λ (b : Bool). b && not (has_code own (code_field (packed r)) (e ∷ es)))
       (not-not (active own (packed e)))))
       (λ a. rw (eqb-suc-zero (length es), key-none own (packed r), a))
 
--- where a key is found, its place is n, behind fewer than there are marks
-pub found-at : (n key : ℕ) (ms : List ℕ) → n < length ms
-    → option_eq eqb (found_at key ms) (Some n) ≡ eqb (place_of key ms) n
-unfolding found_at
-found-at n key ms h =
-    by-test (nat_lt (place_of key ms) (length ms))
-    (λ t. rw t)
-    (λ t. rw (t, ne_eqb (place_of key ms) n (omega (arith, ltb-false (place_of key ms) (length ms) t))))
-
--- behind another, the two keys decide, and then the place
+-- behind another, the two keys decide, and then whether one has the code
 module _ (n key : ℕ) (ms : List ℕ) (some : n ≡ 0 → ⊥) where
   may-behind : {keyed : Bool} → keyed ≡ not (eqb key 0) && not (eqb (key_in (get_or ms 0 0)) 0)
-      → keyed && eqb (place_of key ms) n ≡ may_follow n key ms
+      → keyed && not (has_key key (take n ms)) ≡ may_follow n key ms
   unfolding may_follow
-  may-behind e = rw (e, ne_eqb n 0 some) (and_assoc (not (eqb key 0)) (not (eqb (key_in (get_or ms 0 0)) 0)) (eqb (place_of key ms) n))
+  may-behind e =
+      rw (e, ne_eqb n 0 some)
+      (and_assoc (not (eqb key 0)) (not (eqb (key_in (get_or ms 0 0)) 0)) (not (has_key key (take n ms))))
 
   module _ {keyed : Bool} (e : keyed ≡ not (eqb key 0) && not (eqb (key_in (get_or ms 0 0)) 0)) where
     pub may-not : keyed ≡ false → keyed ≡ may_follow n key ms
     may-not f = f ∙ rw f at (may-behind e)
 
-    pub may-keyed : keyed ≡ true → eqb (place_of key ms) n ≡ may_follow n key ms
+    pub may-keyed : keyed ≡ true → not (has_key key (take n ms)) ≡ may_follow n key ms
     may-keyed f = rw f at (may-behind e)
 
 -- ---- what fill answers

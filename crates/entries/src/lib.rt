@@ -5,7 +5,7 @@
 ghost use Rattle.std.specs.Prelude.{◌≡◌, false, ◌^◌, ◌<◌, MatchOption, drop, get_or, not, ◌&&◌, ◌==◌};
 ghost use Rattle.marks.specs.Marks.{key_in};
 ghost use Rattle.spec.specs.Entries.{form_ok, each_row, zero_row};
-ghost use Rattle.entries.specs.Forms.{may_follow, FilledBy, filled};
+ghost use Rattle.entries.specs.Forms.{has_key, may_follow, FilledBy, filled};
 
 mod table;
 
@@ -19,6 +19,14 @@ fn both_active(marks: &[u64; ENTRY_SLOTS], key: u64) -> bool
     key != 0 && marks::key_in(marks[0]) != 0
 }
 
+// Whether one of the marks has the key.
+#[tactic(auto, unfolding(crate::specs::Forms::has_key))]
+fn has_key(marks: &[u64], key: u64) -> bool
+    ensures { result ≡ has_key key marks.now }
+{
+    marks.iter().any(|mark| marks::key_in(*mark) == key)
+}
+
 // Whether an entry with this key may follow n others, which eight marks tell of: the first may be anything, others are
 // active with a code of their own.
 #[tactic(auto, unfolding(crate::specs::Forms::may_follow))]
@@ -26,7 +34,7 @@ fn may_follow(marks: &[u64; ENTRY_SLOTS], n: u64, key: u64) -> bool
     requires { n < 8 }
     ensures { result ≡ may_follow n key marks.now }
 {
-    n == 0 || both_active(marks, key) && marks::find(marks, key) == Some(n as usize)
+    n == 0 || both_active(marks, key) && !has_key(&marks[..n as usize], key)
 }
 
 // Eight entries in their written form: how many are used, and the marks of all, from place 1 on with their keys. No

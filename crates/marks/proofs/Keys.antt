@@ -1,6 +1,6 @@
 -- What the other laws rest on: keys of packed words, the parts of a mark, places of keys among marks.
 use mathlib.Core.Path.{◌≡◌}
-use mathlib.Core.Bool.{true, false, ◌||◌}
+use mathlib.Core.Bool.{true, false}
 use Prim.Native.Nat.{ℕ, suc, ◌^◌, ◌≤◌, ◌<◌}
 use native.Mathlib.Omega.{arith}
 use mathlib.Core.List.{List, [], ◌∷◌}
@@ -8,7 +8,9 @@ use lib.Dec.{eqb, eqb-suc-suc, eqb-zero-suc}
 use lib.ListN.{length}
 use Rattle.spec.specs.Entries.{active, active_as, code_field}
 use Rattle.spec.proofs.Words.{by-test, by_cond}
-use Rattle.marks.specs.Marks.{mark_of, place_in, key_in, key_of, place_of}
+use Rattle.std.specs.Prelude.{nat_lt}
+use borrow.Author.Tests.{ltb-true}
+use Rattle.marks.specs.Marks.{mark_of, place_in, key_in, key_of, key_place, free_place, place_of}
 
 -- ---- keys
 
@@ -55,10 +57,17 @@ mark-place place key h = omega arith
 -- ---- places
 
 -- a place is one of the marks, or how many there are
+free-max : (ms : List ℕ) → free_place ms ≤ length ms
+unfolding free_place
+free-max [] = omega arith
+free-max (x ∷ xs) =
+    by_cond (λ j. j ≤ suc (length xs)) (eqb x 0) _ _
+    (λ e. omega arith)
+    (λ e. omega (arith, free-max xs))
+
 pub place-max : (key : ℕ) (ms : List ℕ) → place_of key ms ≤ length ms
 unfolding place_of
-place-max key [] = omega arith
-place-max key (x ∷ xs) =
-    by_cond (λ j. j ≤ suc (length xs)) (eqb x 0 || eqb (key_in x) key) _ _
-    (λ e. omega arith)
-    (λ e. omega (arith, place-max key xs))
+place-max key ms =
+    by_cond (λ j. j ≤ length ms) (nat_lt (key_place key ms) (length ms)) _ _
+    (λ e. omega (arith, ltb-true (key_place key ms) (length ms) e))
+    (λ e. free-max ms)

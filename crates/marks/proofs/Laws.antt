@@ -1,7 +1,7 @@
 -- What the code comes to: words that are active or Normal, the place of a key, and eight words lent out of others.
 use Prim.Native.Nat.{ℕ, suc, ◌+◌, ◌-◌, ◌*◌, ◌/◌, ◌%◌, ◌^◌, ◌≤◌, ◌<◌}
-use mathlib.Core.Path.{◌≡◌, refl, sym, ◌∙◌}
-use mathlib.Core.Bool.{true, false, ◌||◌}
+use mathlib.Core.Path.{◌≡◌, refl, sym, ap, ◌∙◌}
+use mathlib.Core.Bool.{true, false, cond, ◌||◌, true≢false}
 use mathlib.Core.List.{List}
 use native.Mathlib.Nat.{mod-lt}
 use lib.Arith.{mod-mul}
@@ -11,14 +11,14 @@ use lib.ListN.{length, take, drop, length-drop}
 use lib.Seq.{length-take-le}
 use borrow.Author.Tests.{eq-eqb, ne_eqb, eqb-true, eqb-false, ltb-true, ltb-false}
 use Rattle.std.specs.List.{position}
-use Rattle.std.specs.Prelude.{Some, None, nat_lt}
+use Rattle.std.specs.Prelude.{Option, Some, None, is_some, nat_lt}
 use Rattle.std.proofs.lemmas.List.Recursion.{is_position_or_len}
 use Rattle.std.proofs.lemmas.Option.{cond_some}
 use Rattle.spec.specs.Value.{item_of}
 use Rattle.spec.specs.Entries.{active, normal, kind_field, level_field}
 use Rattle.spec.proofs.Words.{by-test}
 use Rattle.spec.proofs.Found.{cond-none}
-use Rattle.marks.specs.Marks.{key_of, eight_at, is_place, place_of, found_at}
+use Rattle.marks.specs.Marks.{key_in, key_of, eight_at, key_place, free_place, place_of, found_at}
 use Rattle.marks.proofs.Keys.{active-key, idle-key, place-max}
 
 -- ---- words that are active, or Normal
@@ -85,13 +85,40 @@ pub eight-length : {A : Type 0} (l : List A) (k : ℕ) → k + 8 ≤ length l �
 eight-length l k h = length-take-le 8 (drop k l) (omega (arith, length-drop k l))
 
 -- what is looked for, as the library has it
-pub found-is : (key : ℕ) (ms : List ℕ) → position (is_place key) ms ≡ found_at key ms
-unfolding place_of found_at
-found-is key ms =
-    rw (is_position_or_len (place_of key) (is_place key) refl (λ x xs. rw (next x xs)) ms)
-  where
-    next : (x : ℕ) (xs : List ℕ) → 1 + place_of key xs ≡ suc (place_of key xs)
-    next x xs = omega arith
+one-more : (n : ℕ) → 1 + n ≡ suc n
+one-more n = omega arith
+
+module _ (key : ℕ) (ms : List ℕ) where
+  keyed : position (λ x. eqb (key_in x) key) ms
+      ≡ cond (nat_lt (key_place key ms) (length ms)) (Some (key_place key ms)) None
+  unfolding key_place
+  keyed =
+      rw (is_position_or_len (key_place key) (λ x. eqb (key_in x) key) refl
+      (λ x xs. rw (one-more (key_place key xs)))
+      ms)
+
+  free : position (λ x. eqb x 0) ms ≡ cond (nat_lt (free_place ms) (length ms)) (Some (free_place ms)) None
+  unfolding free_place
+  free = rw (is_position_or_len free_place (λ x. eqb x 0) refl (λ x xs. rw (one-more (free_place xs))) ms)
+
+  -- where none has the key
+  unkeyed : nat_lt (key_place key ms) (length ms) ≡ false → position (λ x. eqb (key_in x) key) ms ≡ None
+  unkeyed t = keyed ∙ rw t
+
+  pub found-key : {o : Option ℕ} → o ≡ position (λ x. eqb (key_in x) key) ms → is_some o ≡ true → o ≡ found_at key ms
+  unfolding place_of found_at
+  found-key e h =
+      by-test (nat_lt (key_place key ms) (length ms))
+      (λ t. e ∙ (keyed ∙ rw (t, t)))
+      (λ t. absurd (true≢false (sym h ∙ ap is_some (e ∙ unkeyed t))))
+
+  pub found-free : {o p : Option ℕ} → o ≡ position (λ x. eqb (key_in x) key) ms → is_some o ≡ false
+      → p ≡ position (λ x. eqb x 0) ms → p ≡ found_at key ms
+  unfolding place_of found_at
+  found-free e h g =
+      by-test (nat_lt (key_place key ms) (length ms))
+      (λ t. absurd (true≢false (rw (e, keyed, t) at h)))
+      (λ t. g ∙ (free ∙ rw t))
 
 module _ (key : ℕ) (ms : List ℕ) where
   pub found-some : {j : ℕ} → Some j ≡ found_at key ms → (j ≡ place_of key ms) × (j < length ms)

@@ -4,13 +4,14 @@ use mathlib.Core.Bool.{true, false, cond, not, true≢false, false≢true}
 use Prim.Native.Nat.{ℕ, zero, suc, ◌≤◌, ◌<◌}
 use native.Mathlib.Omega.{arith}
 use mathlib.Core.List.{List, [], ◌∷◌}
-use lib.Dec.{eqb, eqb-suc-zero}
+use lib.Dec.{eqb, eqb-suc-zero, eqb-zero-suc}
 use lib.ListN.{length, get_or, replicate}
-use borrow.Author.Tests.{ne_eqb}
+use borrow.Author.Tests.{ne_eqb, lt-ltb, le-ltb, ltb-true, ltb-false}
 use Rattle.spec.specs.Entries.{active, active_as, code_field, packed, any_entry, has_code, any_active}
 use Rattle.spec.proofs.Words.{by-test}
 use Rattle.spec.proofs.Steps.{Formed, first-tells}
-use Rattle.marks.specs.Marks.{key_in, key_of, place_of}
+use Rattle.std.specs.Prelude.{nat_lt}
+use Rattle.marks.specs.Marks.{key_in, key_of, key_place, free_place, place_of}
 use Rattle.marks.specs.Marked.{Marked}
 use Rattle.marks.proofs.Keys.{key-active, key-idle, key-eqb, place-max}
 
@@ -35,14 +36,39 @@ module _ (own : ℕ) where
   mark-free (e ∷ es) (x ∷ xs) zero m h = absurd (omega arith)
   mark-free (e ∷ es) (x ∷ xs) (suc i) m h = mark-free es xs i m.2 (omega arith)
 
-  pub place-free : (key x : ℕ) (xs : List ℕ) → x ≡ 0 → place_of key (x ∷ xs) ≡ 0
-  unfolding place_of
-  place-free key x xs e = rw e
+  -- no mark of none has a key
+  key-none : (c : ℕ) (xs : List ℕ) → Marked own [] xs → key_place (suc c) xs ≡ length xs
+  unfolding key_place
+  key-none c [] m = refl
+  key-none c (x ∷ xs) m = rw (m.0, eqb-zero-suc c) (ap suc (key-none c xs m.1))
 
-  pub place-used : (c : ℕ) (e : List ℕ) (x : ℕ) (xs : List ℕ) → 0 < x → key_in x ≡ key_of own (packed e)
-      → place_of (suc c) (x ∷ xs) ≡ cond (active_as own c (packed e)) 0 (suc (place_of (suc c) xs))
-  unfolding place_of
-  place-used c e x xs p k = rw (ne_eqb x 0 (omega arith), k, key-eqb own c (packed e))
+  pub place-free : (c x : ℕ) (xs : List ℕ) → Marked own [] (x ∷ xs) → place_of (suc c) (x ∷ xs) ≡ 0
+  unfolding place_of free_place
+  place-free c x xs m = rw (key-none c (x ∷ xs) m, le-ltb (length (x ∷ xs)) (length (x ∷ xs)) (omega arith), m.0)
+
+  module _ (c : ℕ) (e : List ℕ) (x : ℕ) (xs : List ℕ) (p : 0 < x) (k : key_in x ≡ key_of own (packed e)) where
+    key-used : key_place (suc c) (x ∷ xs) ≡ cond (active_as own c (packed e)) 0 (suc (key_place (suc c) xs))
+    unfolding key_place
+    key-used = rw (k, key-eqb own c (packed e))
+
+    free-used : free_place (x ∷ xs) ≡ suc (free_place xs)
+    unfolding free_place
+    free-used = rw (ne_eqb x 0 (omega arith))
+
+    pub place-used : place_of (suc c) (x ∷ xs) ≡ cond (active_as own c (packed e)) 0 (suc (place_of (suc c) xs))
+    unfolding place_of
+    place-used =
+        rw (key-used, free-used)
+        (by-test (active_as own c (packed e))
+        (λ t. rw (t, lt-ltb 0 (length (x ∷ xs)) (omega arith)))
+        (λ t.
+        by-test (nat_lt (key_place (suc c) xs) (length xs))
+        (λ h.
+        let l = ltb-true (key_place (suc c) xs) (length xs) h in
+        rw (t, h, lt-ltb (suc (key_place (suc c) xs)) (length (x ∷ xs)) (omega (arith, l))))
+        (λ h.
+        let l = ltb-false (key_place (suc c) xs) (length xs) h in
+        rw (t, h, le-ltb (suc (key_place (suc c) xs)) (length (x ∷ xs)) (omega (arith, l))))))
 
 -- marks of no entries
 pub marked-zeros : (own n : ℕ) → Marked own [] (replicate n 0)
@@ -65,7 +91,7 @@ module _ (own c : ℕ) where
       → place_of (suc c) ms ≡ length es
   unfolding any_entry
   place_none [] [] m h = omega (arith, place-max (suc c) [])
-  place_none [] (x ∷ xs) m h = place-free own (suc c) x xs m.0
+  place_none [] (x ∷ xs) m h = place-free own c x xs m
   place_none (e ∷ es) [] m h = absurd m
   place_none (e ∷ es) (x ∷ xs) m h =
       by-test (active_as own c (packed e))

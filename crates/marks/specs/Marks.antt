@@ -1,5 +1,5 @@
 -- Marks: an item's eight entries by place and key.
-use Rattle.std.specs.Prelude.{ℕ, suc, ◌+◌, ◌*◌, ◌/◌, ◌%◌, ◌^◌, Bool, cond, ◌||◌, List, [], ◌∷◌, eqb, length, take, drop, get_or}
+use Rattle.std.specs.Prelude.{ℕ, suc, ◌+◌, ◌*◌, ◌/◌, ◌%◌, ◌^◌, cond, List, [], ◌∷◌, eqb, length, take, drop, get_or}
 use Rattle.std.specs.Prelude.{Option, Some, None, nat_lt}
 use Rattle.spec.specs.Entries.{active, code_field}
 
@@ -25,16 +25,23 @@ eight_at l k = take 8 (drop k l)
 abbrev pub eight_of : List (List ℕ) → ℕ → List ℕ
 eight_of l i = get_or l i []
 
--- the key may stand where this mark does
-abbrev pub is_place : ℕ → ℕ → Bool
-is_place key x = eqb x 0 || eqb (key_in x) key
+-- the place of the first mark that has the key; how many there are, where none has it
+unfoldable pub key_place : ℕ → List ℕ → ℕ
+key_place key [] = 0
+key_place key (x ∷ xs) =
+    let j = key_place key xs in
+    cond (eqb (key_in x) key) 0 (suc j)
 
--- the place of the first mark that is 0 or has the key; how many there are, where there is none
+-- of the first that is 0
+unfoldable pub free_place : List ℕ → ℕ
+free_place [] = 0
+free_place (x ∷ xs) =
+    let j = free_place xs in
+    cond (eqb x 0) 0 (suc j)
+
+-- the place for a key: of the mark that has it or, where none has, of the first that is 0
 unfoldable pub place_of : ℕ → List ℕ → ℕ
-place_of key [] = 0
-place_of key (x ∷ xs) =
-    let j = place_of key xs in
-    cond (is_place key x) 0 (suc j)
+place_of key ms = cond (nat_lt (key_place key ms) (length ms)) (key_place key ms) (free_place ms)
 
 -- the same place, where there is one
 unfoldable pub found_at : ℕ → List ℕ → Option ℕ

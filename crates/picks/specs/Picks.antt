@@ -8,7 +8,7 @@ use Rattle.picks.specs.Pass.{stepped_at, fits, word_of, seen_from}
 
 -- as many as are looked through at a time: a pick is below it, and it is none itself
 abbrev pub block : ℕ
-block = 255
+block = 191
 
 -- how far from s on the k numbers from s + j on stand that are condition items'
 unfoldable pub picked : ℕ → List ℕ → ℕ → ℕ → ℕ → List ℕ

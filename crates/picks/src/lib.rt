@@ -10,7 +10,7 @@ ghost use Rattle.std.specs.Prelude.{◌≡◌, true, is_some, not, ◌-◌, ◌^
 ghost use Rattle.std.specs.List.{AllByRecursion};
 ghost use Rattle.spec.specs.Model.{max_items};
 ghost use Rattle.history.specs.Observations.{item_count};
-ghost use Rattle.changes.specs.Changes.{change_for, is_full};
+ghost use Rattle.changes.specs.Changes.{change_for, changed, is_full};
 ghost use Rattle.rows.specs.Rows.{items_ok};
 ghost use Rattle.picks.specs.Pass.{stepped_eight, Part, Passed};
 ghost use Rattle.picks.specs.Picks.{block, listed, Gathered, Pick, pick_marks, pick_ok};
@@ -21,23 +21,24 @@ use rows::Run;
 use snapshot_rows::FIRST_PLACE;
 use spec::ITEM_SLOTS;
 
-// Numbers of the ring that are looked through at a time. A pick is a byte below BLOCK, which itself ends the picks:
-// with a count in its place the compiler computes it twice an entry, and a full ring took 170 µs for 133.
-pub const BLOCK: u64 = 255;
+// Numbers of the ring that are looked through at a time. A pick is below BLOCK, which itself ends the picks: with a
+// count in its place the compiler computes it twice an entry, and a full ring took 170 µs for 133. A pick has 32 bits,
+// since some processors store a byte three times as slowly; the array has the stack that it may take.
+pub const BLOCK: u64 = 191;
 
 // Room for a block's picks and their end.
 pub const PICK_SLOTS: usize = BLOCK as usize + 1;
 
-// A block of numbers to the newest places; those of condition items to the picks, by their distance from its first.
-// None where an item isn't the model's. No branch is told by the item, which no predictor could tell.
+// A block of numbers to the newest places; those of condition items to the picks, by their distance from its first:
+// how many; None where an item isn't the model's. No branch is told by the item, which no predictor could tell.
 fn gather(
     st: &Store<'_>,
     steps: u64,
     f: u64,
     run: Run,
-    seen: &mut [u64; ITEM_SLOTS],
-    picks: &mut [u8; PICK_SLOTS],
-) -> Option<()>
+    seen: &mut [u32; ITEM_SLOTS],
+    picks: &mut [u32; PICK_SLOTS],
+) -> Option<u64>
     requires part { Part st.now f run }
     requires short { run.to - run.from ≤ block }
     ensures value { is_some result ≡ items_ok (item_count st.now) st.now run.from run.to }
@@ -55,13 +56,24 @@ fn gather(
         if m <= i {
             return None;
         }
-        seen[i as usize] = begin + far as u64;
-        // below BLOCK
-        picks[count as usize] = far as u8;
+        // both fit: a ring has at most 2^17 numbers, a block at most BLOCK
+        seen[i as usize] = (begin + far as u64) as u32;
+        picks[count as usize] = far as u32;
         count += u64::from(selection::has(steps, i));
     }
-    picks[count as usize] = BLOCK as u8;
-    Some(())
+    picks[count as usize] = BLOCK as u32;
+    Some(count)
+}
+
+// Any change of an item's marks, by its packed word, mark being its own. Out of line, as step_picks is: else the loop
+// over the picks has too few registers.
+#[inline(never)]
+fn change_marks(marks: &mut [u64; spec::ENTRY_SLOTS], i: u64, word: u64, mark: u64)
+    requires { i < max_items }
+    ensures { marks.new ≡ changed 0 (change_for i marks.old word) mark marks.old }
+{
+    let change = changes::change_for(marks, i, word);
+    eights::apply(marks, change, mark);
 }
 
 // A ring entry of condition item i, by its packed word and its place, to the item's marks; None where it would be a
@@ -72,24 +84,24 @@ fn step_item(i: u64, place: u64, word: u64, marks: &mut [u64; spec::ENTRY_SLOTS]
     ensures marks_after { is_some result ≡ true → marks.new ≡ stepped_eight i place word marks.old }
 {
     let key = marks::key_of(i, word);
-    let mark = marks::mark_of(place, key);
     if key != 0 && marks::key_in(marks[0]) != 0 {
-        return eights::raise(marks, key, mark);
+        return eights::raise(marks, key, marks::mark_of(place, key));
     }
-    let change = changes::change_for(marks, i, word);
-    eights::apply(marks, change, mark);
+    change_marks(marks, i, word, marks::mark_of(place, key));
     Some(())
 }
 
 // The picks of a block to the marks; None where one would be a ninth.
+#[inline(never)]
 fn step_picks(
     st: &Store<'_>,
     f: u64,
     run: Run,
-    picks: &[u8; PICK_SLOTS],
+    picks: &[u32; PICK_SLOTS],
     marks: &mut Marks,
 ) -> Option<()>
-    requires f_le_from { (f ≤ run.from) × (length (listed picks.now) < length picks.now) }
+    requires part { Part st.now f run }
+    requires ended { length (listed picks.now) < length picks.now }
     requires each { AllByRecursion (Pick (item_count st.now) st.now f run) (listed picks.now) }
     ensures value { is_some result ≡ pick_ok st.now f run.from (listed picks.now) marks.old }
     ensures marks_after { is_some result ≡ true →
@@ -97,6 +109,7 @@ fn step_picks(
 {
     let words = st.slice();
     let n = st.ring_size();
+    let begin = run.from - f + FIRST_PLACE;
     for &pick in picks {
         let far = u64::from(pick);
         // no take_while: it would want a map before it and this test in a closure
@@ -104,28 +117,30 @@ fn step_picks(
             break;
         }
         let word = observations::ring_word(words, n, run.place + far);
-        let place = run.from - f + far + FIRST_PLACE;
+        let place = begin + far;
         let i = value::item_of(word);
         step_item(i, place, word, &mut marks[i as usize])?;
     }
     Some(())
 }
 
-// A block of numbers to the newest places and the marks; None where they don't pass.
+// A block of numbers to the newest places and the marks: how many are condition items'; None where they don't pass. No
+// clause says how many, since only the pass's speed rests on it.
 pub fn step_block(
     st: &Store<'_>,
     steps: u64,
     f: u64,
     run: Run,
-    seen: &mut [u64; ITEM_SLOTS],
-    picks: &mut [u8; PICK_SLOTS],
+    seen: &mut [u32; ITEM_SLOTS],
+    picks: &mut [u32; PICK_SLOTS],
     marks: &mut Marks,
-) -> Option<()>
+) -> Option<u64>
     requires part { Part st.now f run }
     requires short { run.to - run.from ≤ block }
     ensures { let st = st.entry.now in
         Passed steps (item_count st) st f run.from run.to marks.old marks.new seen.old seen.new (is_some result) }
 {
-    gather(st, steps, f, run, seen, picks)?;
-    step_picks(st, f, run, picks, marks)
+    let picked = gather(st, steps, f, run, seen, picks)?;
+    step_picks(st, f, run, picks, marks)?;
+    Some(picked)
 }

@@ -73,14 +73,14 @@ fn plain_place(st: &Store<'_>, i: u64, seen: u64) -> u64
 }
 
 // The marks of the selected items that are not in `steps`, by their newest places.
-fn settle(st: &Store<'_>, selection: u64, steps: u64, seen: &[u64; ITEM_SLOTS], marks: &mut Marks)
+fn settle(st: &Store<'_>, selection: u64, steps: u64, seen: &[u32; ITEM_SLOTS], marks: &mut Marks)
     requires { (i : ℕ) → get_or seen.now i 0 + 1 < 2 ^ 31 }
     ensures { marks.new
         ≡ settled selection steps (item_count st.now) st.now seen.now (item_count st.now) 0 marks.old }
 {
     for i in 0..st.items() {
         if selection::has(selection, i) && !selection::has(steps, i) {
-            let place = plain_place(st, i, seen[i as usize]);
+            let place = plain_place(st, i, u64::from(seen[i as usize]));
             marks[i as usize][0] = marks::mark_of(place, 0);
         }
     }
@@ -101,7 +101,7 @@ pub fn hold(source: Modelled<'_>, selection: u64, f: u64, e: u64, marks: &mut Ma
     let st = source.store;
     // behind it the head is known
     let _ = st.slice();
-    let mut seen = [0u64; ITEM_SLOTS];
+    let mut seen = [0u32; ITEM_SLOTS];
     let steps = steps_of(source.model, selection);
     begin(st, steps, marks)?;
     passes::pass(st, steps, f, e, &mut seen, marks)?;

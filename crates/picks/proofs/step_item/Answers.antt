@@ -1,5 +1,6 @@
 -- Each way out is one way through the definition.
 use Rattle.picks.proofs.Eights.{raise-fits, raise-step, first_fits, idle-fits, change-step}
+use mathlib.Core.Path.{refl}
 use Rattle.picks.proofs.step_item.Goals as goal
 use Rattle.picks.proofs.step_item.Goals.{else-key-ne0-via-then-key-ne0+else-key_in-ne0, else-key-ne0-via-else-key-ne0}
 
@@ -12,7 +13,7 @@ returns-then-key_in-ne0 c =
       value = raise-fits z.i z.place z.word z.marks.now key c.if-key-ne0.true first c.if-key_in-ne0.true
           c.raise.ensures.value;
       marks_after = λ t. raise-step z.i z.place z.word z.marks.now key c.if-key-ne0.true first c.if-key_in-ne0.true
-          c.mark_of-mark.ensures (c.raise.ensures.marks_after t);
+          c.mark_of.ensures (c.raise.ensures.marks_after t);
     }
 
 pub returns : goal.returns
@@ -25,6 +26,5 @@ returns c =
             first_fits z.i z.place z.word z.marks.now w.key_in.ensures.0 w.if-key_in-ne0.false
         | else-key-ne0-via-else-key-ne0 w ↦ idle-fits z.i z.place z.word z.marks.now key w.if-key-ne0.false
       ];
-      marks_after = λ t. change-step z.i z.place z.word z.marks.now c.change_for-change.ensures.value
-          c.mark_of-mark.ensures key c.apply.ensures;
+      marks_after = λ t. change-step z.i z.place z.word z.marks.now refl c.mark_of-2.ensures key c.change_marks.ensures;
     }

@@ -9,7 +9,7 @@ use Rattle.picks.proofs.step_picks.Goals as goal
 
 pub loop-pick-init : goal.loop-pick-init
 loop-pick-init c =
-    stepping-start _ _ _ _ _ _ c.requires.f_le_from.1 c.requires.each
+    stepping-start _ _ _ _ _ _ c.requires.ended c.requires.each
 
 pub overflow_add-run : goal.overflow_add-run
 overflow_add-run c =
@@ -21,15 +21,15 @@ ring_word-word-requires c =
     let w = stepping-pick c.loop-pick.invariant c.from-far.ensures c.if-far-eq-BLOCK.false in
     (omega (arith, w.inside), omega (arith, c.slice-words.ensures.head.head.len, ap length c.slice-words.ensures.value))
 
+pub overflow_add-begin : goal.overflow_add-begin
+overflow_add-begin c =
+    let p = c.requires.part in
+    omega (arith, p.ordered, p.near, p.from, c.slice-words.ensures.head.head.n_max)
+
 pub overflow_add-place : goal.overflow_add-place
 overflow_add-place c =
     let w = stepping-pick c.loop-pick.invariant c.from-far.ensures c.if-far-eq-BLOCK.false in
-    omega (arith, w.near, c.slice-words.ensures.head.head.n_max, c.requires.f_le_from.0)
-
-pub overflow_add-place-in-loop-pick : goal.overflow_add-place-in-loop-pick
-overflow_add-place-in-loop-pick c =
-    let w = stepping-pick c.loop-pick.invariant c.from-far.ensures c.if-far-eq-BLOCK.false in
-    omega (arith, w.near, c.slice-words.ensures.head.head.n_max, c.requires.f_le_from.0)
+    omega (arith, w.near, c.slice-words.ensures.head.head.n_max, c.requires.part.from)
 
 pub step_item-requires : goal.step_item-requires
 step_item-requires c =
@@ -39,7 +39,7 @@ step_item-requires c =
     stepping-item v c.from-far.ensures c.if-far-eq-BLOCK.false c.ring_size-n.ensures.is (rw c.slice-words.ensures.value at c.ring_word-word.ensures)
     c.item_of-i.ensures in (
       omega (arith, i, c.slice-words.ensures.head.few),
-      omega (arith, w.near, c.slice-words.ensures.head.head.n_max, c.requires.f_le_from.0),
+      omega (arith, w.near, c.slice-words.ensures.head.head.n_max, c.requires.part.from),
     )
 
 pub bounds-marks-i : goal.bounds-marks-i
@@ -61,7 +61,8 @@ pub loop-pick-preserved : goal.loop-pick-preserved
 loop-pick-preserved c =
     let y = ap is_some c.in_ok-step_item.was in
     stepping-more c.loop-pick.invariant c.from-far.ensures c.if-far-eq-BLOCK.false c.ring_size-n.ensures.is
-    (rw c.slice-words.ensures.value at c.ring_word-word.ensures) c.item_of-i.ensures c.step_item.ensures.value y (omega (arith, c.requires.f_le_from.0))
+    (rw c.slice-words.ensures.value at c.ring_word-word.ensures) c.item_of-i.ensures c.step_item.ensures.value y
+    (omega (arith, c.requires.part.from))
     (c.step_item.ensures.marks_after y)
 
 pub returns-then-far-eq-BLOCK : goal.returns-then-far-eq-BLOCK

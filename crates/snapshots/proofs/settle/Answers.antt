@@ -31,7 +31,7 @@ loop-i-preserved c =
       | then-has+then-not-has w ↦
           rw w.marks-is
           (settling-more v h (rw (told c.has.ensures w.if-has.true, told w.has-then-has.ensures w.if-not-has.true)) refl
-          w.plain_place-place.ensures.0 w.mark_of.ensures)
+          (rw w.from.ensures at w.plain_place-place.ensures.0) w.mark_of.ensures)
       | else-has w ↦
           rw w.marks-is
           (settling-skip v h
