@@ -23,7 +23,7 @@
  *   damage. Latest and checkpoint words, kinds, levels and times are taken as they stand. A caller that
  *   restores stores keeps a checksum of its own.
  * - The same model and names go with the same stores, from mtcore_start on.
- * - The deepest call writes less than 5,800 bytes of stack.
+ * - The deepest call writes less than 6,100 bytes of stack.
  *
  * Times are milliseconds since 1970-01-01T00:00:00Z. docs/HOST.md says what each request means, with replies, how
  * much flash, memory, stack and time it takes, and what a host does about each refusal; docs/LIMITS.md what of
