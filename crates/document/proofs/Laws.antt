@@ -1,22 +1,29 @@
 -- A document's pieces one behind the other, as the code puts them.
-use Prim.Native.Nat.{ℕ}
+use Prim.Native.Nat.{ℕ, ◌≤◌}
 use mathlib.Core.Path.{◌≡◌, refl, sym, ap, ◌∙◌, subst}
 use mathlib.Core.Logic.{◌≢◌}
+use mathlib.Core.Bool.{true}
 use mathlib.Core.List.{List, [], ◌∷◌, ◌++◌, append_assoc, map}
 use native.Mathlib.Omega.{arith}
+use borrow.Author.Tests.{leb-true}
 use contract.BorrowLft.{◌⊑◌, ⊑_meet, ⊑_static}
+use lib.Dec.{leb}
 use lib.ListN.{length, get_or, length-map}
 use Rattle.std.proofs.lemmas.List.{nil_from_length}
 use Rattle.spec.specs.Bytes.{bytes, decimal}
+use Rattle.spec.specs.Model.{components}
 use Rattle.spec.specs.Reply.{rows_of}
 use Rattle.lines.specs.Stamps.{stamp_text}
 use Rattle.streams.specs.Streams.{Row, row_in, tag, empty_tag, header_tag, device_tag, components_lines, streams_lines}
-use Rattle.streams.specs.Streams.{document_lines, ended, document}
+use Rattle.streams.specs.Streams.{document_lines, ended, document, streams_bytes}
 use Rattle.streams.proofs.Rows.{rows-length}
 use Rattle.streams.proofs.Pieces.{ended-append}
+use Rattle.streams.proofs.Short.{document-short}
 use Rattle.writer.specs.declared.Output.{Output}
 use Rattle.writer.specs.Puts.{Put}
-use Rattle.document.specs.Header.{start_lines, given_part, numbers_part}
+use Rattle.row_groups.specs.Groups.{Source, Documented}
+use Rattle.document.specs.declared.Header.{Header}
+use Rattle.document.specs.Header.{start_lines, given_part, numbers_part, document_of}
 
 -- another name of the text that is put
 pub put_is : {o e : Output} {s t : List ℕ} → s ≡ t → Put o s e → Put o t e
@@ -110,3 +117,10 @@ document-text model names reply N instance creation =
     whole h (ended ls)
     ∙ ap (λ (x : List ℕ). ended start_lines ++ (empty_tag h ++ 10 ∷ x))
     (sym (ended-append ls (bytes "</MTConnectStreams>" ∷ [])))
+
+-- what is enough for any document of these components and rows is enough for this one
+pub enough : (d : Source) (h : Header) (n : ℕ) → Documented d.model d.names d.reply
+    → leb (streams_bytes (components d.model) (get_or d.reply 0 0)) n ≡ true → length (document_of d h) ≤ n
+enough d h n k e =
+    let m = leb-true (streams_bytes (components d.model) (get_or d.reply 0 0)) n e in
+    omega (arith, document-short d.model d.names d.reply h.buffer_size h.instance h.creation k.checked k.accepted)

@@ -13,7 +13,7 @@ use components_text::{put_components, put_device};
 use reply_rows::Reply;
 use row_groups::Document;
 use spec::Answer;
-use writer::{Output, write_whole};
+use writer::{Output, write_fitting, write_whole};
 
 // What the header says that no reply does: the ring's size, the host's instance, and the document's own time.
 #[derive(Clone, Copy)]
@@ -85,10 +85,15 @@ fn put_document(d: &Document<'_>, h: &Header, out: &mut Output)
     out.put_bytes(b"</MTConnectStreams>\n");
 }
 
-// The document, or nothing where the text is too short for it. The first pass, over no bytes, gives the length.
+// The document, or nothing where the text is too short for it. Its length is counted only where the text may be too
+// short: that takes a pass of its own, over no bytes.
 pub fn write_document(d: &Document<'_>, h: &Header, text: &mut [u8]) -> Answer
     ensures text_after { text.new ≡ text_after (document_of d.now h.now) text.old }
     ensures value { result ≡ bytes_of (document_of d.now h.now) text.old }
 {
-    write_whole(text, |out| put_document(d, h, out))
+    if d.has_room(text.len()) {
+        write_fitting(text, |out| put_document(d, h, out))
+    } else {
+        write_whole(text, |out| put_document(d, h, out))
+    }
 }

@@ -1,15 +1,15 @@
 // A component's rows in a document, group by group.
 #![tactic(auto)]
 
-ghost use Rattle.std.specs.Prelude.{true, false, [], ◌∷◌, ◌++◌, ◌≡◌, ◌<◌, get_or, MatchResult};
+ghost use Rattle.std.specs.Prelude.{true, false, [], ◌∷◌, ◌++◌, ◌≡◌, ◌<◌, ◌^◌, get_or, leb, MatchResult};
 ghost use Rattle.spec.specs.declared.Refusal.TheVariants.{Store as Refused};
-ghost use Rattle.spec.specs.Model.{items, item_word, component_of, category_of};
+ghost use Rattle.spec.specs.Model.{components, items, item_word, component_of, category_of};
 ghost use Rattle.spec.specs.Reply.{rows_of};
 ghost use Rattle.streams.specs.Groups.{group_number};
-ghost use Rattle.streams.specs.Streams.{row_in, reply_ok, group_of, each, groups, group_name, group_lines, ended};
+ghost use Rattle.streams.specs.Streams.{row_in, reply_ok, group_of, each, groups, group_name, group_lines, ended, streams_bytes};
 ghost use Rattle.writer.specs.Puts.{Put};
 ghost use Rattle.row_groups.specs.Groups.{reply_rows, kept, kept_text, filled, any_kept, any_marked};
-ghost use Rattle.row_groups.specs.Groups.{Marked, Placed};
+ghost use Rattle.row_groups.specs.Groups.{Documented, Marked, Placed};
 
 use model::{Named, Words};
 use reply_rows::{Reply, group_of};
@@ -20,6 +20,13 @@ use streams::{GROUPS, Group};
 use writer::Output;
 
 const COMPONENT_SLOTS: usize = spec::MAX_COMPONENTS as usize;
+
+// The most bytes of a document: what every one has, what each component adds, and what each row does.
+const AROUND: usize = 495;
+
+const COMPONENT_BYTES: usize = 189;
+
+const ROW_BYTES: usize = 154;
 
 // For each group of each component whether it has rows.
 pub type Present = [[bool; GROUPS]; COMPONENT_SLOTS];
@@ -153,6 +160,19 @@ impl<'a> Document<'a> {
         ensures { result ≡ any_kept self.now.model c (reply_rows self.now.reply) }
     {
         has_rows(&self.present, c)
+    }
+
+    // Whether so many bytes are enough for any document of these components and rows.
+    pub fn has_room(&self, room: usize) -> bool
+        requires { room < 2 ^ 63 }
+        ensures value { result ≡ leb (streams_bytes (components self.now.model) (get_or self.now.reply 0 0)) room }
+        ensures documented { Documented self.now.model self.now.names self.now.reply }
+    {
+        let around = AROUND + COMPONENT_BYTES * (self.model.words.components() as usize);
+        ROW_BYTES
+            .saturating_mul(self.reply.rows())
+            .saturating_add(around)
+            <= room
     }
 
     // Row i's line, if its item is of component c and group g.

@@ -251,7 +251,7 @@ unfolding reply_ok
 packed-rows model reply h = and_right (words_ok reply) _ h
 
 module _ (model names : List ℕ) (c : Checked model names) where
-  row-item : (word : ℕ) → packed_ok model word ≡ true → item_of word < items model
+  pub row-item : (word : ℕ) → packed_ok model word ≡ true → item_of word < items model
   unfolding packed_ok
   row-item word p = ltb-true (item_of word) (items model) (and_left (ltb (item_of word) (items model)) _ p)
 
@@ -282,7 +282,7 @@ module _ (model names : List ℕ) (c : Checked model names) where
         good-rows k (drop 1 ns) (drop 2 ps) (held-drop 1 ns n) p'.1 t'.1,
       )
 
-  placed-rows : (rs : List (List ℕ)) → all_rows (λ r. packed_ok model (get_or r 2 0)) rs ≡ true
+  pub placed-rows : (rs : List (List ℕ)) → all_rows (λ r. packed_ok model (get_or r 2 0)) rs ≡ true
       → Holds (λ r. row_component model r < components model) (map row_in rs)
   unfolding all_rows
   placed-rows [] p = tt

@@ -1,8 +1,8 @@
--- How long a document can be: of an accepted call at most `streams_bytes` of the model's components and the reply's
--- rows.
+-- How long a document can be: of a checked model and a reply of its rows at most `streams_bytes` of the model's components
+-- and the reply's rows, whatever the times and the header's numbers are.
 use Prim.Native.Nat.{ℕ, zero, suc, ◌+◌, ◌*◌, ◌/◌, ◌%◌, ◌^◌, ◌≤◌, ◌<◌}
 use mathlib.Core.Path.{◌≡◌, refl, sym, ap, ◌∙◌}
-use mathlib.Core.Bool.{true, true≢false}
+use mathlib.Core.Bool.{true, true≢false, and-eq-true_iff}
 use mathlib.Core.List.{List, [], ◌∷◌, ◌++◌, map, Permᴰ}
 use native.Mathlib.Omega.{arith}
 use lib.Dec.{ltb, eqb}
@@ -12,21 +12,22 @@ use Rattle.std.proofs.lemmas.List.{length-map}
 use Rattle.std.specs.List.{AllByRecursion as Holds}
 use borrow.Author.Tests.{ltb-true, ne_eqb}
 use Rattle.spec.specs.Bytes.{bytes, digit, digits, decimal, split, join_first}
-use Rattle.spec.specs.Value.{takes, Fits, FitsSample}
+use Rattle.spec.specs.Value.{item_of, takes, Fits, FitsSample}
 use Rattle.spec.specs.Model.{components, name_text, name_bytes, component_word, component_name}
-use Rattle.spec.specs.Model.{item_word, item_name}
+use Rattle.spec.specs.Model.{item_word, item_name, max_items, items, category, Checked}
 use Rattle.spec.specs.Reply.{rows_of}
 use Rattle.spec.specs.declared.Level.TheVariants.{Normal, Warning, Fault}
 use Rattle.spec.specs.declared.Value.{Value}
 use Rattle.spec.specs.declared.Value.TheVariants.{Unavailable, Sample, Event, Condition}
-use Rattle.spec.proofs.Words.{by_cond}
+use Rattle.spec.proofs.Words.{by_cond, and_right}
 use Rattle.spec.proofs.Elements.{each-imp}
 use Rattle.spec.proofs.Digits.{decimal-spells}
-use Rattle.spec.proofs.Model.{checked}
+use Rattle.spec.proofs.Packing.{decode-fits}
 use Rattle.lines.specs.Stamps.{date_of}
 use Rattle.lines.specs.Lines.{part_text, point_text, unsigned_text, sample_text, value_text}
 use Rattle.lines.proofs.Digits.{fixed-length}
 use Rattle.lines.proofs.Stamps.{text-length}
+use Rattle.streams.specs.Streams.{packed_ok, all_rows, reply_ok}
 use Rattle.streams.specs.Streams.{Row, row_in, each, having, groups, row_group, row_component, by_group, sorted}
 use Rattle.streams.specs.Streams.{capital, capitals, lettered, element_name, tag, end_tag}
 use Rattle.streams.specs.Streams.{row_attributes, text_line, state_name, native_code, condition_line, row_line}
@@ -35,9 +36,8 @@ use Rattle.streams.specs.Streams.{component_tag, component_lines, device_tag, co
 use Rattle.streams.specs.Streams.{header_tag, document_lines, ended, document, streams_bytes}
 use Rattle.streams.proofs.Rows.{rows-length}
 use Rattle.streams.proofs.Pieces.{ended-append}
-use Rattle.streams.proofs.Sorted.{holds-having}
-use Rattle.streams.proofs.Reading.{Good}
-use Rattle.streams.proofs.Document.{GoodRow, Accepted, rows-good, rows-once}
+use Rattle.streams.proofs.Sorted.{holds-having, sorted-once}
+use Rattle.streams.proofs.Document.{word-taken, packed-rows, row-item, placed-rows}
 
 -- ---- texts
 
@@ -119,6 +119,36 @@ value-length g (Condition k c) l h f = absurd (true≢false (sym h ∙ rw (ne_eq
 
 -- ---- lines
 
+-- what of a row its line's length rests on
+record Sized (g : ℕ) (r : Row) : Type 0 where
+  pub item_ok_lem : r.item < max_items
+  pub taken : takes g r.value ≡ true
+  pub fits : Fits r.value
+
+abbrev SizedRow : List ℕ → Row → Type 0
+SizedRow model r = Sized (row_group model r) r
+
+module _ (model names : List ℕ) (c : Checked model names) where
+  sized-row : (r : List ℕ) → packed_ok model (get_or r 2 0) ≡ true → SizedRow model (row_in r)
+  unfolding packed_ok
+  sized-row r p =
+      let word = get_or r 2 0 in
+      let l = row-item model names c word p in
+      record {
+        item_ok_lem = omega (arith, c.sizes.m_max);
+        taken = word-taken (category model (item_of word)) (word % 2 ^ 40)
+            (and_right (ltb (item_of word) (items model)) _ p);
+        fits = decode-fits (word % 2 ^ 40);
+      }
+
+  sized-rows : (rs : List (List ℕ)) → all_rows (λ r. packed_ok model (get_or r 2 0)) rs ≡ true
+      → Holds (SizedRow model) (map row_in rs)
+  unfolding all_rows
+  sized-rows [] p = tt
+  sized-rows (r ∷ rs) p =
+      let p' = (and-eq-true_iff (packed_ok model (get_or r 2 0)) _).0 p in
+      (sized-row r p'.0, sized-rows rs p'.1)
+
 tag-length : (t : List ℕ) → length (tag t) ≡ length t + 2
 tag-length t = simp length-append (omega arith)
 
@@ -133,7 +163,7 @@ attributes-length r h =
       text-length (date_of r.time),
     ))
 
-text-line-length : (g : ℕ) (element : List ℕ) (r : Row) → g < 2 → length element ≤ 25 → Good g r
+text-line-length : (g : ℕ) (element : List ℕ) (r : Row) → g < 2 → length element ≤ 25 → Sized g r
     → length (text_line element r) ≤ 153
 unfolding text_line
 text-line-length g element r l e h =
@@ -152,14 +182,14 @@ state-length (Condition Warning c) h =
 state-length (Condition Fault c) h =
     simp length-append (omega (arith, few 7 c (omega arith) (omega (arith, ltb-true c (2 ^ 24) h))))
 
-condition-length : (type : List ℕ) (r : Row) → length type ≤ name_bytes → Good 2 r
+condition-length : (type : List ℕ) (r : Row) → length type ≤ name_bytes → Sized 2 r
     → length (condition_line type r) ≤ 153
 unfolding condition_line
 condition-length type r e h =
     simp length-append
     (omega (arith, attributes-length r h.item_ok_lem, state-length r.value h.taken))
 
-row-length : (g : ℕ) (type : List ℕ) (r : Row) → g < groups → length type ≤ name_bytes → Good g r
+row-length : (g : ℕ) (type : List ℕ) (r : Row) → g < groups → length type ≤ name_bytes → Sized g r
     → length (row_line g type r) ≤ 153
 row-length zero type r l e h =
     text-line-length 0 (element_name type) r (omega arith) (omega (arith, element-length type)) h
@@ -227,7 +257,7 @@ module _ (model names : List ℕ) where
   component-name : (i : ℕ) → length (component_type model names i) ≤ name_bytes
   component-name i = name-length names (component_name (component_word model i))
 
-  rows-size : (g : ℕ) → g < groups → (rows : List Row) → Holds (Good g) rows
+  rows-size : (g : ℕ) → g < groups → (rows : List Row) → Holds (Sized g) rows
       → size (row_lines model names g rows) ≤ 154 * length rows
   unfolding row_lines ended
   rows-size g l [] h = omega arith
@@ -240,7 +270,7 @@ module _ (model names : List ℕ) where
   group_bytes : ℕ → ℕ
   group_bytes g = length (group_name g) + length (group_name g) + 7
 
-  group-size : (g : ℕ) → g < groups → (rows : List Row) → Holds (Good g) rows
+  group-size : (g : ℕ) → g < groups → (rows : List Row) → Holds (Sized g) rows
       → size (group_lines model names g rows) ≤ group_bytes g + 154 * length rows
   unfolding group_lines group_bytes
   group-size g l rows h =
@@ -259,7 +289,7 @@ module _ (model names : List ℕ) where
       simp length-append
       (omega (arith, component-name i, few 1 i (omega arith) (omega arith)))
 
-  component-size : (i : ℕ) (rows : List Row) → i < 64 → Holds (GoodRow model) rows
+  component-size : (i : ℕ) (rows : List Row) → i < 64 → Holds (SizedRow model) rows
       → size (component_lines model names i rows) ≤ 189 + 154 * length (by_group model rows)
   unfolding component_lines total group_bytes
   component-size i rows l h =
@@ -273,10 +303,10 @@ module _ (model names : List ℕ) where
         component-tag i l,
         each-size group_bytes (λ g. group_lines model names g (own g)) own groups 0
             (λ g a b. group-size g (omega arith) (own g)
-            (each-imp (λ r p. rw p.1 at p.0) (own g) (holds-having (GoodRow model) (row_group model) g rows h))),
+            (each-imp (λ r p. rw p.1 at p.0) (own g) (holds-having (SizedRow model) (row_group model) g rows h))),
       )
 
-  components-size : (rows : List Row) → components model ≤ 64 → Holds (GoodRow model) rows
+  components-size : (rows : List Row) → components model ≤ 64 → Holds (SizedRow model) rows
       → size (components_lines model names rows) ≤ 189 * components model + 154 * length (sorted model rows)
   unfolding components_lines sorted
   components-size rows l h =
@@ -285,9 +315,9 @@ module _ (model names : List ℕ) where
       at (each-size (λ c. 189) (λ c. component_lines model names c (own c)) (λ c. by_group model (own c))
       (components model) 0
       (λ c a b. component-size c (own c) (omega arith)
-      (each-imp (λ r p. p.0) (own c) (holds-having (GoodRow model) (row_component model) c rows h))))
+      (each-imp (λ r p. p.0) (own c) (holds-having (SizedRow model) (row_component model) c rows h))))
 
-  streams-size : (rows : List Row) → components model ≤ 64 → Holds (GoodRow model) rows
+  streams-size : (rows : List Row) → components model ≤ 64 → Holds (SizedRow model) rows
       → size (streams_lines model names rows)
       ≤ 116 + 189 * components model + 154 * length (sorted model rows)
   unfolding streams_lines ended device_tag
@@ -297,7 +327,7 @@ module _ (model names : List ℕ) where
       (omega (arith, component-name 0, components-size (r ∷ rows) l h))
 
   document-size : (reply : List ℕ) (N instance creation : ℕ) → components model ≤ 64
-      → Holds (GoodRow model) (map row_in (rows_of reply))
+      → Holds (SizedRow model) (map row_in (rows_of reply))
       → size (document_lines model names reply N instance creation)
       ≤ streams_bytes (components model) (length (sorted model (map row_in (rows_of reply))))
   unfolding document_lines ended header_tag
@@ -314,16 +344,17 @@ module _ (model names : List ℕ) where
         streams-size (map row_in (rows_of reply)) l h,
       ))
 
-pub document-short : (model names reply : List ℕ) (N instance creation : ℕ)
-    → Accepted model names reply N instance creation
+pub document-short : (model names reply : List ℕ) (N instance creation : ℕ) → Checked model names
+    → reply_ok model reply ≡ true
     → length (document model names reply N instance creation) ≤ streams_bytes (components model) (get_or reply 0 0)
 unfolding document
-document-short model names reply N instance creation h =
+document-short model names reply N instance creation c h =
     let rows = map row_in (rows_of reply) in
+    let packed = packed-rows model reply h in
     let e : length (sorted model rows) ≡ get_or reply 0 0 =
-    perm-length (rows-once model names reply N instance creation h)
+    perm-length (sorted-once model rows (placed-rows model names c (rows_of reply) packed))
     ∙ length-map (rows_of reply) row_in
     ∙ rows-length reply in
     rw e
-    at (document-size model names reply N instance creation (checked model names h.model-ok).sizes.c_max
-    (rows-good model names reply N instance creation h))
+    at (document-size model names reply N instance creation c.sizes.c_max
+    (sized-rows model names c (rows_of reply) packed))

@@ -23,13 +23,16 @@ module _ (s buffer : List ℕ) {n : ℕ} (e : n ≡ onward 0 (length s)) (r : le
   unfolding text_after bytes_of
   too_short h = let f = lt-leb (length s) (length buffer) (omega arith) in (rw f, rw f)
 
-  pub fitting : n ≤ length buffer → {a b : Output} → a.bytes.now ≡ buffer → a.at ≡ 0 → Put a s b
-      → (b.bytes.now ≡ text_after s buffer) × (Ok b.at ≡ bytes_of s buffer)
-  unfolding text_after bytes_of
-  fitting h {a} {b} w z q =
-      let f = le-leb (length s) (length buffer) (omega arith) in
-      let m : b.at ≡ length s = omega (arith, q.place) in
-      (rw f (rw (w, z) at q.stands), rw (f, m))
+  pub has_room : n ≤ length buffer → length s ≤ length buffer
+  has_room h = omega arith
+
+pub fitting : (s buffer : List ℕ) → length s ≤ length buffer → length buffer < stop → {a b : Output}
+    → a.bytes.now ≡ buffer → a.at ≡ 0 → Put a s b → (b.bytes.now ≡ text_after s buffer) × (Ok b.at ≡ bytes_of s buffer)
+unfolding text_after bytes_of
+fitting s buffer h r {a} {b} w z q =
+    let f = le-leb (length s) (length buffer) h in
+    let m : b.at ≡ length s = omega (arith, q.place) in
+    (rw f (rw (w, z) at q.stands), rw (f, m))
 
 -- what a call says of it
 pub written_is : (s buffer : List ℕ) {r : Answer} {out : List ℕ}

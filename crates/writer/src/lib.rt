@@ -61,20 +61,31 @@ impl<'a> Output<'a> {
         self.put_bytes(&[b]);
     }
 
-    // The bytes of s, as far as the buffer reaches. What fits has a copy of its own: most texts are constants, and by
-    // one copy of the lesser length a row of a document takes 1.6 times as long. No get_mut: what it lends ends as
-    // nothing known.
+    // The bytes of s, as far as the buffer reaches. What fits has a copy of its own, and the rest stands out of line: most
+    // texts are constants, and by one copy of the lesser length a row of a document takes 1.6 times as long. No get_mut:
+    // what it lends ends as nothing known.
+    #[inline]
     pub fn put_bytes(&mut self, s: &[u8])
+        ensures { Put self.old s.now self.new }
+    {
+        if self.at < self.bytes.len() && s.len() <= self.bytes.len() - self.at {
+            let end = self.at + s.len();
+            self.bytes[self.at..end].copy_from_slice(s);
+            self.at = end;
+        } else {
+            self.put_cut(s);
+        }
+    }
+
+    // The same, where the buffer ends within s or before it.
+    #[cold]
+    #[inline(never)]
+    fn put_cut(&mut self, s: &[u8])
+        requires { length self.now.bytes.now ≤ self.now.at + length s.now }
         ensures { Put self.old s.now self.new }
     {
         if self.at < self.bytes.len() {
             let room = self.bytes.len() - self.at;
-            if s.len() <= room {
-                let end = self.at + s.len();
-                self.bytes[self.at..end].copy_from_slice(s);
-                self.at = end;
-                return;
-            }
             self.bytes[self.at..].copy_from_slice(&s[..room]);
         }
         self.at = onward(self.at, s.len());
@@ -127,7 +138,21 @@ fn length_of<F: Fn(&mut Output)>(put: &F) -> usize
     out.len()
 }
 
-// What `put` puts, whole or not at all.
+// What `put` puts, where the text is known to have room for it.
+pub fn write_fitting<F: Fn(&mut Output)>(text: &mut [u8], put: F) -> Answer
+    ghost s: { List ℕ }
+    requires callable { F.IsAlwaysCallable put }
+    requires puts { Puts F.Fn put s }
+    requires room { length s ≤ length text.now }
+    ensures text_after { text.new ≡ text_after s text.old }
+    ensures value { result ≡ bytes_of s text.old }
+{
+    let mut out = Output::new(text);
+    put(&mut out);
+    Ok(out.len() as u64)
+}
+
+// What `put` puts, whole or not at all. A first pass, over no bytes, gives the length.
 pub fn write_whole<F: Fn(&mut Output)>(text: &mut [u8], put: F) -> Answer
     ghost s: { List ℕ }
     requires callable { F.IsAlwaysCallable put }
@@ -135,11 +160,8 @@ pub fn write_whole<F: Fn(&mut Output)>(text: &mut [u8], put: F) -> Answer
     ensures text_after { text.new ≡ text_after s text.old }
     ensures value { result ≡ bytes_of s text.old }
 {
-    let length = length_of(&put);
-    if text.len() < length {
+    if text.len() < length_of(&put) {
         return Err(Refusal::Space);
     }
-    let mut out = Output::new(text);
-    put(&mut out);
-    Ok(out.len() as u64)
+    write_fitting(text, put)
 }
