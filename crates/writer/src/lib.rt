@@ -3,6 +3,7 @@
 
 ghost use Rattle.std.specs.Prelude.{ℕ, List, [], ◌∷◌, ◌≡◌, ◌+◌, ◌^◌, ◌<◌, ◌≤◌, length};
 ghost use Rattle.spec.specs.Bytes.{decimal};
+ghost use Rattle.std.proofs.lemmas.List.Edits.{sets};
 ghost use Rattle.lines.specs.Digits.{fixed};
 ghost use Rattle.writer.specs.Puts.{onward, Put};
 ghost use Rattle.writer.specs.Whole.{Puts, text_after, bytes_of};
@@ -61,34 +62,37 @@ impl<'a> Output<'a> {
         self.put_bytes(&[b]);
     }
 
-    // The bytes of s, as far as the buffer reaches. What fits has a copy of its own, and the rest stands out of line: most
-    // texts are constants, and by one copy of the lesser length a row of a document takes 1.6 times as long. No get_mut:
-    // what it lends ends as nothing known.
+    // The bytes of s, as far as the buffer reaches. What fits has a copy of its own, and what is cut stands out of line:
+    // most texts are constants, and by one copy of the lesser length a row of a document takes 1.6 times as long. No
+    // get_mut: what it lends ends as nothing known.
     #[inline]
     pub fn put_bytes(&mut self, s: &[u8])
         ensures { Put self.old s.now self.new }
     {
-        if self.at < self.bytes.len() && s.len() <= self.bytes.len() - self.at {
-            let end = self.at + s.len();
-            self.bytes[self.at..end].copy_from_slice(s);
-            self.at = end;
-        } else {
-            self.put_cut(s);
-        }
-    }
-
-    // The same, where the buffer ends within s or before it.
-    #[cold]
-    #[inline(never)]
-    fn put_cut(&mut self, s: &[u8])
-        requires { length self.now.bytes.now ≤ self.now.at + length s.now }
-        ensures { Put self.old s.now self.new }
-    {
         if self.at < self.bytes.len() {
-            let room = self.bytes.len() - self.at;
-            self.bytes[self.at..].copy_from_slice(&s[..room]);
+            if s.len() <= self.bytes.len() - self.at {
+                let end = self.at + s.len();
+                self.bytes[self.at..end].copy_from_slice(s);
+                self.at = end;
+                return;
+            }
+            self.fill_up(s);
         }
         self.at = onward(self.at, s.len());
+    }
+
+    // What there is room for of s, where the buffer ends within it. The place stays.
+    #[cold]
+    #[inline(never)]
+    fn fill_up(&mut self, s: &[u8])
+        requires before { self.now.at < length self.now.bytes.now }
+        requires within { length self.now.bytes.now ≤ self.now.at + length s.now }
+        ensures same { self.new.bytes.ghost_name ≡ self.old.bytes.ghost_name }
+        ensures at { self.new.at ≡ self.old.at }
+        ensures bytes { self.new.bytes.now ≡ sets self.old.bytes.now self.old.at s.now }
+    {
+        let room = self.bytes.len() - self.at;
+        self.bytes[self.at..].copy_from_slice(&s[..room]);
     }
 
     // The last K digits of n. A slice of the array asks for the clause: no array is known to be that short.
