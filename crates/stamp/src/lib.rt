@@ -1,9 +1,8 @@
 // The 24 bytes of a time's stamp, written.
 #![tactic(auto)]
 
-ghost use Rattle.std.specs.Prelude.{[], ◌∷◌, ◌++◌};
-ghost use Rattle.lines.specs.Digits.{fixed};
-ghost use Rattle.lines.specs.Stamps.{day_text, clock_text, date_text, stamp_text};
+ghost use Rattle.std.specs.Prelude.{◌≡◌, ◌+◌, ◌%◌};
+ghost use Rattle.lines.specs.Stamps.{date_text, stamp_text};
 ghost use Rattle.writer.specs.Puts.{Put};
 
 use calendar::date_of;
@@ -13,42 +12,43 @@ use writer::Output;
 // The last millisecond of 2099: no later time has a stamp.
 pub const MAX_TIME: u64 = 4102444799999;
 
-// Two digits and the byte behind them.
-fn put_part(out: &mut Output, n: u64, b: u8)
-    ensures { Put out.old (fixed 2 n ++ b ∷ []) out.new }
+// The last digit of n. A remainder by 10 fits a byte.
+fn digit(n: u64) -> u8
+    ensures { result ≡ 48 + n % 10 }
 {
-    out.put_fixed::<2>(n);
-    out.put_byte(b);
+    b'0' + ((n % 10) as u8)
 }
 
-// The date, up to its 'T'.
-fn put_day(out: &mut Output, d: &Date)
-    ensures { Put out.old (day_text d.now.year d.now.month d.now.day ++ 84 ∷ []) out.new }
-{
-    out.put_fixed::<4>(d.year);
-    out.put_byte(b'-');
-    put_part(out, d.month, b'-');
-    put_part(out, d.day, b'T');
-}
-
-// The time of day, with its 'Z'.
-fn put_clock(out: &mut Output, d: &Date)
-    ensures { Put out.old
-        (clock_text d.now.hour d.now.minute d.now.second d.now.milli ++ 90 ∷ []) out.new }
-{
-    put_part(out, d.hour, b':');
-    put_part(out, d.minute, b':');
-    put_part(out, d.second, b'.');
-    out.put_fixed::<3>(d.milli);
-    out.put_byte(b'Z');
-}
-
-// The 24 bytes of a date.
+// The 24 bytes of a date, made in an array of their own and put at once.
 pub fn put_date(out: &mut Output, d: Date)
     ensures { Put out.old (date_text d) out.new }
 {
-    put_day(out, &d);
-    put_clock(out, &d);
+    out.put_bytes(&[
+        digit(d.year / 1000),
+        digit(d.year / 100),
+        digit(d.year / 10),
+        digit(d.year),
+        b'-',
+        digit(d.month / 10),
+        digit(d.month),
+        b'-',
+        digit(d.day / 10),
+        digit(d.day),
+        b'T',
+        digit(d.hour / 10),
+        digit(d.hour),
+        b':',
+        digit(d.minute / 10),
+        digit(d.minute),
+        b':',
+        digit(d.second / 10),
+        digit(d.second),
+        b'.',
+        digit(d.milli / 100),
+        digit(d.milli / 10),
+        digit(d.milli),
+        b'Z',
+    ]);
 }
 
 // The 24 bytes of a time.
