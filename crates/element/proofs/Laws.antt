@@ -1,94 +1,58 @@
--- Pascal case word by word, and what begins it.
-use Prim.Native.Nat.{ℕ, ◌+◌, ◌-◌, ◌≤◌, ◌<◌}
-use mathlib.Core.Path.{◌≡◌, refl, sym, ◌∙◌}
+-- Pascal case byte by byte, and what begins it.
+use Prim.Native.Nat.{ℕ, suc, ◌+◌, ◌-◌, ◌≤◌, ◌<◌}
+use mathlib.Core.Path.{◌≡◌, refl, sym, ap, ◌∙◌}
 use mathlib.Core.Bool.{Bool, true, false, cond}
-use mathlib.Core.List.{List, [], ◌∷◌, ◌++◌, map, append_assoc, append-nil, map-append}
+use mathlib.Core.List.{List, [], ◌∷◌, ◌++◌, map, append_assoc, append-nil}
 use native.Mathlib.Numerals.{add-one}
 use native.Mathlib.Omega.{arith}
 use borrow.Author.Tests.{le-leb, lt-leb, leb-true, ltb-true, ltb-false}
 use lib.Dec.{leb, ltb, eqb}
-use lib.ListN.{length, get_or, take}
-use lib.Seq.{take-suc, take_all}
+use lib.ListN.{length, get_or, drop}
+use lib.Seq.{drop-cons}
 use Rattle.spec.specs.Bytes.{digit, split, join_first}
-use Rattle.writer.specs.Puts.{stop, Put}
-use Rattle.writer.specs.declared.Output.{Output}
-use Rattle.writer.proofs.Laws.{put-append, put-none}
+use Rattle.spec.specs.Model.{name_bytes}
 use Rattle.std.specs.Prelude.{Option, Some, None, MatchOption, find, not, ◌==◌}
-use Rattle.std.specs.Char.{to_ascii_uppercase, to_ascii_lowercase}
-use Rattle.std.proofs.lemmas.Bool.Decides.{nat_tests}
+use Rattle.std.proofs.lemmas.List.{drop_all, length_push}
 use Rattle.streams.specs.Streams.{upper, lower, capital, capitals, lettered, element_name}
-use Rattle.element.specs.Pascal.{bare}
+use Rattle.element.specs.Pascal.{bare, cased, pascal}
 
--- ---- one byte
+-- ---- words byte by byte
 
--- the library's words for the same
-upper-is : (x : ℕ) → to_ascii_uppercase x ≡ upper x
-upper-is x = grind (arith, nat_tests)
+-- the words, of which the first begins or has begun before
+words : Bool → List (List ℕ) → List ℕ
+words begins [] = []
+words begins (w ∷ ws) = cond begins (capital w) (map lower w) ++ capitals ws
 
-lower-is : (x : ℕ) → to_ascii_lowercase x ≡ lower x
-lower-is x = grind (arith, nat_tests)
+words-are : (ws : List (List ℕ)) → words true ws ≡ capitals ws
+unfolding words capitals
+words-are [] = refl
+words-are (w ∷ ws) = refl
 
--- the words, of which the first has begun before
-lowers : List (List ℕ) → List ℕ
-lowers [] = []
-lowers (w ∷ ws) = map lower w ++ capitals ws
+no-word : (t : Bool) (ws : List (List ℕ)) → words t ([] ∷ ws) ≡ capitals ws
+unfolding words
+no-word true ws = refl
+no-word false ws = refl
 
-join-capitals : (x : ℕ) (ws : List (List ℕ)) → capitals (join_first x ws) ≡ upper x ∷ lowers ws
-unfolding capitals join_first lowers
-join-capitals x [] = refl
-join-capitals x (w ∷ ws) = refl
+join-words : (t : Bool) (x : ℕ) (ws : List (List ℕ)) → words t (join_first x ws) ≡ cased t x ∷ words false ws
+unfolding words capitals join_first
+join-words true x [] = refl
+join-words true x (w ∷ ws) = refl
+join-words false x [] = refl
+join-words false x (w ∷ ws) = refl
 
--- ---- bytes and words, one by one
+pascal-words : (s : List ℕ) (t : Bool) → words t (split 95 s) ≡ pascal t s
+unfolding words capitals split pascal
+pascal-words [] t = no-word t []
+pascal-words (x ∷ s) t = go (eqb x 95) (sym (words-are (split 95 s)) ∙ pascal-words s true) (pascal-words s false)
+  where
+    go : (u : Bool) → capitals (split 95 s) ≡ pascal true s → words false (split 95 s) ≡ pascal false s
+        → words t (cond u ([] ∷ split 95 s) (join_first x (split 95 s)))
+        ≡ cond u (pascal true s) (cased t x ∷ pascal false s)
+    go true c l = no-word t (split 95 s) ∙ c
+    go false c l = join-words t x (split 95 s) ∙ ap (◌∷◌ (cased t x)) l
 
--- i bytes of s are put as small letters
-pub record Small (entry : Output) (s : List ℕ) (i : ℕ) (exit : Output) : Type 0 where
-  pub inside : i ≤ length s
-  pub done : Put entry (map lower (take i s)) exit
-
-pub small-none : (a : Output) (s : List ℕ) → length a.bytes.now ≤ stop → Small a s 0 a
-small-none a s h = record { inside = omega arith; done = put-none a h }
-
-module _ {a : Output} {s : List ℕ} {i : ℕ} {b : Output} (r : Small a s i b) where
-  pub small-more : i < length s → {c : ℕ} → c ≡ to_ascii_lowercase (get_or s i 0) → {e : Output} → Put b (c ∷ []) e
-      → Small a s (i + 1) e
-  small-more h q p =
-      record {
-        inside = omega arith;
-        done = rw (add-one i, take-suc s i 0 h, map-append lower (take i s) (get_or s i 0 ∷ []), ← lower-is (get_or s i 0), ← q)
-            (put-append r.done p);
-      }
-
-  pub small-all : length s ≤ i → Put a (map lower s) b
-  small-all h = rw (take_all i s h) at r.done
-
--- a word's first byte, then the others
-pub word-put : {word : List ℕ} {first b : ℕ} {rest : List ℕ} → word ≡ first ∷ rest → b ≡ to_ascii_uppercase first
-    → {a m e : Output} → Put a (b ∷ []) m → Put m (map lower rest) e → Put a (capital word) e
-word-put {first = first} w q p r = rw (w, ← upper-is first, ← q) (put-append p r)
-
--- the words before those of `rest` are put
-pub record Worded (entry : Output) (words rest : List (List ℕ)) (exit : Output) : Type 0 where
-  pub text : List ℕ
-  pub whole : capitals words ≡ text ++ capitals rest
-  pub done : Put entry text exit
-
-pub worded-none : (a : Output) (words : List (List ℕ)) → length a.bytes.now ≤ stop → Worded a words words a
-worded-none a words h = record { text = []; whole = refl; done = put-none a h }
-
-module _ {a : Output} {words rest : List (List ℕ)} {b : Output} (r : Worded a words rest b) where
-  pub worded-more : {word : List ℕ} {more : List (List ℕ)} → rest ≡ word ∷ more → {e : Output}
-      → Put b (capital word) e → Worded a words more e
-  unfolding capitals
-  worded-more {word} {more} n p =
-      record {
-        text = r.text ++ capital word;
-        whole = r.whole ∙ rw n (sym (append_assoc r.text (capital word) (capitals more)));
-        done = put-append r.done p;
-      }
-
-  pub worded-all : rest ≡ [] → Put a (capitals words) b
-  unfolding capitals
-  worded-all n = rw (r.whole, n, append-nil r.text) r.done
+pascal-is : (s : List ℕ) → capitals (split 95 s) ≡ pascal true s
+pascal-is s = sym (words-are (split 95 s)) ∙ pascal-words s true
 
 -- ---- 'T' before
 
@@ -114,31 +78,31 @@ digit-upper x = go (ltb x 97) refl
     go false e = high (ltb-false x 97 e) (leb x 122) refl
 
 -- nothing is written of the bytes before the first sign
-found-in : (s : List ℕ) {x : ℕ} → Some x ≡ find (λ x. not (x == 95)) s → bare (capitals (split 95 s)) ≡ digit x
-unfolding capitals split
+found-in : (s : List ℕ) {x : ℕ} → Some x ≡ find (λ x. not (x == 95)) s → bare (pascal true s) ≡ digit x
+unfolding pascal
 found-in [] e = cc
 found-in (y ∷ s) {x} e = go (eqb y 95) (found-in s) e
   where
-    go : (t : Bool) → (Some x ≡ find (λ x. not (x == 95)) s → bare (capitals (split 95 s)) ≡ digit x)
+    go : (t : Bool) → (Some x ≡ find (λ x. not (x == 95)) s → bare (pascal true s) ≡ digit x)
         → Some x ≡ cond (not t) (Some y) (find (λ x. not (x == 95)) s)
-        → bare (capitals (cond t ([] ∷ split 95 s) (join_first y (split 95 s)))) ≡ digit x
+        → bare (cond t (pascal true s) (upper y ∷ pascal false s)) ≡ digit x
     go true on e = on e
-    go false on e = let z : x ≡ y = cc in rw (z, join-capitals y (split 95 s)) (digit-upper y)
+    go false on e = let z : x ≡ y = cc in rw z (digit-upper y)
 
-none-in : (s : List ℕ) → None ≡ find (λ x. not (x == 95)) s → bare (capitals (split 95 s)) ≡ true
-unfolding capitals split
+none-in : (s : List ℕ) → None ≡ find (λ x. not (x == 95)) s → bare (pascal true s) ≡ true
+unfolding pascal
 none-in [] e = refl
 none-in (y ∷ s) e = go (eqb y 95) (none-in s) e
   where
-    go : (t : Bool) → (None ≡ find (λ x. not (x == 95)) s → bare (capitals (split 95 s)) ≡ true)
+    go : (t : Bool) → (None ≡ find (λ x. not (x == 95)) s → bare (pascal true s) ≡ true)
         → None ≡ cond (not t) (Some y) (find (λ x. not (x == 95)) s)
-        → bare (capitals (cond t ([] ∷ split 95 s) (join_first y (split 95 s)))) ≡ true
+        → bare (cond t (pascal true s) (upper y ∷ pascal false s)) ≡ true
     go true on e = on e
     go false on e = cc
 
 -- what is said of the first sign, if there is one
 pub bare_is : (s : List ℕ) {o : Option ℕ} {b : Bool} → o ≡ find (λ x. not (x == 95)) s
-    → MatchOption o (b ≡ true) (λ x. b ≡ digit x) → b ≡ bare (capitals (split 95 s))
+    → MatchOption o (b ≡ true) (λ x. b ≡ digit x) → b ≡ bare (pascal true s)
 bare_is s {o = None} e m = m ∙ sym (none-in s e)
 bare_is s {o = Some x} e m = m ∙ sym (found-in s e)
 
@@ -146,12 +110,56 @@ lettered-bare : (t : List ℕ) → lettered t ≡ cond (bare t) (84 ∷ t) t
 lettered-bare [] = refl
 lettered-bare (x ∷ t) = refl
 
-module _ {a e : Output} (s : List ℕ) where
-  pub unlettered : bare (capitals (split 95 s)) ≡ false → Put a (capitals (split 95 s)) e → Put a (element_name s) e
-  unfolding element_name
-  unlettered b p = rw (lettered-bare (capitals (split 95 s)), b) p
+-- ---- a name made byte by byte
 
-  pub t-before : {m : Output} → bare (capitals (split 95 s)) ≡ true → Put a (84 ∷ []) m
-      → Put m (capitals (split 95 s)) e → Put a (element_name s) e
+-- i bytes of s are passed: what is left goes behind the name so far, and has room there
+pub record Named (s : List ℕ) (i : ℕ) (begins : Bool) (name : List ℕ) : Type 0 where
+  pub inside : i ≤ length s
+  pub few : length name + (length s - i) ≤ suc name_bytes
+  pub whole : element_name s ≡ name ++ pascal begins (drop i s)
+
+module _ (s : List ℕ) (h : length s ≤ name_bytes) where
+  pub unlettered : bare (pascal true s) ≡ false → Named s 0 true []
   unfolding element_name
-  t-before b p q = rw (lettered-bare (capitals (split 95 s)), b) (put-append p q)
+  unlettered b =
+      record {
+        inside = omega arith;
+        few = omega arith;
+        whole = rw (pascal-is s, lettered-bare (pascal true s), b);
+      }
+
+  pub t-before : bare (pascal true s) ≡ true → Named s 0 true (84 ∷ [])
+  unfolding element_name
+  t-before b =
+      record {
+        inside = omega arith;
+        few = omega arith;
+        whole = rw (pascal-is s, lettered-bare (pascal true s), b);
+      }
+
+module _ {s : List ℕ} {i : ℕ} {begins : Bool} {name : List ℕ} (n : Named s i begins name) where
+  module _ (h : i < length s) where
+    pub named-parted : (get_or s i 0 == 95) ≡ true → Named s (i + 1) (get_or s i 0 == 95) name
+    unfolding pascal
+    named-parted e =
+        record {
+          inside = omega arith;
+          few = omega (arith, n.few);
+          whole = n.whole ∙ rw (drop-cons s i 0 h, e, add-one i);
+        }
+
+    pub named-more : (get_or s i 0 == 95) ≡ false → {x : ℕ} → x ≡ cased begins (get_or s i 0)
+        → Named s (i + 1) (get_or s i 0 == 95) (name ++ x ∷ [])
+    unfolding pascal
+    named-more e {x} q =
+        let c = cased begins (get_or s i 0) in
+        let a = append_assoc name (c ∷ []) (pascal false (drop (suc i) s)) in
+        record {
+          inside = omega arith;
+          few = omega (arith, n.few, length_push name x);
+          whole = n.whole ∙ rw (drop-cons s i 0 h, e, add-one i, q, a);
+        }
+
+  pub named-all : length s ≤ i → name ≡ element_name s
+  unfolding pascal
+  named-all h = sym (n.whole ∙ rw (drop_all i s h, append-nil name))

@@ -1,42 +1,17 @@
 // The element name of a data item's type: Pascal case without '_'.
 #![tactic(auto)]
 
-ghost use Rattle.std.specs.Prelude.{◌≡◌, ◌==◌, not, find, map};
-ghost use Rattle.spec.specs.Bytes.{split};
-ghost use Rattle.streams.specs.Streams.{lower, capital, capitals, element_name};
-ghost use Rattle.writer.specs.Puts.{Put};
-ghost use Rattle.element.specs.Pascal.{bare};
+ghost use Rattle.std.specs.Prelude.{◌≡◌, ◌==◌, ◌≤◌, true, not, find, length};
+ghost use Rattle.spec.specs.Model.{name_bytes};
+ghost use Rattle.streams.specs.Streams.{element_name};
+ghost use Rattle.element.specs.Pascal.{bare, cased, pascal};
 
+use arrayvec::ArrayVec;
 use scan::is_digit;
-use writer::Output;
+use spec::NAME_BYTES;
 
-// The bytes as small letters.
-fn put_small(out: &mut Output, s: &[u8])
-    ensures { Put out.old (map lower s.now) out.new }
-{
-    for x in s {
-        out.put_byte(x.to_ascii_lowercase());
-    }
-}
-
-// A word in Pascal case.
-fn put_word(out: &mut Output, word: &[u8])
-    ensures { Put out.old (capital word.now) out.new }
-{
-    if let Some((first, rest)) = word.split_first() {
-        out.put_byte(first.to_ascii_uppercase());
-        put_small(out, rest);
-    }
-}
-
-// A name in Pascal case, without a 'T' before.
-fn put_pascal(out: &mut Output, s: &[u8])
-    ensures { Put out.old (capitals (split 95 s.now)) out.new }
-{
-    for word in s.split(|x| *x == b'_') {
-        put_word(out, word);
-    }
-}
+// The most bytes of an element: a 'T' may come before a name.
+pub const ELEMENT_BYTES: usize = NAME_BYTES + 1;
 
 // The first byte that is no '_'.
 fn first_sign(s: &[u8]) -> Option<u8>
@@ -45,19 +20,40 @@ fn first_sign(s: &[u8]) -> Option<u8>
     s.iter().copied().find(|x| *x != b'_')
 }
 
-// Whether no letter begins a name in Pascal case.
+// Whether no letter begins the name in Pascal case.
 fn is_bare(s: &[u8]) -> bool
-    ensures { result ≡ bare (capitals (split 95 s.now)) }
+    ensures { result ≡ bare (pascal true s.now) }
 {
     first_sign(s).is_none_or(is_digit)
 }
 
-// A row's element.
-pub fn put_element(out: &mut Output, s: &[u8])
-    ensures { Put out.old (element_name s.now) out.new }
+// A byte in Pascal case: a word's first is a capital.
+fn cased(begins: bool, x: u8) -> u8
+    ensures { result ≡ cased begins x }
 {
-    if is_bare(s) {
-        out.put_byte(b'T');
+    if begins {
+        x.to_ascii_uppercase()
+    } else {
+        x.to_ascii_lowercase()
     }
-    put_pascal(out, s);
+}
+
+// A row's element. It has bytes of its own since a row shows it twice.
+pub fn element_of(s: &[u8]) -> ArrayVec<u8, ELEMENT_BYTES>
+    requires { length s.now ≤ name_bytes }
+    ensures { result.items ≡ element_name s.now }
+{
+    let mut name = ArrayVec::new();
+    if is_bare(s) {
+        name.push(b'T');
+    }
+    let mut begins = true;
+    for x in s {
+        let parts = *x == b'_';
+        if !parts {
+            name.push(cased(begins, *x));
+        }
+        begins = parts;
+    }
+    name
 }

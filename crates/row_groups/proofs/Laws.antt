@@ -14,7 +14,7 @@ use Rattle.std.specs.Prelude.{Option, Some, None, is_some, option_map, MatchOpti
 use Rattle.std.specs.Option.{unwrap_or}
 use Rattle.std.proofs.Common.{Bor}
 use Rattle.spec.specs.Value.{item_of}
-use Rattle.spec.specs.Model.{Checked, name_text, max_components, items}
+use Rattle.spec.specs.Model.{Checked, name_text, name_bytes, max_components, items}
 use Rattle.spec.specs.Model.{item_word, item_name, component_of, category_of}
 use Rattle.spec.specs.Reply.{rows_of}
 use Rattle.spec.proofs.Words.{and_left, and_right, by-test}
@@ -27,6 +27,7 @@ use Rattle.streams.specs.declared.Group.{Group}
 use Rattle.streams.specs.declared.Group.TheVariants.{Samples, Events, Condition}
 use Rattle.streams.proofs.Rows.{row_at, rows-length, rows-suc, all-at}
 use Rattle.streams.proofs.Pieces.{ended-append, having-append}
+use Rattle.streams.proofs.Short.{name-length}
 use Rattle.writer.specs.Puts.{Put, stop}
 use Rattle.writer.specs.declared.Output.{Output}
 use Rattle.writer.proofs.Laws.{put-none, put-append}
@@ -75,6 +76,9 @@ module _ (model reply : List ℕ) (i : ℕ) {w j : ℕ} (ew : w ≡ get_or (row_
 
   pub own-word : {word : ℕ} → word ≡ item_word model j → word ≡ item_word model (item_of (get_or (row_at reply i) 2 0))
   own-word e = rw (ej, ew) at e
+
+pub name-few : (names : List ℕ) (k : ℕ) {t : List ℕ} → t ≡ name_text names k → length t ≤ name_bytes
+name-few names k e = rw e (name-length names k)
 
 -- ---- rows kept
 

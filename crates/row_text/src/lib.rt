@@ -1,7 +1,8 @@
 // The line of a row, with its line feed.
 #![tactic(auto)]
 
-ghost use Rattle.std.specs.Prelude.{[], ◌∷◌, ◌++◌};
+ghost use Rattle.std.specs.Prelude.{[], ◌∷◌, ◌++◌, ◌≤◌, length};
+ghost use Rattle.spec.specs.Model.{name_bytes};
 ghost use Rattle.streams.specs.Streams.{element_name, row_attributes, text_line, state_name, native_code};
 ghost use Rattle.streams.specs.Streams.{condition_line, row_line};
 ghost use Rattle.streams.specs.Groups.{group_number};
@@ -9,7 +10,7 @@ ghost use Rattle.writer.specs.Puts.{Put};
 ghost use Rattle.row_text.specs.Shown.{shown};
 
 use attributes::{put_number, put_text, put_time};
-use element::put_element;
+use element::element_of;
 use figures::put_value;
 use spec::{Level, Row, Value};
 use streams::Group;
@@ -27,17 +28,19 @@ fn put_attributes(out: &mut Output, row: &Row)
 
 // A row of Samples or Events.
 fn put_text_row(out: &mut Output, t: &[u8], row: &Row)
+    requires { length t.now ≤ name_bytes }
     ensures { Put out.old
         (text_line (element_name t.now) (shown row.now) ++ 10 ∷ [])
         out.new }
 {
+    let name = element_of(t);
     out.put_byte(b'<');
-    put_element(out, t);
+    out.put_bytes(&name);
     put_attributes(out, row);
     out.put_byte(b'>');
     put_value(out, decode(word_of(row.packed)));
     out.put_bytes(b"</");
-    put_element(out, t);
+    out.put_bytes(&name);
     out.put_bytes(b">\n");
 }
 
@@ -80,6 +83,7 @@ fn put_condition_row(out: &mut Output, t: &[u8], row: &Row)
 
 // The line of a row of group g, of an item of type t. Any number above those of Samples and Events is Condition's.
 pub fn put_row(out: &mut Output, g: u64, t: &[u8], row: &Row)
+    requires { length t.now ≤ name_bytes }
     ensures { Put out.old (row_line g t.now (shown row.now) ++ 10 ∷ []) out.new }
 {
     if g < 2 {
@@ -91,6 +95,7 @@ pub fn put_row(out: &mut Output, g: u64, t: &[u8], row: &Row)
 
 // The line of a row of a group.
 pub fn put_group_row(out: &mut Output, g: Group, t: &[u8], row: &Row)
+    requires { length t.now ≤ name_bytes }
     ensures { Put out.old
         (row_line (group_number g) t.now (shown row.now) ++ 10 ∷ [])
         out.new }

@@ -56,7 +56,7 @@ decimal-length n = digits-length 19 n
 few : (j n : ℕ) → j ≤ 19 → n < 10 ^ suc j → length (decimal n) ≤ suc j
 few j n h l = (decimal-spells j n h l).few
 
-name-length : (names : List ℕ) (k : ℕ) → length (name_text names k) ≤ name_bytes
+pub name-length : (names : List ℕ) (k : ℕ) → length (name_text names k) ≤ name_bytes
 name-length names k = simp length-take (omega arith)
 
 capital-length : (s : List ℕ) → length (capital s) ≡ length s

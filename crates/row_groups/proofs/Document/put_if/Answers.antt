@@ -2,9 +2,10 @@
 -- they share is no shorter.
 use mathlib.Core.Path.{refl, sym, ◌∙◌}
 use native.Mathlib.Omega.{arith}
+use Rattle.spec.specs.Model.{item_word, item_name}
 use Rattle.streams.proofs.Rows.{row_at}
 use Rattle.row_groups.proofs.Laws.{number-same, number-other, own-item, own-word, line-not-component, line-not-group}
-use Rattle.row_groups.proofs.Laws.{line-put}
+use Rattle.row_groups.proofs.Laws.{line-put, name-few}
 use Rattle.row_groups.proofs.Document.put_if.Goals as goal
 use Rattle.row_groups.proofs.Document.put_if.Goals.{else-component-c-via-then-component-c+else-eq}
 use Rattle.row_groups.proofs.Document.put_if.Goals.{else-component-c-via-else-component-c}
@@ -21,6 +22,11 @@ item_text-t-requires c =
     let d = c.self.inside in
     own-item d.model.words d.reply c.args.i c.row_at.ensures.packed c.item_of-item.ensures
     c.self.invariant.documented.accepted (rw (← c.self.view_is) at c.requires)
+
+pub put_group_row-requires : goal.put_group_row-requires
+put_group_row-requires c =
+    let d = c.self.inside in
+    name-few d.model.names.now (item_name (item_word d.model.words c.item_of-item.result)) c.item_text-t.ensures
 
 pub returns-then-eq : goal.returns-then-eq
 returns-then-eq c =
