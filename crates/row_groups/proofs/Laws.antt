@@ -18,9 +18,9 @@ use Rattle.spec.specs.Model.{Checked, name_text, name_bytes, max_components, ite
 use Rattle.spec.specs.Model.{item_word, item_name, component_of, category_of}
 use Rattle.spec.specs.Reply.{rows_of}
 use Rattle.spec.proofs.Words.{and_left, and_right, by-test}
-use Rattle.streams.specs.Streams.{Row, row_of, row_in, group_of, packed_ok, words_ok, reply_ok, each, having, row_component}
-use Rattle.streams.specs.Streams.{row_group, groups, tag, end_tag, row_line, between, group_name, item_type, row_lines}
-use Rattle.streams.specs.Streams.{group_lines, ended}
+use Rattle.streams.specs.Streams.{Row, row_of, row_in, group_of, packed_ok, words_ok, reply_ok, each, having}
+use Rattle.streams.specs.Streams.{row_component, row_group, groups, tag, end_tag, row_line, between, group_name}
+use Rattle.streams.specs.Streams.{item_type, row_lines, group_lines, ended}
 use Rattle.streams.specs.Groups.{group_number}
 use Rattle.streams.specs.contracts.Group.{the_type}
 use Rattle.streams.specs.declared.Group.{Group}
@@ -80,6 +80,14 @@ module _ (model reply : List ℕ) (i : ℕ) {w j : ℕ} (ew : w ≡ get_or (row_
 pub name-few : (names : List ℕ) (k : ℕ) {t : List ℕ} → t ≡ name_text names k → length t ≤ name_bytes
 name-few names k e = rw e (name-length names k)
 
+-- a row's line, as the parts of the row give it
+pub row-put : (model names : List ℕ) (g : ℕ) (r t : List ℕ) (j n time w : ℕ) {o o₁ : Output}
+    → t ≡ name_text names (item_name (item_word model j)) → j ≡ item_of w
+    → n ≡ get_or r 0 0 → time ≡ get_or r 1 0 → w ≡ get_or r 2 0
+    → Put o (row_line g t (row_of n time w) ++ 10 ∷ []) o₁
+    → Put o (row_line g (item_type model names (row_in r).item) (row_in r) ++ 10 ∷ []) o₁
+row-put model names g r t j n time w et ej en em ew b = rw (et, ej, en, em, ew) at b
+
 -- ---- rows kept
 
 module _ (model : List ℕ) (c g : ℕ) where
@@ -136,14 +144,11 @@ module _ (model names : List ℕ) (c g : ℕ) where
     line-not-group f n h =
         rw (text-none (row_in r ∷ []) (kept-not-group model c g (row_in r) (rw e at f) (rw e at n))) (put-none o h)
 
-    pub line-put : component_of word ≡ c → group_of (category_of word) ≡ g
-        → (t : List ℕ) (k n time w : ℕ) {o₁ : Output}
-        → t ≡ name_text names k → k ≡ item_name word → n ≡ get_or r 0 0 → time ≡ get_or r 1 0 → w ≡ get_or r 2 0
-        → Put o (row_line g t (row_of n time w) ++ 10 ∷ []) o₁
+    pub line-put : component_of word ≡ c → group_of (category_of word) ≡ g → {o₁ : Output}
+        → Put o (row_line g (item_type model names (row_in r).item) (row_in r) ++ 10 ∷ []) o₁
         → Put o (kept_text model names c g (row_in r ∷ [])) o₁
-    line-put f h t k n time w et ek en em ew b =
-        rw (text-one (row_in r ∷ []) (row_in r) (kept-own model c g (row_in r) (rw e at f) (rw e at h)))
-        (rw (et, ek, e, en, em, ew) at b)
+    line-put f h b =
+        rw (text-one (row_in r ∷ []) (row_in r) (kept-own model c g (row_in r) (rw e at f) (rw e at h))) b
 
   -- a turn of the pass
   module _ (reply : List ℕ) {o : Output} where
@@ -300,6 +305,14 @@ module _ (model names reply : List ℕ) (M : Checked model names) (h : reply_ok 
       rw (none-kept model c (rows_of reply) (λ i l e.
       let there = item-there model reply h i (omega (arith, l, rows-length reply)) in
       omega (arith, M.component _ there, M.sizes.c_max, e)))
+
+-- so that there are marks and lists of one that has rows
+pub kept-within : (model names reply : List ℕ) → Checked model names → reply_ok model reply ≡ true
+    → (c g : ℕ) {t : Bool} → t ≡ filled (kept model c g (reply_rows reply)) → t ≡ true → c < max_components
+kept-within model names reply M h c g e f =
+    by-test (ltb c max_components)
+    (λ t. ltb-true c max_components t)
+    (λ t. let none = lacking model names reply M h c (ltb-false c max_components t) g in absurd cc)
 
 -- what is told of the marks that were looked for
 module _ (model names reply : List ℕ) (M : Checked model names) (h : reply_ok model reply ≡ true)

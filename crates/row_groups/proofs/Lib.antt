@@ -1,2 +1,3 @@
 -- The laws that the proofs of a component's rows cite.
 pub mod Laws
+pub mod Listing

@@ -1,2 +1,3 @@
 -- What the contracts of a component's rows cite.
 pub mod Groups
+pub mod Lists

@@ -1,15 +1,17 @@
 // A component's rows in a document, group by group.
 #![tactic(auto)]
 
-ghost use Rattle.std.specs.Prelude.{true, false, [], ◌∷◌, ◌++◌, ◌≡◌, ◌<◌, ◌^◌, get_or, leb, MatchResult};
+ghost use Rattle.std.specs.Prelude.{true, false, [], ◌∷◌, ◌++◌, ◌≡◌, ◌<◌, ◌≤◌, ◌^◌, get_or, leb, MatchResult};
 ghost use Rattle.spec.specs.declared.Refusal.TheVariants.{Store as Refused};
-ghost use Rattle.spec.specs.Model.{components, items, item_word, component_of, category_of};
+ghost use Rattle.spec.specs.Model.{max_components, components, items, item_word, component_of, category_of};
 ghost use Rattle.spec.specs.Reply.{rows_of};
 ghost use Rattle.streams.specs.Groups.{group_number};
-ghost use Rattle.streams.specs.Streams.{row_in, reply_ok, group_of, each, groups, group_name, group_lines, ended, streams_bytes};
+ghost use Rattle.streams.specs.Streams.{row_in, reply_ok, group_of, each, groups, group_name, item_type, row_line};
+ghost use Rattle.streams.specs.Streams.{group_lines, ended, streams_bytes};
 ghost use Rattle.writer.specs.Puts.{Put};
 ghost use Rattle.row_groups.specs.Groups.{reply_rows, kept, kept_text, filled, any_kept, any_marked};
 ghost use Rattle.row_groups.specs.Groups.{Documented, Marked, Placed};
+ghost use Rattle.row_groups.specs.Lists.{few, reply_row};
 
 use model::{Named, Words};
 use reply_rows::{Reply, group_of};
@@ -18,6 +20,10 @@ use spec::Refusal;
 use std::marker::Model;
 use streams::{GROUPS, Group};
 use writer::Output;
+
+mod lists;
+
+use lists::{FEW, Lists};
 
 const COMPONENT_SLOTS: usize = spec::MAX_COMPONENTS as usize;
 
@@ -102,13 +108,14 @@ fn put_tag(before: &[u8], g: Group, out: &mut Output)
 
 // ---- a document
 
-// What a document is made of: a model with its names, a reply that has only the model's rows, and the marks of these.
-// A clause sees the words and bytes.
+// What a document is made of: a model with its names, a reply that has only the model's rows, and the marks and the
+// lists of these. A clause sees the words and bytes.
 #[derive(Drop)]
 pub struct Document<'a> {
     pub model: Named<'a>,
     pub reply: Reply<'a>,
     present: Present,
+    lists: Lists,
 }
 
 impl<'a> Model for Document<'a> {
@@ -118,7 +125,7 @@ impl<'a> Model for Document<'a> {
 
     ghost view = { λ d. record { model = d.model.words; names = d.model.names.now; reply = d.reply } };
 
-    ghost invariant = { λ d. Ready d.model.words d.model.names.now d.reply d.present };
+    ghost invariant = { λ d. Ready d.model.words d.model.names.now d.reply d.present d.lists.first d.lists.next };
 }
 
 impl<'a> Document<'a> {
@@ -139,16 +146,19 @@ impl<'a> Document<'a> {
         ensures { result ≡ record { model = model.entry.words; names = model.entry.names.now; reply = reply.entry } }
     {
         let present = groups_present(&model.words, &reply);
+        let lists = lists::lists_of(&model.words, &reply);
         Document {
             model,
             reply,
             present,
+            lists,
         }
     }
 
     // Whether component c's group g has rows; a component that the model lacks has none.
     fn is_marked(&self, c: u64, g: Group) -> bool
-        ensures { result ≡ filled (kept self.now.model c (group_number g) (reply_rows self.now.reply)) }
+        ensures value { result ≡ filled (kept self.now.model c (group_number g) (reply_rows self.now.reply)) }
+        ensures within { result ≡ true → c < max_components }
     {
         self.present
             .get(c as usize)
@@ -175,31 +185,75 @@ impl<'a> Document<'a> {
             <= room
     }
 
+    // Row i's line, as one of group g.
+    fn put_row(&self, i: usize, g: Group, out: &mut Output)
+        requires { i < get_or self.now.reply 0 0 }
+        ensures { Put out.old
+            (row_line (group_number g)
+            (item_type self.now.model self.now.names (reply_row self.now.reply i).item)
+            (reply_row self.now.reply i)
+            ++ 10 ∷ [])
+            out.new }
+    {
+        let row = self.reply.row_at(i);
+        let t = self.model.item_text(value::item_of(row.packed));
+        put_group_row(out, g, t, &row);
+    }
+
     // Row i's line, if its item is of component c and group g.
     fn put_if(&self, i: usize, c: u64, g: Group, out: &mut Output)
         requires { i < get_or self.now.reply 0 0 }
         ensures { Put out.old
             (kept_text self.now.model self.now.names c (group_number g)
-            (row_in (get_or (rows_of self.now.reply) i []) ∷ []))
+            (reply_row self.now.reply i ∷ []))
             out.new }
     {
         let item = value::item_of(self.reply.row_at(i).packed);
         let (component, group) = home_of(&self.model.words, item);
         if component == c && group == g {
-            let t = self.model.item_text(item);
-            // read again, so that a row that isn't written costs its packed word alone: else 100 rows took 52 µs for 49
-            put_group_row(out, g, t, &self.reply.row_at(i));
+            // reads it again, so that a row that isn't written costs its packed word alone: else 100 took 52 µs for 49
+            self.put_row(i, g, out);
         }
     }
 
-    // The lines of the rows of component c and group g, in reply order.
-    fn put_rows(&self, c: u64, g: Group, out: &mut Output)
+    // The lines of the rows of component c and group g, which are looked for among all rows.
+    fn put_searched(&self, c: u64, g: Group, out: &mut Output)
         ensures { Put out.old
             (kept_text self.now.model self.now.names c (group_number g) (reply_rows self.now.reply))
             out.new }
     {
         for i in 0..self.reply.rows() {
             self.put_if(i, c, g, out);
+        }
+    }
+
+    // The same lines, by the lists of few rows.
+    fn put_listed(&self, c: u64, g: Group, out: &mut Output)
+        requires there { c < max_components }
+        requires few { get_or self.now.reply 0 0 ≤ few }
+        ensures { Put out.old
+            (kept_text self.now.model self.now.names c (group_number g) (reply_rows self.now.reply))
+            out.new }
+    {
+        let k = self.reply.rows();
+        let mut i = self.lists.first[c as usize][slot_of(g)] as usize;
+        while i < k {
+            self.put_row(i, g, out);
+            i = self.lists.next[i] as usize;
+        }
+    }
+
+    // The lines of the rows of component c and group g, in reply order.
+    fn put_rows(&self, c: u64, g: Group, out: &mut Output)
+        requires { c < max_components }
+        ensures { Put out.old
+            (kept_text self.now.model self.now.names c (group_number g) (reply_rows self.now.reply))
+            out.new }
+    {
+        if self.reply.rows() <= FEW {
+            self.put_listed(c, g, out);
+        } else {
+            self.put_searched(c, g, out);
         }
     }
 

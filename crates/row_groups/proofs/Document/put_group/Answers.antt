@@ -11,12 +11,12 @@ returns-then-not-is_marked c =
     let d = c.args.self.now in
     let g = group_number c.args.g in
     group-none d.model d.names g (kept d.model c.args.c g (reply_rows d.reply))
-    (sym c.is_marked.ensures ∙ c.if-not-is_marked.true) (omega arith)
+    (sym c.is_marked.ensures.value ∙ c.if-not-is_marked.true) (omega arith)
 
 pub returns : goal.returns
 returns c =
     let d = c.args.self.now in
     let g = group_number c.args.g in
     group-put d.model d.names g (kept d.model c.args.c g (reply_rows d.reply))
-    (sym c.is_marked.ensures ∙ c.if-not-is_marked.false)
+    (sym c.is_marked.ensures.value ∙ c.if-not-is_marked.false)
     c.put_tag.ensures c.put_rows.ensures c.put_tag-2.ensures

@@ -2,10 +2,9 @@
 -- they share is no shorter.
 use mathlib.Core.Path.{refl, sym, ◌∙◌}
 use native.Mathlib.Omega.{arith}
-use Rattle.spec.specs.Model.{item_word, item_name}
 use Rattle.streams.proofs.Rows.{row_at}
 use Rattle.row_groups.proofs.Laws.{number-same, number-other, own-item, own-word, line-not-component, line-not-group}
-use Rattle.row_groups.proofs.Laws.{line-put, name-few}
+use Rattle.row_groups.proofs.Laws.{line-put}
 use Rattle.row_groups.proofs.Document.put_if.Goals as goal
 use Rattle.row_groups.proofs.Document.put_if.Goals.{else-component-c-via-then-component-c+else-eq}
 use Rattle.row_groups.proofs.Document.put_if.Goals.{else-component-c-via-else-component-c}
@@ -17,17 +16,6 @@ home_of-component-requires c =
     own-item d.model.words d.reply c.args.i c.row_at.ensures.packed c.item_of-item.ensures
     c.self.invariant.documented.accepted (rw (← c.self.view_is) at c.requires)
 
-pub item_text-t-requires : goal.item_text-t-requires
-item_text-t-requires c =
-    let d = c.self.inside in
-    own-item d.model.words d.reply c.args.i c.row_at.ensures.packed c.item_of-item.ensures
-    c.self.invariant.documented.accepted (rw (← c.self.view_is) at c.requires)
-
-pub put_group_row-requires : goal.put_group_row-requires
-put_group_row-requires c =
-    let d = c.self.inside in
-    name-few d.model.names.now (item_name (item_word d.model.words c.item_of-item.result)) c.item_text-t.ensures
-
 pub returns-then-eq : goal.returns-then-eq
 returns-then-eq c =
     let d = c.self.inside in
@@ -35,10 +23,8 @@ returns-then-eq c =
     rw (← c.self.view_is)
     (line-put d.model.words d.model.names.now c.args.c _ (row_at d.reply c.args.i)
     (own-word d.model.words d.reply c.args.i c.row_at.ensures.packed c.item_of-item.ensures refl)
-    (sym home.component ∙ c.if-component-c.true) (sym home.group ∙ number-same _ _ c.eq.ensures c.if-eq.true) _ _ _ _ _
-    c.item_text-t.ensures refl
-    c.row_at-then-eq.ensures.number c.row_at-then-eq.ensures.time c.row_at-then-eq.ensures.packed
-    c.put_group_row.ensures)
+    (sym home.component ∙ c.if-component-c.true) (sym home.group ∙ number-same _ _ c.eq.ensures c.if-eq.true)
+    (rw (← c.self.view_is) at c.put_row.ensures))
 
 pub returns-else-component-c : goal.returns-else-component-c
 returns-else-component-c c =

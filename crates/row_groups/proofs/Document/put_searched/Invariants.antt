@@ -6,7 +6,7 @@ use Rattle.streams.specs.Streams.{row_in}
 use Rattle.streams.specs.Groups.{group_number}
 use Rattle.writer.specs.Puts.{Put}
 use Rattle.row_groups.specs.Groups.{kept_text}
-use Rattle.row_groups.proofs.Document.put_rows.Given as goal
+use Rattle.row_groups.proofs.Document.put_searched.Given as goal
 
 abbrev pub invariant-loop-i : goal.invariant-loop-i
 invariant-loop-i l =

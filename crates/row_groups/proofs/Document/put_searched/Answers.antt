@@ -1,7 +1,7 @@
 use native.Mathlib.Numerals.{add-one}
 use native.Mathlib.Omega.{arith}
 use Rattle.row_groups.proofs.Laws.{pass-none, pass-more, pass_all}
-use Rattle.row_groups.proofs.Document.put_rows.Goals as goal
+use Rattle.row_groups.proofs.Document.put_searched.Goals as goal
 
 pub loop-i-init : goal.loop-i-init
 loop-i-init c =
@@ -23,5 +23,5 @@ loop-i-preserved c =
 pub returns : goal.returns
 returns c =
     let d = c.args.self.now in
-    pass_all d.model d.names c.args.c _ d.reply c.loop-i.i (rw (← c.self.view_is) (omega (arith, c.rows-i-end.ensures.0)))
-    c.loop-i.invariant
+    pass_all d.model d.names c.args.c _ d.reply c.loop-i.i
+    (rw (← c.self.view_is) (omega (arith, c.rows-i-end.ensures.0))) c.loop-i.invariant
