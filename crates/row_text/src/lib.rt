@@ -3,27 +3,31 @@
 
 ghost use Rattle.std.specs.Prelude.{[], ◌∷◌, ◌++◌, ◌≤◌, length};
 ghost use Rattle.spec.specs.Model.{name_bytes};
-ghost use Rattle.streams.specs.Streams.{element_name, row_attributes, text_line, state_name, native_code};
+ghost use Rattle.streams.specs.Streams.{element_name, text_line, state_name, native_code};
 ghost use Rattle.streams.specs.Streams.{condition_line, row_line};
 ghost use Rattle.streams.specs.Groups.{group_number};
 ghost use Rattle.writer.specs.Puts.{Put};
-ghost use Rattle.row_text.specs.Shown.{shown};
+ghost use Rattle.row_text.specs.Shown.{shown, open_attributes};
 
-use attributes::{put_number, put_text, put_time};
+use attributes::{put_number, put_text};
 use element::element_of;
 use figures::put_value;
 use spec::{Level, Row, Value};
+use stamp::put_stamp;
 use streams::Group;
 use value::{decode, item_of, word_of};
 use writer::Output;
 
-// dataItemId, sequence, timestamp.
+// dataItemId, sequence, timestamp, but for the last quote: each quote is put with what stands behind it.
 fn put_attributes(out: &mut Output, row: &Row)
-    ensures { Put out.old (row_attributes (shown row.now)) out.new }
+    ensures { Put out.old (open_attributes (shown row.now)) out.new }
 {
-    put_number(out, b" dataItemId=\"i", item_of(row.packed));
-    put_number(out, b" sequence=\"", row.number);
-    put_time(out, b" timestamp=\"", row.time);
+    out.put_bytes(b" dataItemId=\"i");
+    out.put_decimal(item_of(row.packed));
+    out.put_bytes(b"\" sequence=\"");
+    out.put_decimal(row.number);
+    out.put_bytes(b"\" timestamp=\"");
+    put_stamp(out, row.time);
 }
 
 // A row of Samples or Events.
@@ -37,7 +41,7 @@ fn put_text_row(out: &mut Output, t: &[u8], row: &Row)
     out.put_byte(b'<');
     out.put_bytes(&name);
     put_attributes(out, row);
-    out.put_byte(b'>');
+    out.put_bytes(b"\">");
     put_value(out, decode(word_of(row.packed)));
     out.put_bytes(b"</");
     out.put_bytes(&name);
@@ -76,7 +80,7 @@ fn put_condition_row(out: &mut Output, t: &[u8], row: &Row)
     out.put_byte(b'<');
     put_state(out, v);
     put_attributes(out, row);
-    put_text(out, b" type=\"", t);
+    put_text(out, b"\" type=\"", t);
     put_native(out, v);
     out.put_bytes(b"/>\n");
 }
