@@ -1,7 +1,7 @@
 // Text written into a lent buffer: bytes, digits, numbers.
 #![tactic(auto)]
 
-ghost use Rattle.std.specs.Prelude.{ℕ, List, [], ◌∷◌, ◌≡◌, ◌+◌, ◌^◌, ◌<◌, ◌≤◌, length};
+ghost use Rattle.std.specs.Prelude.{ℕ, List, [], ◌∷◌, ◌≡◌, ◌+◌, ◌^◌, ◌<◌, ◌≤◌, length, leb};
 ghost use Rattle.spec.specs.Bytes.{decimal};
 ghost use Rattle.std.proofs.lemmas.List.Edits.{sets};
 ghost use Rattle.lines.specs.Digits.{fixed};
@@ -53,6 +53,25 @@ impl<'a> Output<'a> {
         ensures { result ≡ self.now.at }
     {
         self.at
+    }
+
+    // Whether the place is behind the buffer's last byte, so that nothing more is written.
+    pub fn is_full(&self) -> bool
+        ensures value { result ≡ leb (length self.now.bytes.now) self.now.at }
+        ensures short { length self.now.bytes.now ≤ 2 ^ 63 }
+    {
+        self.bytes.len() <= self.at
+    }
+
+    // Counts a text of n bytes, none of which would be written.
+    pub fn skip(&mut self, n: usize)
+        ghost s: { List ℕ }
+        requires short { length self.now.bytes.now ≤ 2 ^ 63 }
+        requires full { length self.now.bytes.now ≤ self.now.at }
+        requires counted { n ≡ length s }
+        ensures { Put self.old s self.new }
+    {
+        self.at = onward(self.at, n);
     }
 
     // One byte.
