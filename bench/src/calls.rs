@@ -418,19 +418,29 @@ pub struct Document {
 pub const FEW_ROWS: usize = 100;
 pub const MOST_ROWS: usize = 131_072;
 
-/// More than any document has: around its rows, and for each of them.
-const AROUND: usize = 16 << 10;
-const A_ROW: usize = 160;
+/// Bytes that are enough for any document, as docs/HOST.md has it: around all, for each component and each row.
+const AROUND: usize = 495;
+const A_COMPONENT: usize = 189;
+const A_ROW: usize = 154;
 
-/// The document of a sample of so many rows, and a stage with the room that it takes.
+/// The document of a sample of so many rows, and a stage with the room that a host is to give.
 pub fn document(stage: &Stage, rows: usize) -> (Document, Stage) {
     let name = format!("streams, {} rows", thousands(rows as u64));
     let mut document = Document { name, reply: stage.sampled(rows), rows, bytes: 0 };
-    let [number, bytes] = document.run(&sides::reference(), &mut stage.with_room(AROUND + A_ROW * rows), 0);
+    let components = stage.model[0] as usize;
+    let mut stage = stage.with_room(AROUND + A_COMPONENT * components + A_ROW * rows);
+    let [number, bytes] = document.run(&sides::reference(), &mut stage, 0);
     assert_eq!(number, 0);
     document.bytes = bytes as usize;
-    let stage = stage.with_room(document.bytes);
+    stage.text.fill(0);
     (document, stage)
+}
+
+/// The same with as many bytes as the document has.
+pub fn document_exactly(stage: &Stage, rows: usize) -> (Document, Stage) {
+    let (document, stage) = document(stage, rows);
+    let stage = stage.with_room(document.bytes);
+    (Document { name: format!("{}, no byte to spare", document.name), ..document }, stage)
 }
 
 impl Call for Document {

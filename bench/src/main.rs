@@ -92,8 +92,11 @@ fn calls_of_a_full_box(rounds: usize, wanted: &str) -> Vec<Row> {
         lines.iter().for_each(|call| rows.add(call, stage));
     }
     for count in [calls::FEW_ROWS, calls::MOST_ROWS] {
-        let (document, stage) = calls::document(&conditions, count);
-        rows.add(&document, &stage);
+        for (document, stage) in
+            [calls::document(&conditions, count), calls::document_exactly(&conditions, count)]
+        {
+            rows.add(&document, &stage);
+        }
     }
     rows.add(&calls::named_assets(), &stage);
     rows.add(&calls::all_assets(), &stage);
