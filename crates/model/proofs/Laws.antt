@@ -1,13 +1,13 @@
 -- Laws of the model check over plain variables: each branch of a function is one of them.
 use Prim.Native.Nat.{ℕ, zero, suc, ◌+◌, ◌-◌, ◌≤◌}
 use mathlib.Core.Path.{◌≡◌, refl, ap, ◌∙◌}
-use mathlib.Core.Bool.{Bool, true, false, cond, ◌&&◌, not}
+use mathlib.Core.Bool.{Bool, true, false, cond, ◌&&◌, not, false≢true}
 use mathlib.Core.List.{List, [], ◌∷◌}
 use native.Mathlib.Numerals.{add-one}
 use native.Mathlib.Omega.{arith}
-use lib.Dec.{leb, ltb, eqb}
+use lib.Dec.{leb, ltb, eqb, eqb-suc-zero}
 use borrow.Author.Tests.{ltb-false, lt-ltb, le-ltb}
-use lib.ListN.{length}
+use lib.ListN.{length, drop}
 use Rattle.std.specs.List.{position_or_len, list_all, find, range_with_len}
 use Rattle.std.specs.Prelude.{Option, Some, None}
 use Rattle.std.specs.Option.{option_map, unwrap_or}
@@ -15,12 +15,12 @@ use Rattle.spec.specs.Found.{found_below}
 use Rattle.std.proofs.lemmas.List.Sums.{prefix_len-le-length}
 use Rattle.spec.specs.Words.{every, first_where, count_below}
 use Rattle.spec.specs.Bytes.{name_byte}
-use Rattle.spec.specs.Model.{letters}
+use Rattle.spec.specs.Model.{letters, zeros, cell_ok}
 use Rattle.spec.specs.Model.{category_of, asset_change}
 use Rattle.spec.specs.Model.{components, items}
 use Rattle.spec.specs.Model.{component_word, item_word, is_change, change_item}
 use Rattle.spec.specs.Model.{component_ok, item_ok, components_ok, items_ok, changes_ok}
-use Rattle.spec.proofs.Words.{count-step}
+use Rattle.spec.proofs.Words.{count-step, and_left, and_right}
 
 -- ---- a name's length
 
@@ -35,20 +35,52 @@ letters-is (x ∷ xs) = rw (← letters-is xs) (go (name_byte x))
     go true = omega arith
     go false = refl
 
+-- a byte of a name is not 0
+name-not-zero : (x : ℕ) → name_byte x ≡ true → eqb x 0 ≡ false
+unfolding name_byte
+name-not-zero zero e = absurd (false≢true e)
+name-not-zero (suc x) e = eqb-suc-zero x
+
+-- where zeros alone stand behind the letters, the first of them ends them
+zeros-end : (s : List ℕ) → zeros (drop (letters s) s) ≡ true → position_or_len (λ x. eqb x 0) s ≡ letters s
+unfolding letters zeros
+zeros-end [] e = refl
+zeros-end (x ∷ xs) e = go (zeros-end xs) (name_byte x) refl
+  where
+    go : (zeros (drop (letters xs) xs) ≡ true → position_or_len (λ y. eqb y 0) xs ≡ letters xs)
+        → (t : Bool) → name_byte x ≡ t → position_or_len (λ y. eqb y 0) (x ∷ xs) ≡ letters (x ∷ xs)
+    go r true n = let f = rw n at e in rw (n, name-not-zero x n, r f) (omega arith)
+    go r false n = let f = rw n at e in rw (n, and_left (eqb x 0) _ f)
+
+-- up to the first that p tells, or all
+found : (p : ℕ → Bool) (s : List ℕ) (r : Option ℕ) (n : ℕ)
+    → r ≡ (let i = position_or_len p s in cond (ltb i (length s)) (Some i) None)
+    → n ≡ unwrap_or r (length s) → (n ≡ position_or_len p s) × (n ≤ length s)
+found p s r n e f =
+    let z : n ≡ position_or_len p s = f ∙ rw e (go (ltb (position_or_len p s) (length s)) refl) in
+    (z, omega (arith, most))
+  where
+    most : position_or_len p s ≤ length s
+    most = prefix_len-le-length (λ x. not (p x)) s
+
+    go : (t : Bool) → ltb (position_or_len p s) (length s) ≡ t
+        → unwrap_or (cond t (Some (position_or_len p s)) None) (length s) ≡ position_or_len p s
+    go true h = refl
+    go false h = omega (arith, most, ltb-false (position_or_len p s) (length s) h)
+
 -- up to the first byte that is none of a name, or all
 pub letters-found : (s : List ℕ) (r : Option ℕ) (n : ℕ)
     → r ≡ (let i = position_or_len (λ x. not (name_byte x)) s in cond (ltb i (length s)) (Some i) None)
     → n ≡ unwrap_or r (length s) → (n ≡ letters s) × (n ≤ length s)
-letters-found s r n e f = let z : n ≡ letters s = f ∙ rw (e, letters-is s) (go (ltb (letters s) (length s)) refl) in
-    (z, omega (arith, most))
-  where
-    most : letters s ≤ length s
-    most = rw (← letters-is s) (prefix_len-le-length (λ x. not (not (name_byte x))) s)
+letters-found s r n e f = rw (← letters-is s) (found (λ x. not (name_byte x)) s r n e f)
 
-    go : (t : Bool) → ltb (letters s) (length s) ≡ t
-        → unwrap_or (cond t (Some (letters s)) None) (length s) ≡ letters s
-    go true h = refl
-    go false h = omega (arith, most, ltb-false (letters s) (length s) h)
+-- up to the first zero of a cell, or all
+pub zero-found : (s : List ℕ) (r : Option ℕ) (n : ℕ) → cell_ok s ≡ true
+    → r ≡ (let i = position_or_len (λ x. eqb x 0) s in cond (ltb i (length s)) (Some i) None)
+    → n ≡ unwrap_or r (length s) → n ≡ letters s
+unfolding cell_ok
+zero-found s r n c e f =
+    (found (λ x. eqb x 0) s r n e f).0 ∙ zeros-end s (and_right (leb 1 (letters s)) _ c)
 
 -- ---- the numbers from s on, as the library goes over them and as the definitions do
 

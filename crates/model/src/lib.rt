@@ -4,7 +4,7 @@
 ghost use Rattle.std.specs.Prelude.{◌≡◌, ◌+◌, ◌*◌, ◌≤◌, true, false, length, MatchResult};
 ghost use Rattle.spec.specs.declared.Refusal.TheVariants.{Model as Refused};
 ghost use Rattle.spec.specs.Model.{letters, parent_of, component_name, category_of};
-ghost use Rattle.spec.specs.Model.{component_of, item_name, model_ok, name_bytes, name_cell, name_text};
+ghost use Rattle.spec.specs.Model.{component_of, item_name, model_ok, name_bytes, name_cell, name_text, cell_ok};
 
 use spec::Refusal;
 
@@ -95,13 +95,15 @@ fn name_cell(names: &[u8], k: u64) -> &[u8]
     &names[at..at + spec::NAME_BYTES]
 }
 
-// The text of name k.
-pub fn name_text(names: &[u8], k: u64) -> &[u8]
-    requires { name_bytes * k + name_bytes ≤ length names.now }
+// The text of name k of checked names. It ends where its cell's zeros begin: one test a byte finds that place, where
+// name_length tests each range of a name's bytes.
+fn name_text(names: &[u8], k: u64) -> &[u8]
+    requires room { name_bytes * k + name_bytes ≤ length names.now }
+    requires cell { cell_ok (name_cell names.now k) ≡ true }
     ensures { result.now ≡ name_text names.now k }
 {
     let cell = name_cell(names, k);
-    &cell[..name_length(cell)]
+    &cell[..cell.iter().position(|x| *x == 0).unwrap_or(cell.len())]
 }
 
 // Whether model and names keep their rules.
