@@ -6,7 +6,7 @@ use Rattle.streams.specs.Streams.{Row, row_in, row_component, row_group, groups}
 
 -- more rows than these have no lists
 abbrev pub few : ℕ
-few = 512
+few = 255
 
 -- row j
 abbrev pub reply_row : List ℕ → ℕ → Row

@@ -23,7 +23,7 @@ use writer::Output;
 
 mod lists;
 
-use lists::{FEW, Lists};
+use lists::{FEW, Lists, lists_of};
 
 const COMPONENT_SLOTS: usize = spec::MAX_COMPONENTS as usize;
 
@@ -146,7 +146,7 @@ impl<'a> Document<'a> {
         ensures { result ≡ record { model = model.entry.words; names = model.entry.names.now; reply = reply.entry } }
     {
         let present = groups_present(&model.words, &reply);
-        let lists = lists::lists_of(&model.words, &reply);
+        let lists = lists_of(&model.words, &reply);
         Document {
             model,
             reply,

@@ -3,7 +3,7 @@ use mathlib.Core.Path.{◌≡◌, refl, ◌∙◌}
 use native.Mathlib.Omega.{arith}
 use Rattle.row_groups.proofs.Laws.{own-item, own-word}
 use Rattle.row_groups.proofs.Listing.{listed-none, listing-more}
-use Rattle.row_groups.proofs.lists.listed.Goals as goal
+use Rattle.row_groups.proofs.lists.lists_of.Goals as goal
 
 pub loop-i-init : goal.loop-i-init
 loop-i-init c = listed-none _ _ _ (omega arith)
@@ -13,17 +13,17 @@ pub home_of-c-requires : goal.home_of-c-requires
 home_of-c-requires c =
     let a = c.args in
     own-item a.model.now a.reply.now (c.loop-i.i - 1) c.row_at.ensures.packed c.item_of-item.ensures
-    c.requires.placed.accepted (omega arith)
+    c.requires.accepted (omega arith)
 
 pub loop-i-preserved : goal.loop-i-preserved
 loop-i-preserved c =
     let a = c.args in
     let q = c.loop-i in
-    let placed = c.requires.placed in
+    let placed = c.requires in
     let item =
     own-item a.model.now a.reply.now (q.i - 1) c.row_at.ensures.packed c.item_of-item.ensures
     placed.accepted (omega arith) in
-    listing-more a.model.now a.reply.now q.i (omega arith) (omega arith) c.requires.few q.invariant _ _ _
+    listing-more a.model.now a.reply.now q.i (omega arith) (omega arith) (omega arith) q.invariant _ _ _
     (own-word a.model.now a.reply.now (q.i - 1) c.row_at.ensures.packed c.item_of-item.ensures refl)
     c.home_of-c.ensures.component (c.slot_of-slot.ensures.0 ∙ c.home_of-c.ensures.group)
     (omega (arith, c.home_of-c.ensures.component, placed.component c.item_of-item.result item, placed.sizes.c_max))
@@ -32,4 +32,4 @@ loop-i-preserved c =
 pub returns : goal.returns
 returns c =
     let z : c.loop-i.i ≡ 0 = omega arith in
-    rw z at c.loop-i.invariant
+    λ h. rw z at c.loop-i.invariant
