@@ -62,25 +62,26 @@ pub fn checked_time(d: Date) -> Option<u64>
     real_date(d).then(|| time_of(d))
 }
 
-// The date of a time.
+// The date of a time. What is within a day and within four years fits 32 bits, where a division takes fewer
+// instructions.
 pub fn date_of(t: u64) -> Date
     ensures { result ≡ date_of t }
 {
     let seconds = t / 1000;
-    let minutes = seconds / 60;
-    let hours = minutes / 60;
-    let n = hours / 24 + 671;
-    let r = n % 1461;
+    let of_day = (seconds % 86400) as u32;
+    let minutes = of_day / 60;
+    let n = seconds / 86400 + 671;
+    let r = (n % 1461) as u32;
     let y = (4 * r + 3) / 1461;
     let e = r - 365 * y;
     let p = (5 * e + 2) / 153;
     Date {
-        year: 1968 + 4 * (n / 1461) + (y + p / 10),
-        month: (p + 2) % 12 + 1,
-        day: e - (153 * p + 2) / 5 + 1,
-        hour: hours % 24,
-        minute: minutes % 60,
-        second: seconds % 60,
+        year: 1968 + 4 * (n / 1461) + u64::from(y + p / 10),
+        month: u64::from((p + 2) % 12 + 1),
+        day: u64::from(e - (153 * p + 2) / 5 + 1),
+        hour: u64::from(minutes / 60),
+        minute: u64::from(minutes % 60),
+        second: u64::from(of_day % 60),
         milli: t % 1000,
     }
 }

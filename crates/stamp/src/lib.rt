@@ -1,7 +1,7 @@
 // The 24 bytes of a time's stamp, written.
 #![tactic(auto)]
 
-ghost use Rattle.std.specs.Prelude.{◌≡◌, ◌+◌, ◌%◌};
+ghost use Rattle.std.specs.Prelude.{◌≡◌, ◌+◌, ◌*◌, ◌/◌, ◌%◌, ◌<◌};
 ghost use Rattle.lines.specs.Stamps.{date_text, stamp_text};
 ghost use Rattle.writer.specs.Puts.{Put};
 
@@ -12,41 +12,74 @@ use writer::Output;
 // The last millisecond of 2099: no later time has a stamp.
 pub const MAX_TIME: u64 = 4102444799999;
 
-// The last digit of n. A remainder by 10 fits a byte.
-fn digit(n: u64) -> u8
-    ensures { result ≡ 48 + n % 10 }
+// The two digits of n as one number, the first of them its low byte, so that both are stored at once: the tens t, and
+// 256 times n - 10 * t behind them, each with 48 added.
+fn pair(n: u64) -> u64
+    requires { n < 100 }
+    ensures { result ≡ 48 + n / 10 + 256 * (48 + n % 10) }
 {
-    b'0' + ((n % 10) as u8)
+    256 * n + 12336 - 2559 * (n / 10)
 }
 
-// The 24 bytes of a date, made in an array of their own and put at once.
-pub fn put_date(out: &mut Output, d: Date)
+// The first digit of a pair.
+fn tens(pair: u64) -> u8
+    ensures { result ≡ pair % 256 }
+{
+    (pair % 256) as u8
+}
+
+// The second.
+fn ones(pair: u64) -> u8
+    requires { pair < 65536 }
+    ensures { result ≡ pair / 256 }
+{
+    (pair / 256) as u8
+}
+
+// The 24 bytes of a date, made in an array of their own and put at once. Its fields are as long as they are shown; of
+// a year the last four digits are.
+fn put_date(out: &mut Output, d: Date)
+    requires month { d.month < 100 }
+    requires day { d.day < 100 }
+    requires hour { d.hour < 100 }
+    requires minute { d.minute < 100 }
+    requires second { d.second < 100 }
+    requires milli { d.milli < 1000 }
     ensures { Put out.old (date_text d) out.new }
 {
+    let year = d.year % 10000;
+    let century = pair(year / 100);
+    let of_century = pair(year % 100);
+    let month = pair(d.month);
+    let day = pair(d.day);
+    let hour = pair(d.hour);
+    let minute = pair(d.minute);
+    let second = pair(d.second);
+    let centi = pair(d.milli / 10);
     out.put_bytes(&[
-        digit(d.year / 1000),
-        digit(d.year / 100),
-        digit(d.year / 10),
-        digit(d.year),
+        tens(century),
+        ones(century),
+        tens(of_century),
+        ones(of_century),
         b'-',
-        digit(d.month / 10),
-        digit(d.month),
+        tens(month),
+        ones(month),
         b'-',
-        digit(d.day / 10),
-        digit(d.day),
+        tens(day),
+        ones(day),
         b'T',
-        digit(d.hour / 10),
-        digit(d.hour),
+        tens(hour),
+        ones(hour),
         b':',
-        digit(d.minute / 10),
-        digit(d.minute),
+        tens(minute),
+        ones(minute),
         b':',
-        digit(d.second / 10),
-        digit(d.second),
+        tens(second),
+        ones(second),
         b'.',
-        digit(d.milli / 100),
-        digit(d.milli / 10),
-        digit(d.milli),
+        tens(centi),
+        ones(centi),
+        b'0' + ((d.milli % 10) as u8),
         b'Z',
     ]);
 }

@@ -1,19 +1,55 @@
--- A tenth of a tenth is a hundredth.
-use Prim.Native.Nat.{ℕ, ◌/◌}
+-- The bytes of a pair are its two digits, and those of the year's halves its four.
+use Prim.Native.Nat.{ℕ, ◌+◌, ◌*◌, ◌/◌, ◌%◌, ◌<◌}
 use mathlib.Core.Path.{◌≡◌}
 use native.Mathlib.Omega.{arith}
-use borrow.Author.Rules.{rules}
 use Rattle.lines.specs.Digits.{fixed}
 use Rattle.lines.specs.Stamps.{date_text}
 use Rattle.stamp.proofs.put_date.Goals as goal
 
-hundredth : (n : ℕ) → n / 10 / 10 ≡ n / 100
-hundredth n = omega arith
+-- what a pair is
+abbrev paired : ℕ → ℕ
+paired n = 48 + n / 10 + 256 * (48 + n % 10)
 
-thousandth : (n : ℕ) → n / 100 / 10 ≡ n / 1000
-thousandth n = omega arith
+upper : {p b n : ℕ} → n < 100 → p ≡ paired n → b ≡ p % 256 → b ≡ 48 + n / 10 % 10
+upper h e f = omega arith
+
+lower : {p b n : ℕ} → n < 100 → p ≡ paired n → b ≡ p / 256 → b ≡ 48 + n % 10
+lower h e f = omega arith
+
+-- the four digits of a year
+thousands : (y : ℕ) {p b : ℕ} → p ≡ paired (y % 10000 / 100) → b ≡ p % 256 → b ≡ 48 + y / 10 / 10 / 10 % 10
+thousands y e f = omega (arith, upper {n = y % 10000 / 100} (omega arith) e f)
+
+hundreds : (y : ℕ) {p b : ℕ} → p ≡ paired (y % 10000 / 100) → b ≡ p / 256 → b ≡ 48 + y / 10 / 10 % 10
+hundreds y e f = omega (arith, lower {n = y % 10000 / 100} (omega arith) e f)
+
+year-tens : (y : ℕ) {p b : ℕ} → p ≡ paired (y % 10000 % 100) → b ≡ p % 256 → b ≡ 48 + y / 10 % 10
+year-tens y e f = omega (arith, upper {n = y % 10000 % 100} (omega arith) e f)
+
+year-ones : (y : ℕ) {p b : ℕ} → p ≡ paired (y % 10000 % 100) → b ≡ p / 256 → b ≡ 48 + y % 10
+year-ones y e f = omega (arith, lower {n = y % 10000 % 100} (omega arith) e f)
 
 pub returns : goal.returns
 unfolding fixed date_text
 returns c =
-    simp (hundredth, thousandth) (search rules)
+    let d = c.args.d in
+    let h = c.requires in
+    let centi : d.milli / 10 < 100 = omega (arith, h.milli) in
+    rw (
+      thousands d.year c.pair-century.ensures c.tens.ensures,
+      hundreds d.year c.pair-century.ensures c.ones.ensures,
+      year-tens d.year c.pair-of_century.ensures c.tens-2.ensures,
+      year-ones d.year c.pair-of_century.ensures c.ones-2.ensures,
+      upper h.month c.pair-month.ensures c.tens-3.ensures,
+      lower h.month c.pair-month.ensures c.ones-3.ensures,
+      upper h.day c.pair-day.ensures c.tens-4.ensures,
+      lower h.day c.pair-day.ensures c.ones-4.ensures,
+      upper h.hour c.pair-hour.ensures c.tens-5.ensures,
+      lower h.hour c.pair-hour.ensures c.ones-5.ensures,
+      upper h.minute c.pair-minute.ensures c.tens-6.ensures,
+      lower h.minute c.pair-minute.ensures c.ones-6.ensures,
+      upper h.second c.pair-second.ensures c.tens-7.ensures,
+      lower h.second c.pair-second.ensures c.ones-7.ensures,
+      upper centi c.pair-centi.ensures c.tens-8.ensures,
+      lower centi c.pair-centi.ensures c.ones-8.ensures,
+    ) at c.put_bytes.ensures
