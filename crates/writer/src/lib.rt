@@ -188,3 +188,18 @@ pub fn write_whole<F: Fn(&mut Output)>(text: &mut [u8], put: F) -> Answer
     }
     write_fitting(text, put)
 }
+
+// How many digits `put_decimal` puts: one, and one more for each power of ten from 10 on that is at most n. The next
+// power is compared by a tenth of n, and so fits where it is made. No ilog10: the archive would have its table.
+pub fn decimal_length(n: u64) -> usize
+    ensures { result ≡ length (decimal n) }
+{
+    let tenth = n / 10;
+    let mut power = 1;
+    let mut more = 0;
+    while power <= tenth {
+        power *= 10;
+        more += 1;
+    }
+    1 + more
+}
