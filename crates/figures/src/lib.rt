@@ -1,12 +1,11 @@
 // The text of a value, as adapter lines and documents have it.
 #![tactic(auto)]
 
-ghost use Rattle.std.specs.Prelude.{◌≡◌, length};
 ghost use Rattle.lines.specs.Lines.{level_word, part_text, point_text, unsigned_text, sample_text, value_text};
 ghost use Rattle.writer.specs.Puts.{Put};
 
 use spec::{Level, Value};
-use writer::{Output, decimal_length};
+use writer::Output;
 
 // Thousandths without zeros at the end.
 fn put_part(out: &mut Output, p: u64)
@@ -78,72 +77,5 @@ pub fn put_value(out: &mut Output, v: Value)
         Value::Sample(x) => put_sample(out, x),
         Value::Event(c) => out.put_decimal(u64::from(c)),
         Value::Condition(l, c) => put_state(out, l, c),
-    }
-}
-
-// The lengths of these texts, as they are split above, for a text that is measured before it is written.
-
-// Of thousandths without zeros at the end.
-fn part_length(n: u64) -> usize
-    ensures { result ≡ length (part_text n) }
-{
-    if n % 100 == 0 {
-        1
-    } else if n % 10 == 0 {
-        2
-    } else {
-        3
-    }
-}
-
-// Of the point and the thousandths, if there are any.
-fn point_length(n: u64) -> usize
-    ensures { result ≡ length (point_text n) }
-{
-    if n == 0 { 0 } else { 1 + part_length(n) }
-}
-
-// Of n thousandths.
-fn unsigned_length(n: u64) -> usize
-    ensures { result ≡ length (unsigned_text n) }
-{
-    decimal_length(n / 1000) + point_length(n % 1000)
-}
-
-// Of a sample.
-fn sample_length(x: i32) -> usize
-    ensures { result ≡ length (sample_text x) }
-{
-    let digits = unsigned_length(u64::from(x.unsigned_abs()));
-    if x.is_negative() { 1 + digits } else { digits }
-}
-
-// Of a level's word.
-fn level_length(l: Level) -> usize
-    ensures { result ≡ length (level_word l) }
-{
-    match l {
-        Level::Normal => 6,
-        Level::Warning => 7,
-        Level::Fault => 5,
-    }
-}
-
-// Of a level's word, ':' and the code.
-fn state_length(l: Level, c: u32) -> usize
-    ensures { result ≡ length (value_text (Value.Condition l c)) }
-{
-    level_length(l) + 1 + decimal_length(u64::from(c))
-}
-
-// Of a value.
-pub fn value_length(v: Value) -> usize
-    ensures { result ≡ length (value_text v) }
-{
-    match v {
-        Value::Unavailable => 11,
-        Value::Sample(x) => sample_length(x),
-        Value::Event(c) => decimal_length(u64::from(c)),
-        Value::Condition(l, c) => state_length(l, c),
     }
 }

@@ -12,6 +12,9 @@ use writer::Output;
 // The last millisecond of 2099: no later time has a stamp.
 pub const MAX_TIME: u64 = 4102444799999;
 
+// How many bytes every stamp has.
+const STAMP_BYTES: usize = 24;
+
 // The two digits of n as one number, the first of them its low byte, so that both are stored at once: the tens t, and
 // 256 times n - 10 * t behind them, each with 48 added.
 fn pair(n: u64) -> u64
@@ -84,9 +87,13 @@ fn put_date(out: &mut Output, d: Date)
     ]);
 }
 
-// The 24 bytes of a time.
+// The 24 bytes of a time; behind the buffer they are only counted.
 pub fn put_stamp(out: &mut Output, t: u64)
     ensures { Put out.old (stamp_text t) out.new }
 {
+    if out.is_full() {
+        out.skip(STAMP_BYTES);
+        return;
+    }
     put_date(out, date_of(t));
 }

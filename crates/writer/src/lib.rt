@@ -65,11 +65,9 @@ impl<'a> Output<'a> {
 
     // Counts a text of n bytes, none of which would be written.
     pub fn skip(&mut self, n: usize)
-        ghost s: { List ℕ }
         requires short { length self.now.bytes.now ≤ 2 ^ 63 }
         requires full { length self.now.bytes.now ≤ self.now.at }
-        requires counted { n ≡ length s }
-        ensures { Put self.old s self.new }
+        ensures { (s : List ℕ) → n ≡ length s → Put self.old s self.new }
     {
         self.at = onward(self.at, n);
     }
@@ -130,10 +128,14 @@ impl<'a> Output<'a> {
         self.put_bytes(&digits);
     }
 
-    // The digits of n, made from the last one on.
+    // The digits of n, made from the last one on; behind the buffer they are only counted.
     pub fn put_decimal(&mut self, n: u64)
         ensures { Put self.old (decimal n) self.new }
     {
+        if self.is_full() {
+            self.skip(decimal_length(n));
+            return;
+        }
         let mut digits = [0; 20];
         let mut i = 19;
         digits[i] = b'0' + ((n % 10) as u8);
@@ -147,6 +149,21 @@ impl<'a> Output<'a> {
         }
         self.put_bytes(&digits[i..]);
     }
+}
+
+// How many digits `put_decimal` puts: one, and one more for each power of ten from 10 on that is at most n. The next
+// power is compared by a tenth of n, and so fits where it is made. No ilog10: the archive would have its table.
+pub fn decimal_length(n: u64) -> usize
+    ensures { result ≡ length (decimal n) }
+{
+    let tenth = n / 10;
+    let mut power = 1;
+    let mut more = 0;
+    while power <= tenth {
+        power *= 10;
+        more += 1;
+    }
+    1 + more
 }
 
 // The length of what `put` puts, which is put over no bytes; it stops at 2^63.
@@ -187,19 +204,4 @@ pub fn write_whole<F: Fn(&mut Output)>(text: &mut [u8], put: F) -> Answer
         return Err(Refusal::Space);
     }
     write_fitting(text, put)
-}
-
-// How many digits `put_decimal` puts: one, and one more for each power of ten from 10 on that is at most n. The next
-// power is compared by a tenth of n, and so fits where it is made. No ilog10: the archive would have its table.
-pub fn decimal_length(n: u64) -> usize
-    ensures { result ≡ length (decimal n) }
-{
-    let tenth = n / 10;
-    let mut power = 1;
-    let mut more = 0;
-    while power <= tenth {
-        power *= 10;
-        more += 1;
-    }
-    1 + more
 }

@@ -2,7 +2,8 @@
 use Prim.Native.Nat.{ℕ, ◌<◌}
 use mathlib.Core.Path.{sym}
 use native.Mathlib.Omega.{arith}
-use Rattle.lines.specs.Stamps.{cycle_month, cycle_day, date_of}
+use Rattle.lines.specs.Stamps.{cycle_month, cycle_day, date_of, stamp_text}
+use Rattle.lines.proofs.Stamps.{text-length}
 use Rattle.stamp.proofs.put_stamp.Goals as goal
 
 month-few : (t : ℕ) → (date_of t).month < 100
@@ -52,6 +53,9 @@ put_date-requires-clause-second c =
 pub put_date-requires-clause-milli : goal.put_date-requires-clause-milli
 put_date-requires-clause-milli c =
     rw c.date_of.ensures (milli-few c.args.t)
+
+pub returns-then-is_full : goal.returns-then-is_full
+returns-then-is_full c = c.skip.ensures (stamp_text c.args.t) (sym (text-length (date_of c.args.t)))
 
 pub returns : goal.returns
 returns c =
