@@ -5,7 +5,6 @@ use mathlib.Core.Bool.{Bool, true, false, ◌||◌}
 use mathlib.Core.List.{List, [], ◌∷◌, ◌++◌, map, map-append, append_assoc, append-nil}
 use native.Mathlib.Omega.{arith}
 use borrow.Author.Tests.{eq-eqb, ne_eqb, eqb-true, eqb-false, ltb-true, ltb-false}
-use denote.Enum.Bare.{sameb}
 use lib.Dec.{ltb, eqb}
 use lib.ListN.{length, get_or, set, take, replicate, length-set, get_or-replicate}
 use lib.ListN.{length-replicate, get_or-eq_default}
@@ -22,7 +21,6 @@ use Rattle.streams.specs.Streams.{Row, row_of, row_in, group_of, packed_ok, word
 use Rattle.streams.specs.Streams.{row_component, row_group, groups, tag, end_tag, row_line, between, group_name}
 use Rattle.streams.specs.Streams.{item_type, row_lines, group_lines, ended}
 use Rattle.streams.specs.Groups.{group_number}
-use Rattle.streams.specs.contracts.Group.{the_type}
 use Rattle.streams.specs.declared.Group.{Group}
 use Rattle.streams.specs.declared.Group.TheVariants.{Samples, Events, Condition}
 use Rattle.streams.proofs.Rows.{row_at, rows-length, rows-suc, all-at}
@@ -39,25 +37,6 @@ pub number-small : (g : Group) → group_number g < groups
 number-small Samples = omega arith
 number-small Events = omega arith
 number-small Condition = omega arith
-
--- the test of two groups is that of their numbers
-tested : (g h : Group) → sameb the_type g h ≡ eqb (group_number g) (group_number h)
-tested Samples Samples = refl
-tested Samples Events = refl
-tested Samples Condition = refl
-tested Events Samples = refl
-tested Events Events = refl
-tested Events Condition = refl
-tested Condition Samples = refl
-tested Condition Events = refl
-tested Condition Condition = refl
-
-module _ (g h : Group) {t : Bool} (e : t ≡ sameb the_type g h) where
-  pub number-same : t ≡ true → group_number g ≡ group_number h
-  number-same f = eqb-true _ _ (sym (tested g h) ∙ (sym e ∙ f))
-
-  pub number-other : t ≡ false → group_number g ≡ group_number h → ⊥
-  number-other f = eqb-false _ _ (sym (tested g h) ∙ (sym e ∙ f))
 
 -- ---- what the call's checks give
 
@@ -133,26 +112,28 @@ module _ (model names : List ℕ) (c g : ℕ) where
   text-one rows x e = rw e
 
   -- a row's own line, or nothing
-  module _ (r : List ℕ) {word : ℕ} (e : word ≡ item_word model (item_of (get_or r 2 0))) {o : Output} where
-    pub line-not-component : (component_of word ≡ c → ⊥) → length o.bytes.now ≤ stop
-        → Put o (kept_text model names c g (row_in r ∷ [])) o
-    line-not-component n h =
-        rw (text-none (row_in r ∷ []) (kept-not-component model c g (row_in r) (rw e at n))) (put-none o h)
+  module _ (r : List ℕ) {o : Output} where
+    pub line-none : (row_component model (row_in r) ≡ c → row_group model (row_in r) ≡ g → ⊥)
+        → length o.bytes.now ≤ stop → Put o (kept_text model names c g (row_in r ∷ [])) o
+    line-none n h = rw (text-none (row_in r ∷ []) none) (put-none o h)
+      where
+        none : kept model c g (row_in r ∷ []) ≡ []
+        none =
+            by-test (eqb (row_component model (row_in r)) c)
+            (λ t.
+            let e = eqb-true (row_component model (row_in r)) c t in
+            kept-not-group model c g (row_in r) e (n e))
+            (λ t. kept-not-component model c g (row_in r) (eqb-false (row_component model (row_in r)) c t))
 
-    pub line-not-group : component_of word ≡ c → (group_of (category_of word) ≡ g → ⊥) → length o.bytes.now ≤ stop
-        → Put o (kept_text model names c g (row_in r ∷ [])) o
-    line-not-group f n h =
-        rw (text-none (row_in r ∷ []) (kept-not-group model c g (row_in r) (rw e at f) (rw e at n))) (put-none o h)
-
-    pub line-put : component_of word ≡ c → group_of (category_of word) ≡ g → {o₁ : Output}
+    pub line-put : row_component model (row_in r) ≡ c → row_group model (row_in r) ≡ g → {o₁ : Output}
         → Put o (row_line g (item_type model names (row_in r).item) (row_in r) ++ 10 ∷ []) o₁
         → Put o (kept_text model names c g (row_in r ∷ [])) o₁
-    line-put f h b =
-        rw (text-one (row_in r ∷ []) (row_in r) (kept-own model c g (row_in r) (rw e at f) (rw e at h))) b
+    line-put f h b = rw (text-one (row_in r ∷ []) (row_in r) (kept-own model c g (row_in r) f h)) b
 
   -- a turn of the pass
   module _ (reply : List ℕ) {o : Output} where
-    pub pass-none : length o.bytes.now ≤ stop → Put o (kept_text model names c g (map row_in (take 0 (rows_of reply)))) o
+    pub pass-none : length o.bytes.now ≤ stop
+        → Put o (kept_text model names c g (map row_in (take 0 (rows_of reply)))) o
     unfolding row_lines ended having
     pass-none h = put-none o h
 
@@ -184,9 +165,11 @@ unfolding having
 marked-none model =
     record {
       len = length-replicate {A = List Bool} max_components (replicate groups false);
-      each = λ c h. rw (get_or-replicate max_components c (replicate groups false) [] h) (length-replicate groups false);
+      each = λ c h.
+          rw (get_or-replicate max_components c (replicate groups false) [] h) (length-replicate groups false);
       at = λ c g h k.
-          rw (get_or-replicate max_components c (replicate groups false) [] h) (get_or-replicate groups g false false k);
+          rw (get_or-replicate max_components c (replicate groups false) [] h)
+          (get_or-replicate groups g false false k);
     }
 
 module _ (model : List ℕ) (rows : List Row) {present : List (List Bool)} (m : Marked model rows present) (x : Row) where

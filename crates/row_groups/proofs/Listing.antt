@@ -1,6 +1,6 @@
 -- The lists of a reply's rows: one row more before them, and the lines of a group's rows along them.
 use Prim.Native.Nat.{ℕ, zero, suc, ◌+◌, ◌-◌, ◌≤◌, ◌<◌}
-use mathlib.Core.Path.{◌≡◌, refl, sym, ◌∙◌}
+use mathlib.Core.Path.{◌≡◌, sym, ◌∙◌}
 use mathlib.Core.List.{List, [], ◌∷◌, ◌++◌, map}
 use native.Mathlib.Omega.{arith}
 use borrow.Author.Tests.{eqb-true, eqb-false}
@@ -17,7 +17,7 @@ use Rattle.writer.specs.Puts.{Put, stop}
 use Rattle.writer.specs.declared.Output.{Output}
 use Rattle.row_groups.specs.Groups.{kept_text}
 use Rattle.row_groups.specs.Lists.{few, reply_row, Stands, Leads, Listed}
-use Rattle.row_groups.proofs.Laws.{line-not-component, line-not-group, line-put, pass-more}
+use Rattle.row_groups.proofs.Laws.{line-none, line-put, pass-more}
 
 -- ---- the lists of the rows from n on
 
@@ -153,14 +153,7 @@ module _ (model names reply : List ℕ) (c g : ℕ) {l : Output} (h : length l.b
   -- what does not stand in the group puts nothing
   none-put : (j : ℕ) → (Stands model reply c g j → ⊥)
       → Put l (kept_text model names c g (row_in (row_at reply j) ∷ [])) l
-  none-put j n =
-      by-test (eqb (row_component model (reply_row reply j)) c)
-      (λ t.
-      let e = eqb-true (row_component model (reply_row reply j)) c t in
-      line-not-group model names c g (row_at reply j) refl e (λ q. n (record { component = e; group = q })) h)
-      (λ t.
-      line-not-component model names c g (row_at reply j) refl
-      (eqb-false (row_component model (reply_row reply j)) c t) h)
+  none-put j n = line-none model names c g (row_at reply j) (λ e f. n (record { component = e; group = f })) h
 
   skip-put : {o : Output} (d p : ℕ) → p + d ≤ get_or reply 0 0
       → ((j : ℕ) → p ≤ j → j < p + d → Stands model reply c g j → ⊥)
@@ -208,4 +201,4 @@ module _ (model names reply : List ℕ) (c g : ℕ) {o : Output} where
       reach (suc i) (get_or next i 0) (short-after b)
       (rw (S.component, S.group) at (L.follows i (omega arith) k))
       (pass-more model names c g reply i k r.lines
-      (line-put model names c g (row_at reply i) refl S.component S.group b))
+      (line-put model names c g (row_at reply i) S.component S.group b))

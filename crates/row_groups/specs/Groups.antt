@@ -5,6 +5,7 @@ use Rattle.spec.specs.Model.{Sizes, Checked, max_components, components, items, 
 use Rattle.spec.specs.Reply.{rows_of}
 use Rattle.streams.specs.Streams.{Row, row_in, reply_ok, having, row_component, row_group, groups, row_lines, ended}
 use Rattle.row_groups.specs.Lists.{few, Listed}
+use Rattle.row_groups.specs.Slots.{Slotted}
 
 -- ---- what a document is made of
 
@@ -61,9 +62,10 @@ pub record Placed (model reply : List ℕ) : Type 0 where
   pub component : (j : ℕ) → j < items model → component_of (item_word model j) < components model
   pub accepted : reply_ok model reply ≡ true
 
--- a document's source, with the marks of its rows, and the lists of few
-pub record Ready (model names reply : List ℕ) (present : List (List Bool)) (first : List (List ℕ)) (next : List ℕ)
-    : Type 0 where
+-- a document's source, with the marks of its rows, the lists of few, and the items' slots
+pub record Ready (model names reply : List ℕ) (present : List (List Bool)) (first : List (List ℕ))
+    (next slots : List ℕ) : Type 0 where
   pub documented : Documented model names reply
   pub marked : Marked model (reply_rows reply) present
   pub listed : get_or reply 0 0 ≤ few → Listed model reply 0 first next
+  pub slotted : Slotted model (items model) slots

@@ -1,7 +1,7 @@
 // A component's rows in a document, group by group.
 #![tactic(auto)]
 
-ghost use Rattle.std.specs.Prelude.{true, false, [], ◌∷◌, ◌++◌, ◌≡◌, ◌<◌, ◌≤◌, ◌^◌, get_or, leb, MatchResult};
+ghost use Rattle.std.specs.Prelude.{true, false, [], ◌∷◌, ◌++◌, ◌≡◌, ◌<◌, ◌≤◌, ◌/◌, ◌%◌, ◌^◌, get_or, leb, MatchResult};
 ghost use Rattle.spec.specs.declared.Refusal.TheVariants.{Store as Refused};
 ghost use Rattle.spec.specs.Model.{max_components, components, items, item_word, component_of, category_of};
 ghost use Rattle.spec.specs.Reply.{rows_of};
@@ -22,8 +22,10 @@ use streams::{GROUPS, Group};
 use writer::Output;
 
 mod lists;
+mod slots;
 
 use lists::{FEW, Lists, lists_of};
+use slots::{Slots, slot_in, slots_of};
 
 const COMPONENT_SLOTS: usize = spec::MAX_COMPONENTS as usize;
 
@@ -108,14 +110,15 @@ fn put_tag(before: &[u8], g: Group, out: &mut Output)
 
 // ---- a document
 
-// What a document is made of: a model with its names, a reply that has only the model's rows, and the marks and the
-// lists of these. A clause sees the words and bytes.
+// What a document is made of: a model with its names, a reply that has only the model's rows, the marks and the lists
+// of these, and the slots of the model's items. A clause sees the words and bytes.
 #[derive(Drop)]
 pub struct Document<'a> {
     pub model: Named<'a>,
     pub reply: Reply<'a>,
     present: Present,
     lists: Lists,
+    slots: Slots,
 }
 
 impl<'a> Model for Document<'a> {
@@ -125,7 +128,8 @@ impl<'a> Model for Document<'a> {
 
     ghost view = { λ d. record { model = d.model.words; names = d.model.names.now; reply = d.reply } };
 
-    ghost invariant = { λ d. Ready d.model.words d.model.names.now d.reply d.present d.lists.first d.lists.next };
+    ghost invariant = { λ d.
+        Ready d.model.words d.model.names.now d.reply d.present d.lists.first d.lists.next d.slots };
 }
 
 impl<'a> Document<'a> {
@@ -147,11 +151,13 @@ impl<'a> Document<'a> {
     {
         let present = groups_present(&model.words, &reply);
         let lists = lists_of(&model.words, &reply);
+        let slots = slots_of(&model.words);
         Document {
             model,
             reply,
             present,
             lists,
+            slots,
         }
     }
 
@@ -200,17 +206,16 @@ impl<'a> Document<'a> {
         put_group_row(out, g, t, &row);
     }
 
-    // Row i's line, if its item is of component c and group g.
-    fn put_if(&self, i: usize, c: u64, g: Group, out: &mut Output)
-        requires { i < get_or self.now.reply 0 0 }
+    // Row i's line, if its item's slot is `own`, which is one of group g's.
+    fn put_if(&self, i: usize, own: u8, g: Group, out: &mut Output)
+        requires there { i < get_or self.now.reply 0 0 }
+        requires group { own % groups ≡ group_number g }
         ensures { Put out.old
-            (kept_text self.now.model self.now.names c (group_number g)
+            (kept_text self.now.model self.now.names (own / groups) (group_number g)
             (reply_row self.now.reply i ∷ []))
             out.new }
     {
-        let item = value::item_of(self.reply.row_at(i).packed);
-        let (component, group) = home_of(&self.model.words, item);
-        if component == c && group == g {
+        if self.slots[value::item_of(self.reply.row_at(i).packed) as usize] == own {
             // reads it again, so that a row that isn't written costs its packed word alone: else 100 took 52 µs for 49
             self.put_row(i, g, out);
         }
@@ -218,12 +223,14 @@ impl<'a> Document<'a> {
 
     // The lines of the rows of component c and group g, which are looked for among all rows.
     fn put_searched(&self, c: u64, g: Group, out: &mut Output)
+        requires { c < max_components }
         ensures { Put out.old
             (kept_text self.now.model self.now.names c (group_number g) (reply_rows self.now.reply))
             out.new }
     {
+        let own = slot_in(c, g);
         for i in 0..self.reply.rows() {
-            self.put_if(i, c, g, out);
+            self.put_if(i, own, g, out);
         }
     }
 
