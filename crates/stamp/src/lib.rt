@@ -15,6 +15,13 @@ pub const MAX_TIME: u64 = 4102444799999;
 // How many bytes every stamp has.
 const STAMP_BYTES: usize = 24;
 
+// The last digit of n. A remainder by 10 fits a byte.
+fn digit(n: u64) -> u8
+    ensures { result ≡ 48 + n % 10 }
+{
+    b'0' + ((n % 10) as u8)
+}
+
 // The two digits of n as one number, the first of them its low byte, so that both are stored at once: the tens t, and
 // 256 times n - 10 * t behind them, each with 48 added.
 fn pair(n: u64) -> u64
@@ -40,7 +47,8 @@ fn ones(pair: u64) -> u8
 }
 
 // The 24 bytes of a date, made in an array of their own and put at once. Its fields are as long as they are shown; of
-// a year the last four digits are.
+// a year the last four digits are. Its first two are no pair: of two beside each other the compiler makes vectors, with
+// constants in the archive.
 fn put_date(out: &mut Output, d: Date)
     requires month { d.month < 100 }
     requires day { d.day < 100 }
@@ -50,9 +58,7 @@ fn put_date(out: &mut Output, d: Date)
     requires milli { d.milli < 1000 }
     ensures { Put out.old (date_text d) out.new }
 {
-    let year = d.year % 10000;
-    let century = pair(year / 100);
-    let of_century = pair(year % 100);
+    let year = pair(d.year % 100);
     let month = pair(d.month);
     let day = pair(d.day);
     let hour = pair(d.hour);
@@ -60,10 +66,10 @@ fn put_date(out: &mut Output, d: Date)
     let second = pair(d.second);
     let centi = pair(d.milli / 10);
     out.put_bytes(&[
-        tens(century),
-        ones(century),
-        tens(of_century),
-        ones(of_century),
+        digit(d.year / 1000),
+        digit(d.year / 100),
+        tens(year),
+        ones(year),
         b'-',
         tens(month),
         ones(month),
@@ -82,7 +88,7 @@ fn put_date(out: &mut Output, d: Date)
         b'.',
         tens(centi),
         ones(centi),
-        b'0' + ((d.milli % 10) as u8),
+        digit(d.milli),
         b'Z',
     ]);
 }
