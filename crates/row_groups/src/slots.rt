@@ -12,7 +12,9 @@ use streams::{GROUPS, Group};
 // For each item its component's number times the groups, and its group: a byte, since there are 192 groups at most.
 pub type Slots = [u8; ITEM_SLOTS];
 
-// Component c's group g among all groups.
+// Component c's group g among all groups. Out of line, so that the compiler makes no vectors of the loop below, with
+// constants in the archive.
+#[inline(never)]
 pub fn slot_in(c: u64, g: Group) -> u8
     requires { c < max_components }
     ensures { result ≡ slot c (group_number g) }

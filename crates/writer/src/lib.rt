@@ -79,9 +79,9 @@ impl<'a> Output<'a> {
         self.put_bytes(&[b]);
     }
 
-    // The bytes of s, as far as the buffer reaches. What fits has a copy of its own, and what is cut stands out of line:
-    // most texts are constants, and by one copy of the lesser length a row of a document takes 1.6 times as long. No
-    // get_mut: what it lends ends as nothing known.
+    // The bytes of s, as far as the buffer reaches. What fits has a copy of its own, and what is cut stands out of
+    // line: most texts are constants, and by one copy of the lesser length a row of a document takes 1.6 times as long.
+    // No get_mut: what it lends ends as nothing known.
     #[inline]
     pub fn put_bytes(&mut self, s: &[u8])
         ensures { Put self.old s.now self.new }
