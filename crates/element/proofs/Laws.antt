@@ -7,6 +7,7 @@ use native.Mathlib.Numerals.{add-one}
 use native.Mathlib.Omega.{arith}
 use borrow.Author.Tests.{le-leb, lt-leb, leb-true, ltb-true, ltb-false}
 use lib.Dec.{leb, ltb, eqb}
+use mir.Val.{bool_byte}
 use lib.ListN.{length, get_or, drop}
 use lib.Seq.{drop-cons}
 use Rattle.spec.specs.Bytes.{digit, split, join_first}
@@ -163,3 +164,69 @@ module _ {s : List ℕ} {i : ℕ} {begins : Bool} {name : List ℕ} (n : Named s
   pub named-all : length s ≤ i → name ≡ element_name s
   unfolding pascal
   named-all h = sym (n.whole ∙ rw (drop_all i s h, append-nil name))
+
+-- ---- how many bytes a name has
+
+-- it begins no matter how: capitals and small letters are as many
+pascal-length : (b c : Bool) (s : List ℕ) → length (pascal b s) ≡ length (pascal c s)
+unfolding pascal
+pascal-length b c [] = refl
+pascal-length b c (x ∷ s) = go (eqb x 95)
+  where
+    go : (t : Bool) → length (cond t (pascal true s) (cased b x ∷ pascal false s))
+        ≡ length (cond t (pascal true s) (cased c x ∷ pascal false s))
+    go true = refl
+    go false = refl
+
+-- i bytes of s are passed, n bytes counted
+pub record Counted (s : List ℕ) (i n : ℕ) : Type 0 where
+  pub inside : i ≤ length s
+  pub few : n + (length s - i) ≤ suc name_bytes
+  pub whole : length (element_name s) ≡ n + length (pascal true (drop i s))
+
+pub counted-none : (s : List ℕ) → length s ≤ name_bytes → {n : ℕ} → n ≡ bool_byte (bare (pascal true s))
+    → Counted s 0 n
+unfolding element_name
+counted-none s h {n} e = go (bare (pascal true s)) refl
+  where
+    go : (t : Bool) → bare (pascal true s) ≡ t → Counted s 0 n
+    go true b =
+        let k : n ≡ 1 = rw b at e in
+        record {
+          inside = omega arith;
+          few = omega arith;
+          whole = rw (pascal-is s, lettered-bare (pascal true s), b, k) (omega arith);
+        }
+    go false b =
+        let k : n ≡ 0 = rw b at e in
+        record {
+          inside = omega arith;
+          few = omega arith;
+          whole = rw (pascal-is s, lettered-bare (pascal true s), b, k) (omega arith);
+        }
+
+module _ {s : List ℕ} {i n : ℕ} (r : Counted s i n) where
+  pub counted-next : i < length s → {k : ℕ} → k ≡ bool_byte (not (get_or s i 0 == 95)) → Counted s (i + 1) (n + k)
+  unfolding pascal
+  counted-next h {k} e = go (eqb (get_or s i 0) 95) refl
+    where
+      go : (t : Bool) → eqb (get_or s i 0) 95 ≡ t → Counted s (i + 1) (n + k)
+      go true q =
+          let z : k ≡ 0 = rw q at e in
+          record {
+            inside = omega arith;
+            few = omega (arith, r.few);
+            whole = r.whole ∙ rw (drop-cons s i 0 h, q, add-one i, z) (omega arith);
+          }
+      go false q =
+          let z : k ≡ 1 = rw q at e in
+          let l = pascal-length false true (drop (suc i) s) in
+          record {
+            inside = omega arith;
+            few = omega (arith, r.few);
+            whole = r.whole ∙ rw (drop-cons s i 0 h, q, add-one i, z) (omega (arith, l));
+          }
+
+  pub counted-all : length s ≤ i → n ≡ length (element_name s)
+  unfolding pascal
+  counted-all h = sym (r.whole ∙ rw (drop_all i s h) (omega arith))

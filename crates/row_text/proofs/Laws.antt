@@ -1,14 +1,19 @@
 -- A row's line by the texts that stand one behind the other in it.
-use Prim.Native.Nat.{ℕ}
-use mathlib.Core.Path.{◌≡◌}
+use Prim.Native.Nat.{ℕ, ◌+◌, ◌≤◌}
+use mathlib.Core.Path.{◌≡◌, sym, ◌∙◌}
 use mathlib.Core.List.{List, [], ◌∷◌, ◌++◌, append_assoc}
+use native.Mathlib.Omega.{arith}
+use lib.ListN.{length, replicate, length-append}
+use lib.Seq.{length-sets}
 use Rattle.lines.specs.Lines.{value_text}
 use Rattle.streams.specs.Streams.{Row, row_attributes, text_line, state_name, native_code, attribute}
 use Rattle.streams.specs.Streams.{condition_line}
 use Rattle.spec.specs.Bytes.{bytes, decimal}
-use Rattle.lines.specs.Stamps.{stamp_text}
+use Rattle.lines.specs.Stamps.{stamp_text, date_of}
+use Rattle.lines.proofs.Stamps.{text-length}
 use Rattle.row_text.specs.Shown.{open_attributes}
-use Rattle.writer.specs.Puts.{Put}
+use Rattle.writer.specs.Puts.{stop, Put}
+use Rattle.writer.proofs.Laws.{sets-out}
 use Rattle.writer.specs.declared.Output.{Output}
 use Rattle.spec.specs.declared.Value.{Value}
 
@@ -51,3 +56,39 @@ module _ {a e : Output} (t : List ℕ) (r : Row) (v : Value) (q : v ≡ r.value)
       let a = attribute (bytes "type") t in
       rw (attributes-closed r, condition-shape (state_name r.value) (open_attributes r) a (native_code r.value))
       (rw q at h)
+
+-- ---- behind the buffer
+
+-- the attributes without the item's and the number's digits
+attributes-length : (r : Row) → length (open_attributes r) ≡ 63 + length (decimal r.item) + length (decimal r.number)
+unfolding open_attributes
+attributes-length r = simp length-append (omega (arith, text-length (date_of r.time)))
+
+-- nothing more is written, and what is counted has room
+pub record Full (a : Output) : Type 0 where
+  pub short : length a.bytes.now ≤ stop
+  pub full : length a.bytes.now ≤ a.at
+
+module _ {a : Output} {s : List ℕ} {e : Output} (h : Full a) (p : Put a s e) where
+  -- it stays so
+  pub full-put : Full e
+  full-put =
+      let k = length-sets a.bytes.now a.at s in
+      let l : length e.bytes.now ≡ length a.bytes.now = rw p.stands k in
+      record { short = omega (arith, h.short); full = omega (arith, h.full, p.place) }
+
+  -- texts of one length do the same
+  pub put-counted : (t : List ℕ) → length t ≡ length s → Put a t e
+  put-counted t q = record {
+    same = p.same;
+    short = p.short;
+    stands = p.stands ∙ (sets-out a.bytes.now a.at s h.full ∙ sym (sets-out a.bytes.now a.at t h.full));
+    place = rw q p.place;
+  }
+
+-- the bytes that every row has, then the element twice, the item, the number and the value
+pub row-counted : {a e : Output} (t : List ℕ) (r : Row) (v : Value) → v ≡ r.value → Full a
+    → Put a (replicate 70 0 ++ (t ++ (t ++ (decimal r.item ++ (decimal r.number ++ value_text v))))) e
+    → Put a (text_line t r ++ 10 ∷ []) e
+row-counted t r v q h p =
+    text-put t r v q (put-counted h p _ (simp length-append (omega (arith, attributes-length r))))

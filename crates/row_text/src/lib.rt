@@ -1,7 +1,7 @@
 // The line of a row, with its line feed.
 #![tactic(auto)]
 
-ghost use Rattle.std.specs.Prelude.{[], ◌∷◌, ◌++◌, ◌≤◌, length};
+ghost use Rattle.std.specs.Prelude.{[], ◌∷◌, ◌++◌, ◌^◌, ◌≤◌, length};
 ghost use Rattle.spec.specs.Model.{name_bytes};
 ghost use Rattle.streams.specs.Streams.{element_name, text_line, state_name, native_code};
 ghost use Rattle.streams.specs.Streams.{condition_line, row_line};
@@ -10,13 +10,17 @@ ghost use Rattle.writer.specs.Puts.{Put};
 ghost use Rattle.row_text.specs.Shown.{shown, open_attributes};
 
 use attributes::{put_number, put_text};
-use element::element_of;
+use element::{element_length, element_of};
 use figures::put_value;
 use spec::{Level, Row, Value};
 use stamp::put_stamp;
 use streams::Group;
 use value::{decode, item_of, word_of};
 use writer::Output;
+
+// How many bytes all rows of Samples and Events have in common: '<', the attributes' names and quotes up to the stamp,
+// the stamp's 24 bytes, and what stands before the value, before the second element and behind it.
+const TEXT_ROW_BYTES: usize = 1 + 14 + 12 + 13 + 24 + 2 + 2 + 2;
 
 // dataItemId, sequence, timestamp, but for the last quote: each quote is put with what stands behind it.
 fn put_attributes(out: &mut Output, row: &Row)
@@ -30,13 +34,17 @@ fn put_attributes(out: &mut Output, row: &Row)
     put_stamp(out, row.time);
 }
 
-// A row of Samples or Events.
+// A row of Samples or Events; behind the buffer it is only counted.
 fn put_text_row(out: &mut Output, t: &[u8], row: &Row)
     requires { length t.now ≤ name_bytes }
     ensures { Put out.old
         (text_line (element_name t.now) (shown row.now) ++ 10 ∷ [])
         out.new }
 {
+    if out.is_full() {
+        count_text_row(out, t, row);
+        return;
+    }
     let name = element_of(t);
     out.put_byte(b'<');
     out.put_bytes(&name);
@@ -46,6 +54,25 @@ fn put_text_row(out: &mut Output, t: &[u8], row: &Row)
     out.put_bytes(b"</");
     out.put_bytes(&name);
     out.put_bytes(b">\n");
+}
+
+// The same behind the buffer's end: its element, stamp and constant texts are counted without being made, piece by
+// piece, so that no sum of lengths can wrap.
+fn count_text_row(out: &mut Output, t: &[u8], row: &Row)
+    requires name { length t.now ≤ name_bytes }
+    requires short { length out.now.bytes.now ≤ 2 ^ 63 }
+    requires full { length out.now.bytes.now ≤ out.now.at }
+    ensures { Put out.old
+        (text_line (element_name t.now) (shown row.now) ++ 10 ∷ [])
+        out.new }
+{
+    let n = element_length(t);
+    out.skip(TEXT_ROW_BYTES);
+    out.skip(n);
+    out.skip(n);
+    out.put_decimal(item_of(row.packed));
+    out.put_decimal(row.number);
+    put_value(out, decode(word_of(row.packed)));
 }
 
 // The element of a condition's value.
