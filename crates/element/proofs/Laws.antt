@@ -8,12 +8,12 @@ use native.Mathlib.Omega.{arith}
 use borrow.Author.Tests.{le-leb, lt-leb, leb-true, ltb-true, ltb-false}
 use lib.Dec.{leb, ltb, eqb}
 use mir.Val.{bool_byte}
-use lib.ListN.{length, get_or, drop}
+use lib.ListN.{length, get_or, drop, length-append}
 use lib.Seq.{drop-cons}
 use Rattle.spec.specs.Bytes.{digit, split, join_first}
 use Rattle.spec.specs.Model.{name_bytes}
 use Rattle.std.specs.Prelude.{Option, Some, None, MatchOption, find, not, ◌==◌}
-use Rattle.std.proofs.lemmas.List.{drop_all, length_push}
+use Rattle.std.proofs.lemmas.List.{drop_all, length_push, length-map}
 use Rattle.streams.specs.Streams.{upper, lower, capital, capitals, lettered, element_name}
 use Rattle.element.specs.Pascal.{bare, cased, pascal}
 
@@ -167,66 +167,59 @@ module _ {s : List ℕ} {i : ℕ} {begins : Bool} {name : List ℕ} (n : Named s
 
 -- ---- how many bytes a name has
 
--- it begins no matter how: capitals and small letters are as many
-pascal-length : (b c : Bool) (s : List ℕ) → length (pascal b s) ≡ length (pascal c s)
-unfolding pascal
-pascal-length b c [] = refl
-pascal-length b c (x ∷ s) = go (eqb x 95)
-  where
-    go : (t : Bool) → length (cond t (pascal true s) (cased b x ∷ pascal false s))
-        ≡ length (cond t (pascal true s) (cased c x ∷ pascal false s))
-    go true = refl
-    go false = refl
+-- a capital is as long as its word
+capital-length : (w : List ℕ) → length (capital w) ≡ length w
+capital-length [] = refl
+capital-length (x ∷ w) = ap suc (length-map w _)
 
--- i bytes of s are passed, n bytes counted
-pub record Counted (s : List ℕ) (i n : ℕ) : Type 0 where
-  pub inside : i ≤ length s
-  pub few : n + (length s - i) ≤ suc name_bytes
-  pub whole : length (element_name s) ≡ n + length (pascal true (drop i s))
+-- no byte of a name is written twice
+pascal-length : (s : List ℕ) (b : Bool) → length (pascal b s) ≤ length s
+unfolding pascal
+pascal-length [] b = omega arith
+pascal-length (x ∷ s) b = go (eqb x 95) (pascal-length s true) (pascal-length s false)
+  where
+    go : (t : Bool) → length (pascal true s) ≤ length s → length (pascal false s) ≤ length s
+        → length (cond t (pascal true s) (cased b x ∷ pascal false s)) ≤ suc (length s)
+    go true h k = omega arith
+    go false h k = omega arith
+
+-- n bytes are counted, and the words of `rest` are left; `few` is that nothing overflows
+pub record Counted (s : List ℕ) (rest : List (List ℕ)) (n : ℕ) : Type 0 where
+  pub few : length (element_name s) ≤ suc name_bytes
+  pub whole : length (element_name s) ≡ n + length (capitals rest)
 
 pub counted-none : (s : List ℕ) → length s ≤ name_bytes → {n : ℕ} → n ≡ bool_byte (bare (pascal true s))
-    → Counted s 0 n
+    → Counted s (split 95 s) n
 unfolding element_name
 counted-none s h {n} e = go (bare (pascal true s)) refl
   where
-    go : (t : Bool) → bare (pascal true s) ≡ t → Counted s 0 n
+    l : length (pascal true s) ≤ length s
+    l = pascal-length s true
+
+    go : (t : Bool) → bare (pascal true s) ≡ t → Counted s (split 95 s) n
     go true b =
         let k : n ≡ 1 = rw b at e in
         record {
-          inside = omega arith;
-          few = omega arith;
+          few = rw (pascal-is s, lettered-bare (pascal true s), b) (omega (arith, l));
           whole = rw (pascal-is s, lettered-bare (pascal true s), b, k) (omega arith);
         }
     go false b =
         let k : n ≡ 0 = rw b at e in
         record {
-          inside = omega arith;
-          few = omega arith;
+          few = rw (pascal-is s, lettered-bare (pascal true s), b) (omega (arith, l));
           whole = rw (pascal-is s, lettered-bare (pascal true s), b, k) (omega arith);
         }
 
-module _ {s : List ℕ} {i n : ℕ} (r : Counted s i n) where
-  pub counted-next : i < length s → {k : ℕ} → k ≡ bool_byte (not (get_or s i 0 == 95)) → Counted s (i + 1) (n + k)
-  unfolding pascal
-  counted-next h {k} e = go (eqb (get_or s i 0) 95) refl
-    where
-      go : (t : Bool) → eqb (get_or s i 0) 95 ≡ t → Counted s (i + 1) (n + k)
-      go true q =
-          let z : k ≡ 0 = rw q at e in
-          record {
-            inside = omega arith;
-            few = omega (arith, r.few);
-            whole = r.whole ∙ rw (drop-cons s i 0 h, q, add-one i, z) (omega arith);
-          }
-      go false q =
-          let z : k ≡ 1 = rw q at e in
-          let l = pascal-length false true (drop (suc i) s) in
-          record {
-            inside = omega arith;
-            few = omega (arith, r.few);
-            whole = r.whole ∙ rw (drop-cons s i 0 h, q, add-one i, z) (omega (arith, l));
-          }
+module _ {s : List ℕ} {rest : List (List ℕ)} {n : ℕ} (r : Counted s rest n) where
+  pub counted-next : {word : List ℕ} {more : List (List ℕ)} → rest ≡ word ∷ more
+      → Counted s more (n + length word)
+  unfolding capitals
+  counted-next {word} {more} q =
+      record {
+        few = r.few;
+        whole = r.whole ∙ rw (q, length-append (capital word) (capitals more), capital-length word) (omega arith);
+      }
 
-  pub counted-all : length s ≤ i → n ≡ length (element_name s)
-  unfolding pascal
-  counted-all h = sym (r.whole ∙ rw (drop_all i s h) (omega arith))
+  pub counted-all : rest ≡ [] → n ≡ length (element_name s)
+  unfolding capitals
+  counted-all q = sym (r.whole ∙ rw q (omega arith))

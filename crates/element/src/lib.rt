@@ -58,14 +58,15 @@ pub fn element_of(s: &[u8]) -> ArrayVec<u8, ELEMENT_BYTES>
     name
 }
 
-// How many bytes a row's element has: where they are only counted, none is made. '_' alone is not written.
+// How many bytes a row's element has: where they are only counted, none is made. By words: the compiler can't make
+// vectors, which would take constants, of a loop that is left in its middle.
 pub fn element_length(s: &[u8]) -> usize
     requires { length s.now ≤ name_bytes }
     ensures { result ≡ length (element_name s.now) }
 {
     let mut n = usize::from(is_bare(s));
-    for x in s {
-        n += usize::from(*x != b'_');
+    for word in s.split(|x| *x == b'_') {
+        n += word.len();
     }
     n
 }
