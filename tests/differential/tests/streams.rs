@@ -658,6 +658,38 @@ fn the_longest_documents() {
     }
 }
 
+/// Few and many rows, where the core finds a group's rows in another way, and texts that are too short, just long
+/// enough, a byte short of what any document may take, and as long as that.
+#[test]
+fn rows_and_rooms_at_their_bounds() {
+    let core = core();
+    let mut rng = Rng::new(settings::seed());
+    let mut model = vec![8, 64];
+    model.extend((0..8u32).map(|component| component.saturating_sub(1) * 256));
+    model.extend((0..64u32).map(|item| [0, 1, 2, 4][item as usize % 4] * 65_536 + item % 8 * 256 + 1));
+    let mut pair = Pair::over(&core, start(&model, &names(&["Device", "3D_x"]), [3, 1, 1], 1000));
+    for k in [100, 254, 255, 256, 257, 1000] {
+        let rows: Vec<Row> = (0..k)
+            .map(|number| {
+                let (item, low) = (rng.below(64), rng.below(3 << 24));
+                row(number, rng.below(LAST_TIME + 1), item, [1, 2, 3, 2][item as usize % 4], low)
+            })
+            .collect();
+        let words = reply([1, k, k + 1], &rows);
+        let mut document = |room: usize| {
+            let call = Call::Streams { reply: words.clone(), given: GIVEN, text: vec![UNWRITTEN; room] };
+            pair.call(&call).unwrap_or_else(|what| panic!("{k} rows, {room} bytes: {what}"))
+        };
+        let most = 495 + 189 * 8 + 154 * k as usize;
+        let Answer::Pair(0, bytes) = document(most) else {
+            panic!("{k} rows refused");
+        };
+        assert_eq!(document(most - 1), Answer::Pair(0, bytes));
+        assert_eq!(document(bytes as usize), Answer::Pair(0, bytes));
+        assert_eq!(document(bytes as usize - 1), Answer::Pair(15, 0));
+    }
+}
+
 /// As many rows as a ring has places, of every category, all read back.
 #[test]
 fn the_most_rows() {
