@@ -1,5 +1,5 @@
--- How long a document can be: of a checked model and a reply of its rows at most `streams_bytes` of the model's components
--- and the reply's rows, whatever the times and the header's numbers are.
+-- How long a document can be: of a checked model and a reply of its rows at most `streams_bytes` of the model's
+-- components and the reply's rows, whatever the times and the header's numbers are.
 use Prim.Native.Nat.{ℕ, zero, suc, ◌+◌, ◌*◌, ◌/◌, ◌%◌, ◌^◌, ◌≤◌, ◌<◌}
 use mathlib.Core.Path.{◌≡◌, refl, sym, ap, ◌∙◌}
 use mathlib.Core.Bool.{true, true≢false, and-eq-true_iff}

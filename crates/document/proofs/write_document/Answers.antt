@@ -12,7 +12,8 @@ write_fitting-requires c κs within =
     let o = part b.0 (⊑_static _) in
     let m = ⊑_meet _ _ _ within.0 (⊑_meet _ _ _ (⊑_meet _ _ _ o o) (⊑_meet _ _ _ o (⊑_static _))) in
     let all = ⊑_meet _ _ _ m (part d.0 (⊑_static _)) in
-    (⊑_meet _ _ _ all all, (search rules, (λ a b p. search rules, enough _ _ _ c.has_room.ensures.documented (sym c.has_room.ensures.value ∙ c.if-has_room.true))))
+    let room = enough _ _ _ c.has_room.ensures.documented (sym c.has_room.ensures.value ∙ c.if-has_room.true) in
+    (⊑_meet _ _ _ all all, (search rules, (λ a b p. search rules, room)))
 
 pub write_whole-requires : goal.write_whole-requires
 write_whole-requires c κs within =
