@@ -13,7 +13,8 @@ use lib.Seq.{drop-cons}
 use Rattle.spec.specs.Bytes.{digit, split, join_first}
 use Rattle.spec.specs.Model.{name_bytes}
 use Rattle.std.specs.Prelude.{Option, Some, None, MatchOption, find, not, ◌==◌}
-use Rattle.std.proofs.lemmas.List.{drop_all, length_push, length-map}
+use Rattle.std.proofs.lemmas.List.{drop_all, length_push}
+use Rattle.streams.proofs.Short.{capital-length, element-length}
 use Rattle.streams.specs.Streams.{upper, lower, capital, capitals, lettered, element_name}
 use Rattle.element.specs.Pascal.{bare, cased, pascal}
 
@@ -167,22 +168,6 @@ module _ {s : List ℕ} {i : ℕ} {begins : Bool} {name : List ℕ} (n : Named s
 
 -- ---- how many bytes a name has
 
--- a capital is as long as its word
-capital-length : (w : List ℕ) → length (capital w) ≡ length w
-capital-length [] = refl
-capital-length (x ∷ w) = ap suc (length-map w _)
-
--- no byte of a name is written twice
-pascal-length : (s : List ℕ) (b : Bool) → length (pascal b s) ≤ length s
-unfolding pascal
-pascal-length [] b = omega arith
-pascal-length (x ∷ s) b = go (eqb x 95) (pascal-length s true) (pascal-length s false)
-  where
-    go : (t : Bool) → length (pascal true s) ≤ length s → length (pascal false s) ≤ length s
-        → length (cond t (pascal true s) (cased b x ∷ pascal false s)) ≤ suc (length s)
-    go true h k = omega arith
-    go false h k = omega arith
-
 -- n bytes are counted, and the words of `rest` are left; `few` is that nothing overflows
 pub record Counted (s : List ℕ) (rest : List (List ℕ)) (n : ℕ) : Type 0 where
   pub few : length (element_name s) ≤ suc name_bytes
@@ -193,20 +178,20 @@ pub counted-none : (s : List ℕ) → length s ≤ name_bytes → {n : ℕ} → 
 unfolding element_name
 counted-none s h {n} e = go (bare (pascal true s)) refl
   where
-    l : length (pascal true s) ≤ length s
-    l = pascal-length s true
+    few : length (element_name s) ≤ suc name_bytes
+    few = omega (arith, element-length s)
 
     go : (t : Bool) → bare (pascal true s) ≡ t → Counted s (split 95 s) n
     go true b =
         let k : n ≡ 1 = rw b at e in
         record {
-          few = rw (pascal-is s, lettered-bare (pascal true s), b) (omega (arith, l));
+          few = few;
           whole = rw (pascal-is s, lettered-bare (pascal true s), b, k) (omega arith);
         }
     go false b =
         let k : n ≡ 0 = rw b at e in
         record {
-          few = rw (pascal-is s, lettered-bare (pascal true s), b) (omega (arith, l));
+          few = few;
           whole = rw (pascal-is s, lettered-bare (pascal true s), b, k) (omega arith);
         }
 

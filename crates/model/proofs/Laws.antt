@@ -1,11 +1,11 @@
 -- Laws of the model check over plain variables: each branch of a function is one of them.
 use Prim.Native.Nat.{ℕ, zero, suc, ◌+◌, ◌-◌, ◌≤◌}
 use mathlib.Core.Path.{◌≡◌, refl, ap, ◌∙◌}
-use mathlib.Core.Bool.{Bool, true, false, cond, ◌&&◌, not, false≢true}
+use mathlib.Core.Bool.{Bool, true, false, cond, ◌&&◌, not}
 use mathlib.Core.List.{List, [], ◌∷◌}
 use native.Mathlib.Numerals.{add-one}
 use native.Mathlib.Omega.{arith}
-use lib.Dec.{leb, ltb, eqb, eqb-suc-zero}
+use lib.Dec.{leb, ltb, eqb}
 use borrow.Author.Tests.{ltb-false, lt-ltb, le-ltb}
 use lib.ListN.{length, drop}
 use Rattle.std.specs.List.{position_or_len, list_all, find, range_with_len}
@@ -15,6 +15,7 @@ use Rattle.spec.specs.Found.{found_below}
 use Rattle.std.proofs.lemmas.List.Sums.{prefix_len-le-length}
 use Rattle.spec.specs.Words.{every, first_where, count_below}
 use Rattle.spec.specs.Bytes.{name_byte}
+use Rattle.names.proofs.CellLaws.{name-not-zero}
 use Rattle.spec.specs.Model.{letters, zeros, cell_ok}
 use Rattle.spec.specs.Model.{category_of, asset_change}
 use Rattle.spec.specs.Model.{components, items}
@@ -34,12 +35,6 @@ letters-is (x ∷ xs) = rw (← letters-is xs) (go (name_byte x))
         ≡ cond t (suc (position_or_len (λ x. not (name_byte x)) xs)) 0
     go true = omega arith
     go false = refl
-
--- a byte of a name is not 0
-name-not-zero : (x : ℕ) → name_byte x ≡ true → eqb x 0 ≡ false
-unfolding name_byte
-name-not-zero zero e = absurd (false≢true e)
-name-not-zero (suc x) e = eqb-suc-zero x
 
 -- where zeros alone stand behind the letters, the first of them ends them
 zeros-end : (s : List ℕ) → zeros (drop (letters s) s) ≡ true → position_or_len (λ x. eqb x 0) s ≡ letters s

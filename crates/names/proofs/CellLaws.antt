@@ -141,7 +141,7 @@ in_blocks n s z h =
 -- ---- bytes
 
 -- a byte of a name is not 0
-name-not-zero : (x : ℕ) → name_byte x ≡ true → eqb x 0 ≡ false
+pub name-not-zero : (x : ℕ) → name_byte x ≡ true → eqb x 0 ≡ false
 unfolding name_byte
 name-not-zero zero e = absurd (false≢true e)
 name-not-zero (suc x) e = eqb-suc-zero x

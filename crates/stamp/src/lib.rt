@@ -4,6 +4,7 @@
 ghost use Rattle.std.specs.Prelude.{◌≡◌, ◌+◌, ◌*◌, ◌/◌, ◌%◌, ◌<◌};
 ghost use Rattle.lines.specs.Stamps.{date_text, stamp_text};
 ghost use Rattle.writer.specs.Puts.{Put};
+ghost use Rattle.stamp.specs.Shown.{Shown};
 
 use calendar::date_of;
 use lines::Date;
@@ -50,12 +51,7 @@ fn ones(pair: u64) -> u8
 // a year the last four digits are. Its first two are no pair: of two beside each other the compiler makes vectors, with
 // constants in the archive.
 fn put_date(out: &mut Output, d: Date)
-    requires month { d.month < 100 }
-    requires day { d.day < 100 }
-    requires hour { d.hour < 100 }
-    requires minute { d.minute < 100 }
-    requires second { d.second < 100 }
-    requires milli { d.milli < 1000 }
+    requires { Shown d }
     ensures { Put out.old (date_text d) out.new }
 {
     let year = pair(d.year % 100);

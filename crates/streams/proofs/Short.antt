@@ -59,7 +59,7 @@ few j n h l = (decimal-spells j n h l).few
 pub name-length : (names : List ℕ) (k : ℕ) → length (name_text names k) ≤ name_bytes
 name-length names k = simp length-take (omega arith)
 
-capital-length : (s : List ℕ) → length (capital s) ≡ length s
+pub capital-length : (s : List ℕ) → length (capital s) ≡ length s
 capital-length [] = refl
 capital-length (x ∷ s) = ap suc (length-map s _)
 
@@ -82,7 +82,7 @@ lettered-length [] = omega arith
 lettered-length (x ∷ s) =
     by_cond (λ (l : List ℕ). length l ≤ suc (suc (length s))) (digit x) _ _ (λ e. omega arith) (λ e. omega arith)
 
-element-length : (type : List ℕ) → length (element_name type) ≤ suc (length type)
+pub element-length : (type : List ℕ) → length (element_name type) ≤ suc (length type)
 unfolding element_name
 element-length type = omega (arith, lettered-length (capitals (split 95 type)), capitals-length type)
 

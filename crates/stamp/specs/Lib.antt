@@ -1,0 +1,2 @@
+-- What the contracts of stamps cite.
+pub mod Shown
