@@ -412,21 +412,38 @@ pub struct Document {
     reply: Vec<u64>,
     pub rows: usize,
     pub bytes: usize,
+    pub room: Room,
+}
+
+/// The text that a document is given.
+#[derive(Clone, Copy, PartialEq)]
+pub enum Room {
+    /// As many bytes as the document has.
+    Exact,
+    /// As many as docs/HOST.md asks a host for, which are enough for any document of these components and rows.
+    ForAny,
 }
 
 /// A sample's rows without a count, and all that the ring holds.
 pub const FEW_ROWS: usize = 100;
 pub const MOST_ROWS: usize = 131_072;
 
-/// Bytes that are enough for any document, as docs/HOST.md has it: around all, for each component and each row.
+/// The most bytes of a document: around all, for each component and for each row.
 const AROUND: usize = 495;
 const A_COMPONENT: usize = 189;
 const A_ROW: usize = 154;
 
-/// The document of a sample of so many rows, and a stage with the room that a host is to give.
+/// The document of a sample of so many rows, and a stage with the room that it takes.
 pub fn document(stage: &Stage, rows: usize) -> (Document, Stage) {
-    let name = format!("streams, {} rows", thousands(rows as u64));
-    let mut document = Document { name, reply: stage.sampled(rows), rows, bytes: 0 };
+    let (document, stage) = document_with_room(stage, rows);
+    let stage = stage.with_room(document.bytes);
+    (Document { name: name(rows), room: Room::Exact, ..document }, stage)
+}
+
+/// The same with the room that a host is to give.
+pub fn document_with_room(stage: &Stage, rows: usize) -> (Document, Stage) {
+    let (name, reply) = (format!("{}, room for any", name(rows)), stage.sampled(rows));
+    let mut document = Document { name, reply, rows, bytes: 0, room: Room::ForAny };
     let components = stage.model[0] as usize;
     let mut stage = stage.with_room(AROUND + A_COMPONENT * components + A_ROW * rows);
     let [number, bytes] = document.run(&sides::reference(), &mut stage, 0);
@@ -436,11 +453,8 @@ pub fn document(stage: &Stage, rows: usize) -> (Document, Stage) {
     (document, stage)
 }
 
-/// The same with as many bytes as the document has.
-pub fn document_exactly(stage: &Stage, rows: usize) -> (Document, Stage) {
-    let (document, stage) = document(stage, rows);
-    let stage = stage.with_room(document.bytes);
-    (Document { name: format!("{}, no byte to spare", document.name), ..document }, stage)
+fn name(rows: usize) -> String {
+    format!("streams, {} rows", thousands(rows as u64))
 }
 
 impl Call for Document {

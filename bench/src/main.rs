@@ -93,7 +93,7 @@ fn calls_of_a_full_box(rounds: usize, wanted: &str) -> Vec<Row> {
     }
     for count in [calls::FEW_ROWS, calls::MOST_ROWS] {
         for (document, stage) in
-            [calls::document(&conditions, count), calls::document_exactly(&conditions, count)]
+            [calls::document(&conditions, count), calls::document_with_room(&conditions, count)]
         {
             rows.add(&document, &stage);
         }
@@ -123,7 +123,9 @@ fn lines_of_a_delivery(rounds: usize, wanted: &str) -> Vec<Scanned> {
 fn documents_by_rows(rounds: usize, wanted: &str) -> Vec<Documented> {
     let conditions = Stage::new(Shape::LARGEST).with_conditions();
     let rows = [calls::FEW_ROWS, 1000, 10_000, calls::MOST_ROWS];
-    let documents = rows.into_iter().map(|rows| calls::document(&conditions, rows));
+    let exact = rows.into_iter().map(|rows| calls::document(&conditions, rows));
+    let roomy = rows.into_iter().map(|rows| calls::document_with_room(&conditions, rows));
+    let documents = exact.chain(roomy);
     let wanted = documents.filter(|(document, _)| document.name().contains(wanted));
     wanted.map(|(document, stage)| row::measure_document(&document, &stage, rounds)).collect()
 }

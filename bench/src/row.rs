@@ -1,6 +1,6 @@
 //! A row: one call on both sides, compared, then timed.
 
-use crate::calls::{Answer, Call, Document, Scan};
+use crate::calls::{Answer, Call, Document, Room, Scan};
 use crate::clock;
 use crate::floor::{self, Floor};
 use crate::sides;
@@ -71,6 +71,7 @@ pub fn measure_scan(scan: &Scan, stage: &Stage, rounds: usize) -> Scanned {
 pub struct Documented {
     pub rows: usize,
     pub bytes: usize,
+    pub room: Room,
     pub core: f64,
     pub reference: f64,
     /// A copy of as many bytes.
@@ -90,8 +91,8 @@ pub fn measure_document(document: &Document, stage: &Stage, rounds: usize) -> Do
         }
     };
     let best = clock::best(&mut [&mut core_batch, &mut reference_batch, &mut copy_batch], rounds);
-    let Document { rows, bytes, .. } = *document;
-    Documented { rows, bytes, core: best[0], reference: best[1], copy: best[2] }
+    let Document { rows, bytes, room, .. } = *document;
+    Documented { rows, bytes, room, core: best[0], reference: best[1], copy: best[2] }
 }
 
 /// Both sides have to answer and write the same, and what the row's name says.

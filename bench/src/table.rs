@@ -1,6 +1,6 @@
 //! Tables in Markdown.
 
-use crate::calls;
+use crate::calls::{self, Room};
 use crate::row::{Documented, Row, Scanned};
 
 pub fn print_calls(rows: &[Row]) {
@@ -133,18 +133,20 @@ pub fn print_documents(documents: &[Documented]) {
     }
     println!("\nStreams documents by their rows, beside a copy of as many bytes:\n");
     println!(
-        "| rows | bytes | core ns | core ns a row | reference ns a row | core / reference | aim | \
+        "| rows | bytes | room | core ns | core ns a row | reference ns a row | core / reference | aim | \
          core MB a second | copy MB a second | core / copy |"
     );
-    println!("|---:|---:|---:|---:|---:|---:|---|---:|---:|---:|");
+    println!("|---:|---:|---|---:|---:|---:|---:|---|---:|---:|---:|");
     for document in documents {
+        let room = if document.room == Room::Exact { "exact" } else { "for any" };
         let row = |time: f64| nanoseconds(time / document.rows as f64);
         let megabytes = |time: f64| thousands((1000.0 * document.bytes as f64 / time).round() as u64);
         let most = if document.rows <= calls::FEW_ROWS { OF_REFERENCE } else { OF_REFERENCE_LONG };
         println!(
-            "| {} | {} | {} | {} | {} | {} | {} | {} | {} | {} |",
+            "| {} | {} | {} | {} | {} | {} | {} | {} | {} | {} | {} |",
             thousands(document.rows as u64),
             thousands(document.bytes as u64),
+            room,
             nanoseconds(document.core),
             row(document.core),
             row(document.reference),
