@@ -30,8 +30,19 @@ pub put_is : {o e : Output} {s t : List ℕ} → s ≡ t → Put o s e → Put o
 put_is {o} {e} q p = subst (λ (x : List ℕ). Put o x e) q p
 
 -- what lives for one borrowed part and for the rest lives for both
-pub part : {k l r : List ℕ} → k ⊑ l → k ⊑ r → k ⊑ (l ++ []) ++ r
+part : {k l r : List ℕ} → k ⊑ l → k ⊑ r → k ⊑ (l ++ []) ++ r
 part p q = ⊑_meet _ _ _ (⊑_meet _ _ _ p (⊑_static _)) q
+
+-- what a closure takes of the text, the document, which is borrowed for its model and its reply, and the header
+abbrev taken : List ℕ → List ℕ → List ℕ → List ℕ
+taken t d h = (t ++ ((((d ++ []) ++ []) ++ ((d ++ []) ++ [])) ++ (((d ++ []) ++ []) ++ []))) ++ ((h ++ []) ++ [])
+
+pub all-taken : {k t d h : List ℕ} → k ⊑ t → k ⊑ d → k ⊑ h → k ⊑ taken t d h ++ taken t d h
+all-taken {k} {t} {d} {h} p q r =
+    let o : k ⊑ (d ++ []) ++ [] = part q (⊑_static _) in
+    let m = ⊑_meet _ _ _ p (⊑_meet _ _ _ (⊑_meet _ _ _ o o) (⊑_meet _ _ _ o (⊑_static _))) in
+    let all : k ⊑ taken t d h = ⊑_meet _ _ _ m (part r (⊑_static _)) in
+    ⊑_meet _ _ _ all all
 
 -- ---- the header
 

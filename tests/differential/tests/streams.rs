@@ -658,24 +658,36 @@ fn the_longest_documents() {
     }
 }
 
+/// So many components, and 64 items of every category but asset changes, spread over them.
+fn mixed_model(components: u32) -> Vec<u32> {
+    let mut model = vec![components, 64];
+    model.extend((0..components).map(|component| component.saturating_sub(1) * 256));
+    model.extend(
+        (0..64u32).map(|item| [0, 1, 2, 4][item as usize % 4] * 65_536 + item % components * 256 + 1),
+    );
+    model
+}
+
+/// Rows of such a model's items, in a mixed order.
+fn mixed_rows(rng: &mut Rng, rows: u64) -> Vec<Row> {
+    let drawn = |number| {
+        let item = rng.below(64);
+        let low = rng.below(3 << 24);
+        row(number, rng.below(LAST_TIME + 1), item, [1, 2, 3, 2][item as usize % 4], low)
+    };
+    (0..rows).map(drawn).collect()
+}
+
 /// Few and many rows, where the core finds a group's rows in another way, and texts that are too short, just long
 /// enough, a byte short of what any document may take, and as long as that.
 #[test]
 fn rows_and_rooms_at_their_bounds() {
     let core = core();
     let mut rng = Rng::new(settings::seed());
-    let mut model = vec![8, 64];
-    model.extend((0..8u32).map(|component| component.saturating_sub(1) * 256));
-    model.extend((0..64u32).map(|item| [0, 1, 2, 4][item as usize % 4] * 65_536 + item % 8 * 256 + 1));
+    let model = mixed_model(8);
     let mut pair = Pair::over(&core, start(&model, &names(&["Device", "3D_x"]), [3, 1, 1], 1000));
     for k in [100, 254, 255, 256, 257, 1000] {
-        let rows: Vec<Row> = (0..k)
-            .map(|number| {
-                let (item, low) = (rng.below(64), rng.below(3 << 24));
-                row(number, rng.below(LAST_TIME + 1), item, [1, 2, 3, 2][item as usize % 4], low)
-            })
-            .collect();
-        let words = reply([1, k, k + 1], &rows);
+        let words = reply([1, k, k + 1], &mixed_rows(&mut rng, k));
         let mut document = |room: usize| {
             let call = Call::Streams { reply: words.clone(), given: GIVEN, text: vec![UNWRITTEN; room] };
             pair.call(&call).unwrap_or_else(|what| panic!("{k} rows, {room} bytes: {what}"))
@@ -695,18 +707,9 @@ fn rows_and_rooms_at_their_bounds() {
 fn the_most_rows() {
     let core = core();
     let mut rng = Rng::new(settings::seed());
-    let mut model = vec![64, 64];
-    model.extend((0..64u32).map(|component| component.saturating_sub(1) * 256));
-    model.extend((0..64u32).map(|item| [0, 1, 2, 4][item as usize % 4] * 65_536 + item * 256 + 1));
+    let model = mixed_model(64);
     let names = names(&["Device", "PATH_FEEDRATE"]);
-    let rows: Vec<Row> = (0..131_072)
-        .map(|number| {
-            let item = rng.below(64);
-            let low = rng.below(3 << 24);
-            row(number, rng.below(LAST_TIME + 1), item, [1, 2, 3, 2][item as usize % 4], low)
-        })
-        .collect();
-    let words = reply([1, 131_072, 131_073], &rows);
+    let words = reply([1, 131_072, 131_073], &mixed_rows(&mut rng, 131_072));
     let mut pair = Pair::over(&core, start(&model, &names, [3, 1, 1], 1000));
     let call = Call::Streams { reply: words.clone(), given: GIVEN, text: vec![UNWRITTEN; 20_197_679] };
     let Ok(Answer::Pair(0, bytes)) = pair.call(&call) else {
