@@ -30,7 +30,7 @@ module _ (q : List ℕ) where
 
   module _ (x : List ℕ) (t : pointwise eqb (take opening_bytes q) opening ≡ true)
       (e : x ≡ drop opening_bytes q) (l : length x + opening_bytes ≡ length q) where
-    opened : same (take opening_bytes q) opening ≡ true
+    pub opened : same (take opening_bytes q) opening ≡ true
     opened = sym (same-is _ _) ∙ t
 
     -- what closes it, where both are there
