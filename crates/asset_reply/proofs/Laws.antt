@@ -123,7 +123,7 @@ unfolding down_from
 length-down zero = refl
 length-down (suc n) = ap suc (length-down n)
 
-down-at : (n i : ℕ) → i < n → get_or (down_from n) i 0 ≡ n - 1 - i
+pub down-at : (n i : ℕ) → i < n → get_or (down_from n) i 0 ≡ n - 1 - i
 unfolding down_from
 down-at zero i h = absurd (omega arith)
 down-at (suc n) zero h = omega arith

@@ -213,14 +213,14 @@ module _ {cat : ℕ → ℕ} {m : ℕ} {st : List ℕ} {selection c i w t : ℕ}
   by_form : (b : Bool) → form_ok i 1 (eight st t w i) ≡ b → formed cat m st selection i ≡ b
   by_form b f = rw (s, eq-eqb (cat i) 2 e, ← eight_is st m i rows at) f
 
-  beyond-unformed : None ≡ filled i (eight st t w i) → None ≡ extra_in cat m st selection
+  pub beyond-unformed : None ≡ filled i (eight st t w i) → None ≡ extra_in cat m st selection
   beyond-unformed f = broken v h (by_form false (form-no i (eight st t w i) f))
 
   module _ {x : ℕ} (f : Some x ≡ filled i (eight st t w i)) where
-    beyond-empty : x ≡ 0 → None ≡ extra_in cat m st selection
+    pub beyond-empty : x ≡ 0 → None ≡ extra_in cat m st selection
     beyond-empty z = broken v h (by_form false (form-empty i (eight st t w i) f z))
 
-    beyond-more : (x ≡ 0 → ⊥) → Beyond cat m st selection (c + (x - 1)) (i + 1)
+    pub beyond-more : (x ≡ 0 → ⊥) → Beyond cat m st selection (c + (x - 1)) (i + 1)
     beyond-more z =
         let r = condition-rows st m i rows at cat e in
         next v h (by_form true (form-yes i (eight st t w i) f z)) (rw (s, r, form-used i (eight st t w i) f)) refl

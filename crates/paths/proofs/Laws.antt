@@ -11,7 +11,7 @@ use lib.Seq.{drop-drop}
 use Rattle.std.specs.Cmp.Lexicographic.{pointwise}
 use Rattle.std.specs.Option.{MatchOption}
 use Rattle.std.proofs.Common.{Bor}
-use Rattle.std.specs.Prelude.{Option, Some, None, option_map}
+use Rattle.std.specs.Prelude.{Option, Some, None, is_some, option_map}
 use Rattle.spec.specs.Bytes.{bytes, same, before}
 use Rattle.spec.specs.Path.{Form, subtree, typed, other_form, opening, closing, typed_form, form_behind, form_of}
 use Rattle.spec.specs.Path.{root_bytes, opening_bytes, closing_bytes, around_bytes}
@@ -28,10 +28,20 @@ module _ (q : List ℕ) where
       let z : same (take opening_bytes q) opening ≡ false = sym (same-is _ _) ∙ t in
       rw (z, and-false (leb around_bytes (length q)))
 
+  -- behind the opening, there is a type where the closing is there
+  module _ (h : around_bytes ≤ length q) where
+    some-by : (b : Bool) (y : List ℕ) → b ≡ is_some (cond b (Some y) None)
+    some-by true y = refl
+    some-by false y = refl
+
+    pub opened : same (take opening_bytes q) opening ≡ true → (b : Bool)
+        → b ≡ same (drop (length q - closing_bytes) q) closing → b ≡ is_some (item_type q)
+    opened t b eb = rw (le-leb around_bytes (length q) h, t, ← eb) (some-by b _)
+
   module _ (x : List ℕ) (t : pointwise eqb (take opening_bytes q) opening ≡ true)
       (e : x ≡ drop opening_bytes q) (l : length x + opening_bytes ≡ length q) where
-    opened : same (take opening_bytes q) opening ≡ true
-    opened = sym (same-is _ _) ∙ t
+    opens : same (take opening_bytes q) opening ≡ true
+    opens = sym (same-is _ _) ∙ t
 
     -- what closes it, where both are there
     last : around_bytes ≤ length q → drop (length x - closing_bytes) x ≡ drop (length q - closing_bytes) q
@@ -44,7 +54,7 @@ module _ (q : List ℕ) where
     unclosed true f n =
         let z : same (drop (length q - closing_bytes) q) closing ≡ false =
         ap (λ (r : List ℕ). same r closing) (sym (last (leb-true _ _ f))) ∙ sym (same-is _ _) ∙ n in
-        rw (f, opened, z)
+        rw (f, opens, z)
     unclosed false f n = rw f
 
     pub closed : (r : Option (Bor (List ℕ)))
@@ -58,7 +68,7 @@ module _ (q : List ℕ) where
         let z : same (drop (length q - closing_bytes) q) closing ≡ true =
         ap (λ (r : List ℕ). same r closing) (sym (last h)) ∙ sym (same-is _ _) ∙ g.0 in
         let m : length x - closing_bytes ≡ length q - around_bytes = omega arith in
-        rw (le-leb around_bytes (length q) h, opened, z, ← e, ← m, g.1)
+        rw (le-leb around_bytes (length q) h, opens, z, ← e, ← m, g.1)
 
 -- it is shorter than what follows T
 pub type-fits : (q y : List ℕ) → Some y ≡ item_type q → length y + around_bytes ≤ length q

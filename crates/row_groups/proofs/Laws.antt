@@ -130,6 +130,16 @@ module _ (model names : List ℕ) (c g : ℕ) where
         → Put o (kept_text model names c g (row_in r ∷ [])) o₁
     line-put f h b = rw (text-one (row_in r ∷ []) (row_in r) (kept-own model c g (row_in r) f h)) b
 
+  -- none, by the word of the row's item
+  module _ (r : List ℕ) {word : ℕ} (e : word ≡ item_word model (item_of (get_or r 2 0))) {o : Output} where
+    pub line-not-component : (component_of word ≡ c → ⊥) → length o.bytes.now ≤ stop
+        → Put o (kept_text model names c g (row_in r ∷ [])) o
+    line-not-component n h = line-none r (λ k l. n (rw e k)) h
+
+    pub line-not-group : component_of word ≡ c → (group_of (category_of word) ≡ g → ⊥) → length o.bytes.now ≤ stop
+        → Put o (kept_text model names c g (row_in r ∷ [])) o
+    line-not-group f n h = line-none r (λ k l. n (rw e l)) h
+
   -- a turn of the pass
   module _ (reply : List ℕ) {o : Output} where
     pub pass-none : length o.bytes.now ≤ stop

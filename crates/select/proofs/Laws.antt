@@ -131,7 +131,7 @@ module _ (model names t : List ℕ) (set : ℕ) (e : set ≡ under model names t
   type-unknown None z = rw (none z)
 
   module _ (z : eqb set 0 ≡ false) (q : ℕ) where
-    subtree-items : q ≡ set_of (chosen model names set None) (items model) → Some q ≡ by_names model names t None
+    pub subtree-items : q ≡ set_of (chosen model names set None) (items model) → Some q ≡ by_names model names t None
     unfolding select_subtree
     subtree-items eq =
         let g : q ≡ set_of (in_subtree model names t) (items model) = rw chosen-subtree at eq in

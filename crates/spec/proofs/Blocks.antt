@@ -140,6 +140,12 @@ flat-ext p v w zero s h = refl
 flat-ext p v w (suc n) s h =
     rw (h s (omega arith) (omega arith), flat-ext p v w n (suc s) (λ i l g. h i (omega arith) (omega arith)))
 
+-- one row each
+pub flat-single : (p : ℕ → Bool) (v : ℕ → List ℕ) (n s : ℕ) → flat_rows p (λ i. v i ∷ []) n s ≡ pick_rows p v n s
+unfolding flat_rows pick_rows
+flat-single p v zero s = refl
+flat-single p v (suc n) s = rw (flat-single p v n (suc s))
+
 -- where each has a row, there is one row for each and the extra ones
 pub flat-length : (p : ℕ → Bool) (v : ℕ → List (List ℕ)) (w : ℕ → List ℕ) (n s : ℕ)
     → ((i : ℕ) → s ≤ i → i < s + n → p i ≡ true → 1 ≤ length (v i))

@@ -87,6 +87,33 @@ pub nine-stays : (own : ℕ) (es : List (List ℕ)) (r : List ℕ) → 8 < lengt
 unfolding step
 nine-stays own es r h = rw (lt-ltb 8 (length es) h)
 
+length-entered : (own : ℕ) (r : List ℕ) (es : List (List ℕ)) → length (entered own r es) ≤ suc (length es)
+unfolding entered
+length-entered own r [] = omega arith
+length-entered own r (e ∷ es) =
+    by-test (active_as own (code_field (packed r)) (packed e)) (λ f. rw f (omega arith))
+    (λ f. rw f (omega (arith, length-entered own r es)))
+
+length-cleared : (own c : ℕ) (es : List (List ℕ)) → length (cleared own c es) ≤ length es
+unfolding cleared
+length-cleared own c [] = omega arith
+length-cleared own c (e ∷ es) =
+    by-test (active_as own c (packed e)) (λ f. rw f (omega arith)) (λ f. rw f (omega (arith, length-cleared own c es)))
+
+length-alone : (r : List ℕ) (es : List (List ℕ)) → length (or_alone r es) ≤ suc (length es)
+length-alone r [] = omega arith
+length-alone r (e ∷ es) = omega arith
+
+-- never ten
+pub step-nine : (own : ℕ) (es : List (List ℕ)) (r : List ℕ) → length es ≤ 9 → length (step own es r) ≤ 9
+step-nine own es r h =
+    step-cases (λ l. length l ≤ 9) own es r (λ e. h)
+    (λ l f g. omega (arith, length-entered own r es))
+    (λ l f.
+    omega
+    (arith, length-cleared own (code_field (packed r)) es, length-alone r (cleared own (code_field (packed r)) es)))
+    (omega arith)
+
 -- ---- a step's length, by the packed word alone
 
 module _ (own : ℕ) (r t : List ℕ) (q : packed r ≡ packed t) where

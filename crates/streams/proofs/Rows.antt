@@ -1,7 +1,7 @@
 -- A reply's rows, by index: how many there are, their words, and a test of all of them as a run of numbers.
 use Prim.Native.Nat.{ℕ, zero, suc, ◌+◌, ◌*◌, ◌<◌}
 use mathlib.Core.Path.{◌≡◌, refl, sym, ap, ◌∙◌}
-use mathlib.Core.Bool.{Bool, true}
+use mathlib.Core.Bool.{Bool, true, ◌&&◌, and_assoc, and-true}
 use mathlib.Core.List.{List, [], ◌∷◌, ◌++◌}
 use native.Mathlib.Omega.{arith}
 use lib.ListN.{length, get_or, take, drop}
@@ -85,3 +85,18 @@ pub all-at : (p : List ℕ → Bool) (reply : List ℕ) (i : ℕ) → all_rows p
     → p (row_at reply i) ≡ true
 all-at p reply i e h =
     every-at (λ j. p (row_at reply j)) (get_or reply 0 0) 0 i (sym (rows-every p reply) ∙ e) (omega arith) (omega arith)
+
+-- of a part of the rows
+pub all_append : (p : List ℕ → Bool) (rows more : List (List ℕ))
+    → all_rows p (rows ++ more) ≡ all_rows p rows && all_rows p more
+unfolding all_rows
+all_append p [] more = refl
+all_append p (r ∷ rows) more = rw (all_append p rows more) (sym (and_assoc (p r) (all_rows p rows) (all_rows p more)))
+
+pub all-suc : (p : List ℕ → Bool) (reply : List ℕ) (i : ℕ) → i < get_or reply 0 0
+    → all_rows p (take (suc i) (rows_of reply)) ≡ all_rows p (take i (rows_of reply)) && p (row_at reply i)
+unfolding all_rows
+all-suc p reply i h =
+    rw (rows-suc reply i h)
+    (all_append p (take i (rows_of reply)) (row_at reply i ∷ [])
+    ∙ ap (◌&&◌ (all_rows p (take i (rows_of reply)))) (and-true (p (row_at reply i))))
