@@ -2,7 +2,7 @@
 use Prim.Native.Nat.{ℕ, zero, suc, ◌+◌, ◌-◌, ◌*◌, ◌≤◌, ◌<◌}
 use mathlib.Core.Path.{◌≡◌, refl, sym, ap, ◌∙◌}
 use mathlib.Core.Bool.{Bool, true, false}
-use mathlib.Core.List.{List, [], ◌∷◌, ◌++◌}
+use mathlib.Core.List.{List, [], ◌∷◌, ◌++◌, append-nil}
 use native.Mathlib.Numerals.{add-one}
 use native.Mathlib.Omega.{arith}
 use lib.ListN.{length, get_or, set, take, drop, length-set, length-append, drop_of_length-le}
@@ -137,6 +137,10 @@ down-more xs (suc i) h = let q : suc i - 1 ≡ i = omega arith in rw q (append_s
 
 pub down-room : (xs : List ℕ) (i n : ℕ) → xs ++ down_from i ≡ down_from n → length xs + i ≡ n
 down-room xs i n e = omega (arith, ap length e, length-append xs (down_from i), length-down i, length-down n)
+
+pub all-listed : (xs : List ℕ) (i n : ℕ) → i ≡ 0 → xs ++ down_from i ≡ down_from n → xs ≡ down_from n
+unfolding down_from
+all-listed xs i n z e = sym (append-nil xs) ∙ (rw z at e)
 
 pub newest-cells : (bs : List ℕ) (u : ℕ) → u ≤ capacity bs → capacity bs ≤ max_assets → Cells bs (down_from u)
 newest-cells bs u h m =

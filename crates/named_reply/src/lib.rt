@@ -22,26 +22,9 @@ fn cell_of(assets: &Assets, id: &[u8]) -> Result<u64, Refusal>
     assets.find(id).ok_or(Refusal::AssetNotFound)
 }
 
-// The cells of the ids joined by ';', in their order, or refusal AssetNotFound by the first that isn't stored. No id is
-// empty, so a text has at most 128.
-fn find_all(assets: &Assets, ids: &[u8]) -> Result<ArrayVec<u64, ASSET_SLOTS>, Refusal>
-    requires ids_length { length ids.now ≤ longest_text }
-    requires ids_value { id_texts (split 59 ids.now) ≡ true }
-    ensures { MatchResult result
-        (λ found. FoundAll assets.now (split 59 ids.now) found.items)
-        (λ r. (r ≡ AssetNotFound) × NotAll assets.now (split 59 ids.now)) }
-{
-    let mut found = ArrayVec::new();
-    for id in ids.split(|x| *x == b';') {
-        let cell = cell_of(assets, id)?;
-        found.push(cell);
-    }
-    Ok(found)
-}
-
-// The reply of the assets whose ids the text has, joined by ';': refusal AssetNotFound by any of them, then Store by a
-// cell's length.
-// Its arrays stand on the stack for it alone.
+// The reply of the assets whose ids the text has, joined by ';': refusal AssetNotFound by the first that isn't stored,
+// then Store by a cell's length. No id is empty, so a text has at most 128. Its array stands on the stack for it alone,
+// and is filled here: as another function's result it was copied, and one asset took 1.5 times the instructions.
 #[inline(never)]
 pub fn reply_named(assets: &Assets, ids: &[u8], reply: &mut [u64]) -> Answer
     requires ids_length { length ids.now ≤ longest_text }
@@ -49,6 +32,10 @@ pub fn reply_named(assets: &Assets, ids: &[u8], reply: &mut [u64]) -> Answer
     ensures { let x = named_reply assets.now (split 59 ids.now) reply.old in
         (result ≡ x.answer) × (reply.new ≡ x.reply) }
 {
-    let found = find_all(assets, ids)?;
+    let mut found: ArrayVec<u64, ASSET_SLOTS> = ArrayVec::new();
+    for id in ids.split(|x| *x == b';') {
+        let cell = cell_of(assets, id)?;
+        found.push(cell);
+    }
     asset_reply::reply_cells(assets, &found, reply)
 }

@@ -4,7 +4,7 @@ use mathlib.Core.List.{List}
 use Rattle.spec.specs.Bytes.{split}
 use Rattle.std.proofs.lemmas.Iterator.{YieldsList}
 use Rattle.named_reply.proofs.Laws.{Finding}
-use Rattle.named_reply.proofs.find_all.Given as goal
+use Rattle.named_reply.proofs.reply_named.Given as goal
 
 abbrev pub invariant-loop-id : goal.invariant-loop-id
 invariant-loop-id l =
