@@ -1,10 +1,10 @@
 // The value of an adapter line, by its form and the category of its item.
 #![tactic(auto)]
 
-ghost use Rattle.std.specs.Prelude.{◌≡◌, ◌+◌, ◌*◌, false, unwrap_or, IfSome};
-ghost use Rattle.spec.specs.Value.{no_value};
+ghost use Rattle.std.specs.Prelude.{◌≡◌, ◌+◌, ◌*◌, false, cond, eqb, unwrap_or, IfSome};
+ghost use Rattle.spec.specs.Value.{no_value, decode};
 ghost use Rattle.spec.proofs.Packing.{Coded};
-ghost use Rattle.lines.specs.Lines.{sample_for, event_for, state_for, value_for};
+ghost use Rattle.lines.specs.Lines.{sample_for, event_for, state_for, value_for, value_read};
 
 use lines::Form;
 use spec::{Level, SAMPLE, Value};
@@ -59,4 +59,37 @@ pub fn value_for(category: u64, form: Form) -> Option<Value>
         Form::Decimal { .. } => None,
         Form::State(level, code) => state(level, code),
     }
+}
+
+// A word that no value has, so that no item takes it.
+const NO_WORD: u64 = 4 * value::KIND;
+
+// The same as a value's word, of a text's form where it has one; where there is no value, a word that no item takes.
+#[tactic(auto, using(crate::proofs::Laws::word_of, crate::proofs::Laws::no_word), unfolding(lines::specs::Lines::value_for))]
+pub fn word_for(category: u64, form: Option<Form>) -> u64
+    ensures { decode result ≡ value_read category form }
+{
+    let value = match form {
+        Some(form) => value_for(category, form),
+        None => None,
+    };
+    match value {
+        Some(value) => value::value_word(value),
+        None => NO_WORD,
+    }
+}
+
+// The word of a decimal by its parts, each as it stands: a sample counts the part of one that has no point too, which no
+// text reads to and no Form holds.
+#[tactic(auto, unfolding(lines::specs::Lines::value_for))]
+pub fn decimal_word(category: u64, minus: bool, point: bool, whole: u64, part: u64) -> u64
+    ensures { decode result ≡ cond (eqb category 0)
+        (sample_for minus (whole * 1000 + part)) (event_for minus point whole) }
+{
+    if category == SAMPLE || point {
+        let part = Some(part);
+        return word_for(category, Some(Form::Decimal { minus, whole, part }));
+    }
+    let part = None;
+    word_for(category, Some(Form::Decimal { minus, whole, part }))
 }
