@@ -1,16 +1,18 @@
 -- One law to each way out of observing an item.
-use Prim.Native.Nat.{ℕ, ◌≤◌, ◌<◌}
+use Prim.Native.Nat.{ℕ, ◌+◌, ◌*◌, ◌^◌, ◌≤◌, ◌<◌}
 use mathlib.Core.Path.{◌≡◌, refl, sym}
 use mathlib.Core.Bool.{Bool, true, false, cond}
 use mathlib.Core.List.{List}
+use native.Mathlib.Omega.{arith}
 use borrow.Author.Tests.{lt-ltb, le-ltb}
 use Rattle.spec.specs.Model.{items, category}
-use Rattle.spec.specs.Value.{takes, pack}
+use Rattle.spec.specs.Value.{takes, pack, decode}
 use Rattle.history.specs.Observations.{ring_size, latest_ok, repeats_at, crowded_at}
 use Rattle.history.specs.Calls.{not_observed, observe_item}
 use Rattle.spec.specs.declared.Value.{Value}
 use Rattle.spec.specs.declared.Refusal.TheVariants.{Item, Kind}
 use Rattle.spec.proofs.Words.{told, by-test}
+use Rattle.spec.proofs.Packing.{taken-coded, word_lt, word_back, decode-fits}
 use Rattle.spec.proofs.Found.{cond-none, then-some}
 use Rattle.std.specs.Prelude.{Some, None}
 use Rattle.std.specs.Bool.{then_some}
@@ -49,12 +51,31 @@ module _ (model st : List ℕ) (item time : ℕ) (v : Value) where
         (λ d. rw (a, b, d))))
         (λ a. rw a))
 
+-- ---- a word that an item takes
+
+module _ (k word : ℕ) {t : Bool} (e : t ≡ takes k (decode word)) (f : t ≡ true) where
+  pub word_fits : word < 2 ^ 40
+  word_fits =
+      let v = decode word in
+      omega (arith, word_back k word (told e f), word_lt v (taken-coded k v (told e f) (decode-fits word)))
+
+  pub word-packed : (item w : ℕ) → w ≡ item * 2 ^ 40 + word → w ≡ pack item (decode word)
+  word-packed item w g = rw (word_back k word (told e f)) g
+
 -- ---- a value by what is made of it
 
 module _ (k item : ℕ) (v : Value) where
   pub taken-is : {b : Bool} {w : ℕ} → b ≡ takes k v → w ≡ pack item v → then_some b w ≡ taken k item v
   unfolding taken
   taken-is e q = rw (e, q) (then-some (takes k v) (pack item v))
+
+  pub not_taken : takes k v ≡ false → None ≡ taken k item v
+  unfolding taken
+  not_taken f = rw f
+
+  pub taken_is : takes k v ≡ true → {w : ℕ} → w ≡ pack item v → Some w ≡ taken k item v
+  unfolding taken
+  taken_is f e = rw (f, e)
 
   pub taken-none : None ≡ taken k item v → takes k v ≡ false
   unfolding taken

@@ -151,3 +151,20 @@ pub fn decode(word: u64) -> Value
         _ => NO_VALUE,
     }
 }
+
+// Whether an item of the category takes the value of a word: takes of decode, by the word alone. A batch asks it of
+// each record, and a word that was taken apart would be packed again at once.
+pub fn takes_word(category: u64, word: u64) -> bool
+    ensures { result ≡ takes category (decode word) }
+{
+    let kind = word / KIND;
+    if category <= spec::EVENT {
+        // samples and events have their kinds in the order of their categories
+        return kind == category + SAMPLE_KIND || word == 0;
+    }
+    if category == spec::CONDITION {
+        let front = word / LEVEL;
+        return word == 0 || (NORMAL <= front && front <= FAULT);
+    }
+    category == spec::DISCRETE && (kind == EVENT_KIND || word == 0)
+}
