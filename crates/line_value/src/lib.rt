@@ -65,7 +65,7 @@ pub fn value_for(category: u64, form: Form) -> Option<Value>
 const NO_WORD: u64 = 4 * value::KIND;
 
 // The same as a value's word, of a text's form where it has one; where there is no value, a word that no item takes.
-#[tactic(auto, using(crate::proofs::Laws::word_of, crate::proofs::Laws::no_word), unfolding(lines::specs::Lines::value_for))]
+#[tactic(auto, using(crate::proofs::Laws::word_of, crate::proofs::Laws::no_word))]
 pub fn word_for(category: u64, form: Option<Form>) -> u64
     ensures { decode result ≡ value_read category form }
 {
@@ -79,8 +79,8 @@ pub fn word_for(category: u64, form: Option<Form>) -> u64
     }
 }
 
-// The word of a decimal by its parts, each as it stands: a sample counts the part of one that has no point too, which no
-// text reads to and no Form holds.
+// The word of a decimal by its parts, each as it stands: a sample counts the part of one that has no point too, which
+// no text reads to and no Form holds.
 #[tactic(auto, unfolding(lines::specs::Lines::value_for))]
 pub fn decimal_word(category: u64, minus: bool, point: bool, whole: u64, part: u64) -> u64
     ensures { decode result ≡ cond (eqb category 0)
