@@ -18,7 +18,7 @@ use Rattle.history.specs.Calls.{all_cells, cells_reply, find_all, named_reply}
 use Rattle.spec.specs.declared.Refusal.TheVariants.{AssetNotFound}
 use Rattle.spec.proofs.Words.{and_left, and_right}
 use Rattle.std.specs.List.{join_with_byte as join}
-use Rattle.named_reply.specs.Cells.{FoundAll}
+use Rattle.named_reply.specs.Cells.{FoundAll, NotAll}
 use Rattle.std.proofs.lemmas.List.{length-append, length_push}
 use Rattle.spec.proofs.Bytes.{join-split}
 
@@ -63,7 +63,7 @@ module _ {bs : List ℕ} {ids rest : List (List ℕ)} {cells : List ℕ} (w : Fi
   pub finding-room : length cells < max_assets
   finding-room = omega (arith, w.few, ap length cut)
 
-  pub finding-missing : used bs ≤ find bs id → all_cells (stored bs) (find_all bs ids) ≡ false
+  pub finding-missing : used bs ≤ find bs id → NotAll bs ids
   unfolding all_cells find_all
   finding-missing h = w.all ∙ rw (cut, le-ltb _ _ h)
 
@@ -98,8 +98,7 @@ finding-last {bs} {ids} {rest} {cells} w none = (
 -- ---- the assets named
 
 module _ (bs : List ℕ) (ids : List (List ℕ)) (reply : List ℕ) where
-  pub named-missing : all_cells (stored bs) (find_all bs ids) ≡ false
-      → named_reply bs ids reply ≡ refuse AssetNotFound reply
+  pub named-missing : NotAll bs ids → named_reply bs ids reply ≡ refuse AssetNotFound reply
   unfolding named_reply
   named-missing e = rw e
 

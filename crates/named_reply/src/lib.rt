@@ -1,13 +1,12 @@
 // The reply of the assets that a text names, in its order.
 #![tactic(auto)]
 
-ghost use Rattle.std.specs.Prelude.{◌≡◌, true, ◌<◌, ◌≤◌, List, ℕ, length, set, take, MatchResult};
+ghost use Rattle.std.specs.Prelude.{◌≡◌, true, ◌<◌, ◌≤◌, length, MatchResult};
 ghost use Rattle.spec.specs.Bytes.{split};
 ghost use Rattle.spec.specs.declared.Refusal.TheVariants.{AssetNotFound};
 ghost use Rattle.spec.specs.Text.{id_texts, longest_text};
 ghost use Rattle.spec.specs.Assets.{used, capacity, find};
 ghost use Rattle.history.specs.Calls.{named_reply};
-ghost use Rattle.named_reply.specs.Cells.{FoundAll, NotAll};
 
 use arrayvec::ArrayVec;
 use assets::Assets;
