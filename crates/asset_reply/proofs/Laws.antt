@@ -1,21 +1,24 @@
 -- Laws of asset replies: cells tested and written one by one, and the reply of them; all cells, newest first.
 use Prim.Native.Nat.{ℕ, zero, suc, ◌+◌, ◌-◌, ◌*◌, ◌≤◌, ◌<◌}
-use mathlib.Core.Path.{◌≡◌, refl, sym, ap, ◌∙◌}
-use mathlib.Core.Bool.{Bool, true, false}
-use mathlib.Core.List.{List, [], ◌∷◌, ◌++◌, append-nil}
+use mathlib.Core.Path.{◌≡◌, refl, sym, ap, ap₂, ◌∙◌}
+use mathlib.Core.Bool.{Bool, true, false, ◌&&◌}
+use mathlib.Core.List.{List, [], ◌∷◌, ◌++◌}
 use native.Mathlib.Numerals.{add-one}
 use native.Mathlib.Omega.{arith}
-use lib.ListN.{length, get_or, set, take, drop, length-set, length-append, drop_of_length-le}
-use Rattle.std.specs.List.{list_all}
+use lib.ListN.{length, get_or, set, take, drop, length-set, length-drop, drop_of_length-le}
+use Rattle.std.specs.List.{list_all, range_with_len}
+use Rattle.std.proofs.Math.Bool.{and_comm, and-true}
 use Rattle.std.proofs.lemmas.List.{get_or_default}
-use lib.Seq.{length-sets, sets-eq, sets, drop-cons, append_snoc}
-use Rattle.spec.specs.Assets.{max_assets, capacity, used, length_at, length_ok}
+use Rattle.std.proofs.lemmas.List.Folds.{list_all-append}
+use lib.Seq.{length-sets, sets-eq, sets, drop-cons}
+use Rattle.spec.specs.Assets.{capacity, used, length_at, length_ok}
 use Rattle.asset_reply.specs.Cells.{Cells}
-use Rattle.spec.specs.Reply.{refuse, numbers, lengths, written, asset_words, asset_reply}
+use Rattle.spec.specs.Reply.{Replied, refuse, numbers, lengths, written, asset_words, asset_reply}
 use Rattle.history.specs.Calls.{cell_rows, all_cells, cells_reply, down_from}
 use Rattle.spec.specs.declared.Refusal.TheVariants.{Store, Space}
 use Rattle.std.specs.Prelude.{Ok, Err}
 use Rattle.spec.proofs.Reply.{length-numbers, length-lengths}
+use Rattle.spec.proofs.Written.{sets-set}
 use Rattle.reply.specs.Fitted.{Fitted}
 use Rattle.reply.proofs.Laws.{short, whole}
 
@@ -82,6 +85,46 @@ module _ {bs cells o l : List ℕ} {k i : ℕ} (w : Writing bs cells k o l i) (m
   unfolding lengths cell_rows
   writing-end h = sym (w.all ∙ rw (drop_of_length-le cells {i = i} (omega arith)))
 
+-- two runs of words: what the first word of each leaves to store
+two-more : (l : List ℕ) (i q c x : ℕ) (C L : List ℕ) → suc i + length C ≤ q
+    → sets (sets l i (c ∷ C)) q (x ∷ L) ≡ sets (sets (set (set l i c) q x) (i + 1) C) (q + 1) L
+two-more l i q c x C L h =
+    rw (add-one i, add-one q) (ap (λ (y : List ℕ). sets y (suc q) L) (sym (sets-set C (set l i c) (suc i) q x h)))
+
+-- a turn of a loop that writes k cells from word 0 and their lengths from word k: l is what it has of o
+pub record Filling (bs cells : List ℕ) (k : ℕ) (o l : List ℕ) (i : ℕ) : Type 0 where
+  pub size : length l ≡ length o
+  pub all : sets (sets o 0 (numbers (cell_rows bs cells))) k (lengths (cell_rows bs cells))
+      ≡ sets (sets l i (numbers (cell_rows bs (drop i cells)))) (k + i) (lengths (cell_rows bs (drop i cells)))
+
+pub filling-none : (bs cells : List ℕ) (k : ℕ) (o : List ℕ) → Filling bs cells k o o 0
+filling-none bs cells k o = let z : k + 0 ≡ k = omega arith in record { size = refl; all = rw z refl }
+
+module _ {bs cells o l : List ℕ} {k i : ℕ} (w : Filling bs cells k o l i) (many : length cells ≡ k) where
+  pub filling_more : i < k → (c n : ℕ) → get_or cells i 0 ≡ c → n ≡ length_at bs c
+      → Filling bs cells k o (set (set l i c) (k + i) n) (i + 1)
+  unfolding numbers lengths cell_rows
+  filling_more h c n is e =
+      let more = cell_rows bs (drop (i + 1) cells) in
+      let z : k + (i + 1) ≡ k + i + 1 = omega arith in
+      record {
+        size = simp length-set w.size;
+        all =
+            w.all
+            ∙ rw (next-cell cells many i h is, ← e, z)
+            (two-more l i (k + i) c n (numbers more) (lengths more)
+            (omega (
+              arith,
+              length-numbers more,
+              length-rows bs (drop (i + 1) cells),
+              length-drop (i + 1) cells,
+            )));
+      }
+
+  pub filling-end : k ≤ i → l ≡ sets (sets o 0 (numbers (cell_rows bs cells))) k (lengths (cell_rows bs cells))
+  unfolding numbers lengths cell_rows
+  filling-end h = sym (w.all ∙ rw (drop_of_length-le cells {i = i} (omega arith)))
+
 -- ---- the reply of k cells whose lengths are right
 
 module _ (bs : List ℕ) {reply x : List ℕ} {k u a : ℕ} {t : Bool} (w : Fitted reply (2 * k) (k ∷ u ∷ a ∷ 0 ∷ []) t x)
@@ -129,22 +172,21 @@ down-at zero i h = absurd (omega arith)
 down-at (suc n) zero h = omega arith
 down-at (suc n) (suc i) h = omega (arith, down-at n i (omega arith))
 
--- one more is listed
-pub down-more : (xs : List ℕ) (i : ℕ) → 0 < i → (xs ++ (i - 1) ∷ []) ++ down_from (i - 1) ≡ xs ++ down_from i
-unfolding down_from
-down-more xs zero h = absurd (omega arith)
-down-more xs (suc i) h = let q : suc i - 1 ≡ i = omega arith in rw q (append_snoc xs i (down_from i))
+-- 0, .. u - 1, in the library's words, and u - 1, .. 0 have the same cells
+range-end : (a n b : ℕ) → a + n ≡ b → range_with_len a (suc n) ≡ range_with_len a n ++ b ∷ []
+range-end a zero b e = let q : a ≡ b = omega arith in ap (λ (x : ℕ). x ∷ []) q
+range-end a (suc n) b e = ap (λ (l : List ℕ). a ∷ l) (range-end (a + 1) n b (omega arith))
 
-pub down-room : (xs : List ℕ) (i n : ℕ) → xs ++ down_from i ≡ down_from n → length xs + i ≡ n
-down-room xs i n e = omega (arith, ap length e, length-append xs (down_from i), length-down i, length-down n)
+pub range-all : (p : ℕ → Bool) (n : ℕ) → list_all p (range_with_len 0 n) ≡ all_cells p (down_from n)
+unfolding all_cells down_from
+range-all p zero = refl
+range-all p (suc n) =
+    ap (list_all p) (range-end 0 n n (omega arith))
+    ∙ list_all-append p (range_with_len 0 n) (n ∷ [])
+    ∙ ap₂ (λ (a b : Bool). a && b) (range-all p n) (and-true (p n))
+    ∙ and_comm (all_cells p (down_from n)) (p n)
 
-pub all-listed : (xs : List ℕ) (i n : ℕ) → i ≡ 0 → xs ++ down_from i ≡ down_from n → xs ≡ down_from n
-unfolding down_from
-all-listed xs i n z e = sym (append-nil xs) ∙ (rw z at e)
-
-pub newest-cells : (bs : List ℕ) (u : ℕ) → u ≤ capacity bs → capacity bs ≤ max_assets → Cells bs (down_from u)
-newest-cells bs u h m =
-    record {
-      few = omega (arith, length-down u);
-      below = λ i l. let k : i < u = omega (arith, length-down u) in omega (arith, down-at u i k);
-    }
+-- all cells, where k is how many are used
+pub of-used : (bs reply : List ℕ) {k : ℕ} {o : Replied} → k ≡ used bs → cells_reply bs (down_from k) reply ≡ o
+    → cells_reply bs (down_from (used bs)) reply ≡ o
+of-used bs reply e h = sym (ap (λ (n : ℕ). cells_reply bs (down_from n) reply) e) ∙ h

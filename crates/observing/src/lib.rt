@@ -87,9 +87,7 @@ fn observe_with<F: FnOnce(u64) -> Option<u64>>(
     observe_taken(model, observations, item, time, word)
 }
 
-// An observation of an item by its value. Its code stands once for both its callers: joined into each it is 341 bytes
-// more of the archive, more than .ci/bounds allows, and an observe takes 3 to 5 of 100 instructions less.
-#[inline(never)]
+// An observation of an item by its value.
 pub fn observe_item(
     model: &Words<'_>,
     observations: &mut [u64],
